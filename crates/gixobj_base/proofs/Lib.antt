@@ -1,0 +1,2 @@
+mod EmptyObjects
+mod HexDigits
