@@ -1,2 +1,6 @@
+mod Digits
 mod EmptyObjects
+mod Headers
 mod HexDigits
+mod SizeTexts
+mod Splits

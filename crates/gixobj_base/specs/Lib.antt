@@ -1,6 +1,10 @@
+pub mod Decode
+pub mod Encode
 pub mod Hash
 pub mod Hasher
+pub mod HeaderError
 pub mod IdOrder
-pub mod Oid
 pub mod Kind
-pub mod Encode
+pub mod KindError
+pub mod Oid
+pub mod Parse

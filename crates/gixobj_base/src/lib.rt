@@ -1,7 +1,18 @@
-//! Ground floor.
+//! Git's objects as bytes, the ground floor: object ids, the kinds of objects, and the header of a
+//! loose object, read and written.
+//!
+//! A loose object is its header, `<kind> <size>` and a zero byte, and then its content. Its id is
+//! the SHA-1 or SHA-256 digest of all of that (`gitformat-loose`, "Loose object format").
 #![tactic(auto)]
 
+pub mod decode;
+mod digest;
+pub mod encode;
 pub mod hash;
+mod header;
 pub mod kind;
+pub mod parse;
 
+pub use digest::compute_hash;
+pub use header::Header;
 pub use kind::Kind;

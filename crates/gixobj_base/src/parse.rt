@@ -1,0 +1,14 @@
+//! Steps that the readers share.
+ghost use Rattle.std.specs.Prelude.{IfSome, IfNone};
+ghost use Rattle.gixobj_base.specs.Parse.{IsFree, SplitsAt};
+
+use bstr::ByteSlice;
+
+/// What stands before and after the first such byte, or none without one.
+pub fn split_at_byte(input: &[u8], byte: u8) -> Option<(&[u8], &[u8])>
+    ensures found { IfSome result (λ parts. SplitsAt byte input.now parts.0.now parts.1.now) }
+    ensures none { IfNone result (IsFree byte input.now) }
+{
+    let at = input.find_byte(byte)?;
+    Some((&input[..at], &input[at + 1..]))
+}
