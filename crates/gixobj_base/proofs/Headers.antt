@@ -4,10 +4,11 @@ use Rattle.std.proofs.Math.Seq.{take-append_seam}
 use Rattle.std.proofs.lemmas.List.{take-append-drop, length-take-le}
 use Rattle.std.proofs.lemmas.List.Elements.{All-cons, All-nil}
 use Rattle.bstr.specs.Owned.{bstring_bytes}
-use Rattle.gixobj_base.proofs.SizeTexts.{no_fault, size_text_free}
+use Rattle.gixobj_base.proofs.SizeTexts.{no_fault, size_text_free, written_size}
 use Rattle.gixobj_base.proofs.Splits.{free_by_test, free_of_cut, one_cut}
-use Rattle.std.specs.Prelude.{◌==◌, if◌then◌else◌}
+use Rattle.std.specs.Prelude.{◌^◌, ◌==◌, decimal, if◌then◌else◌}
 use Rattle.gixobj_base.specs.Decode.{HasFaultySize, HasLooseHeader, HasSizeFault, HasUnknownKind, IsLooseHeader, IsSizeText, LacksZero, RefusesHeader}
+use Rattle.gixobj_base.specs.Encode.{loose_header_text}
 use Rattle.gixobj_base.specs.Kind.{IsNoKindWord, kind_word}
 use Rattle.gixobj_base.specs.Parse.{IsFree, SplitsAt}
 use Rattle.gixobj_base.specs.declared.decode.LooseHeaderDecodeError.{LooseHeaderDecodeError}
@@ -110,3 +111,13 @@ not_refused input kind size used (ObjectHeader word.OutOfMemory) parts never = n
 not_refused input kind size used (ParseIntegerError fault message copy) parts faulty = good_size input kind size used (bstring_bytes copy) fault parts faulty
 not_refused input kind size used OutOfMemory parts (inl (text, unknown)) = known_kind input kind size used text parts unknown
 not_refused input kind size used OutOfMemory parts (inr faulty) = good_size input kind size used faulty.0 faulty.1 parts faulty.2
+
+pub written_header : (kind : Kind) (size : ℕ) (rest : List ℕ) → size < 2 ^ 64
+    → HasLooseHeader (loose_header_text kind size ++ rest) kind size (length (loose_header_text kind size))
+written_header kind size rest fits =
+    let text = loose_header_text kind size in
+    (omega (arith, length-append text rest), record {
+      size_text = decimal size;
+      joined = take-append_seam text rest;
+      reads = written_size size fits;
+    })

@@ -1,10 +1,13 @@
 -- Size texts: one value, no fault, and no zero byte.
-use Rattle.std.proofs.Common.{◌≡◌, ◌≢◌, ◌<◌, ℕ, Bool, true, false, cond, List, [], ◌∷◌, length, drop, arith, lit<, refl, ap, sym, ◌∙◌}
-use Rattle.std.proofs.lemmas.Bool.{eqb-true}
+use Rattle.std.proofs.Common.{◌≡◌, ◌≢◌, ◌<◌, ◌^◌, slice_index, ℕ, Bool, true, false, cond, List, [], ◌∷◌, length, drop, arith, lit<, refl, inl, inr, ap, sym, ◌∙◌}
+use Rattle.std.proofs.lemmas.Bool.{eqb-true, true≢false}
+use Rattle.std.proofs.lemmas.Bool.Decides.{eqb_tells}
+use Rattle.std.proofs.lemmas.Fmt.{decimal_is_IsNumeral}
+use Rattle.std.proofs.lemmas.Str.Parse.{digit_at}
 use Rattle.std.proofs.lemmas.List.Elements.{All-cons, All-nil}
 use Rattle.std.specs.Char.{digit_value}
-use Rattle.std.specs.Prelude.{◌==◌}
-use Rattle.std.specs.Str.Parse.{AllDigits}
+use Rattle.std.specs.Prelude.{◌==◌, decimal}
+use Rattle.std.specs.Str.Parse.{AllDigits, IsNumeral, starts_with_minus}
 use Rattle.gixobj_base.specs.Decode.{HasSizeFault, IsSizeText, size_digits}
 use Rattle.gixobj_base.specs.Parse.{IsFree}
 use Rattle.gixobj_base.specs.declared.decode.ParseIntegerErrorKind.{ParseIntegerErrorKind}
@@ -42,3 +45,25 @@ signed_free byte text false false minus plus digits = digits_free (byte ∷ text
 pub size_text_free : (text : List ℕ) (size : ℕ) → IsSizeText text size → IsFree 0 text
 size_text_free [] size reads = All-nil (λ it. it ≢ 0)
 size_text_free (byte ∷ text) size reads = signed_free byte text (byte == 45) (byte == 43) refl refl reads.digits.1
+
+unequal : (a b : ℕ) → a ≢ b → (a == b) ≡ false
+unequal a b other = elim (eqb_tells a b) [ | inl same ↦ absurd (other same.1) | inr not_same ↦ not_same.0 ]
+
+-- a text of digits alone has no sign
+unsigned_digits : (digits : List ℕ) → IsNumeral 10 digits → (starts_with_minus digits ≡ false) × (size_digits digits ≡ digits)
+unsigned_digits digits numeral =
+    let range = digit_at digits 0 numeral.1 numeral.0 in
+    let no_minus : starts_with_minus digits ≡ false = unequal (slice_index digits 0) 45 (omega arith) in
+    let no_plus : (slice_index digits 0 == 43) ≡ false = unequal (slice_index digits 0) 43 (omega arith) in
+    (no_minus, rw (no_minus, no_plus) refl)
+
+pub written_size : (size : ℕ) → size < 2 ^ 64 → IsSizeText (decimal size) size
+written_size size fits =
+    let written = decimal_is_IsNumeral size fits in
+    let unsigned = unsigned_digits (decimal size) written.0 in
+    record {
+      digits = rw unsigned.1 written.0;
+      value = rw unsigned.1 (sym written.1);
+      fits = fits;
+      minus = λ minus. absurd (true≢false (sym minus ∙ unsigned.0));
+    }

@@ -1,5 +1,6 @@
 -- Object ids: digests of SHA-1 or SHA-256 (FIPS 180-4), their bytes and their hex text.
-use Rattle.std.specs.Prelude.{◌≡◌, ℕ, List, [], ◌++◌, ◌*◌, ◌⊎◌, ◌||◌, ◌==◌, ◌<◌, Bool, Ok, All, length, replicate}
+use Rattle.std.specs.Prelude.{◌≡◌, ℕ, List, [], ◌++◌, ◌*◌, ◌⊎◌, ◌||◌, ◌&&◌, ◌==◌, ◌<◌, nat_le, Bool, Ok, All, length, replicate}
+use Rattle.std.specs.Char.{is_ascii_digit}
 use Rattle.std.specs.List.{AllPass}
 use Rattle.sha1.specs.Sha1.{sha1}
 use Rattle.sha2.specs.Sha256.{sha256}
@@ -59,6 +60,10 @@ IsNull it = All (λ byte. byte ≡ 0) (id_bytes it)
 -- the hex text of an id as it is written, in lower case
 abbrev pub hex_text : ObjectId → List ℕ
 hex_text it = encode_lower (id_bytes it)
+
+-- a hex digit, but for those in upper case
+abbrev pub is_lower_hex_digit : ℕ → Bool
+is_lower_hex_digit byte = is_ascii_digit byte || (nat_le 97 byte && nat_le byte 102)
 
 -- a text of as many hex digits, of either case, as an id has
 abbrev pub IsHexOfAnId : List ℕ → Type 0

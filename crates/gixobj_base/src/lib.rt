@@ -11,6 +11,7 @@ pub mod encode;
 pub mod hash;
 mod header;
 pub mod kind;
+pub mod laws;
 pub mod parse;
 
 pub use digest::compute_hash;

@@ -1,0 +1,29 @@
+//! Laws that tie the readers to the writers. Each function does nothing: its contract is the law.
+ghost use Rattle.std.specs.Prelude.{◌≡◌, ◌<◌, ◌^◌, ◌++◌, ℕ, List, length};
+ghost use Rattle.std.specs.List.{AllPass};
+ghost use Rattle.gixobj_base.specs.Decode.{HasLooseHeader};
+ghost use Rattle.gixobj_base.specs.Encode.{loose_header_text};
+ghost use Rattle.gixobj_base.specs.Hash.{IsHexOfAnId, IsId, Spells, hex_text, is_lower_hex_digit};
+ghost use Rattle.gixobj_base.specs.declared.hash.object_id.ObjectId.{ObjectId};
+ghost use Rattle.gixobj_base.specs.declared.kind.Kind.{Kind};
+
+/// The loose header that is written is the one that is read, whatever follows it.
+pub fn loose_header_reads_back()
+    ensures { (kind : Kind) (size : ℕ) (rest : List ℕ) → size < 2 ^ 64 →
+        HasLooseHeader (loose_header_text kind size ++ rest) kind size (length (loose_header_text kind size)) }
+{
+}
+
+/// The hex text that is written is in lower case, and `from_hex` reads the same id from it.
+pub fn hex_reads_back()
+    ensures lower_case { (id : ObjectId) → IsId id → AllPass is_lower_hex_digit (hex_text id) }
+    ensures read { (id : ObjectId) → IsId id → IsHexOfAnId (hex_text id) }
+    ensures same_id { (id : ObjectId) → IsId id → Spells (hex_text id) id }
+{
+}
+
+/// A hex text in lower case that was read is written back as it was.
+pub fn hex_writes_back()
+    ensures { (text : List ℕ) (id : ObjectId) → AllPass is_lower_hex_digit text → Spells text id → hex_text id ≡ text }
+{
+}
