@@ -115,9 +115,11 @@ not_refused input kind size used OutOfMemory parts (inr faulty) = good_size inpu
 pub written_header : (kind : Kind) (size : ℕ) (rest : List ℕ) → size < 2 ^ 64
     → HasLooseHeader (loose_header_text kind size ++ rest) kind size (length (loose_header_text kind size))
 written_header kind size rest fits =
-    let text = loose_header_text kind size in
-    (omega (arith, length-append text rest), record {
-      size_text = decimal size;
-      joined = take-append_seam text rest;
-      reads = written_size size fits;
-    })
+    let text = loose_header_text kind size in (
+      omega (arith, length-append text rest),
+      record {
+        size_text = decimal size;
+        joined = take-append_seam text rest;
+        reads = written_size size fits;
+      },
+    )

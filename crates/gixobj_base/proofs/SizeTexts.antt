@@ -47,7 +47,7 @@ size_text_free [] size reads = All-nil (λ it. it ≢ 0)
 size_text_free (byte ∷ text) size reads = signed_free byte text (byte == 45) (byte == 43) refl refl reads.digits.1
 
 unequal : (a b : ℕ) → a ≢ b → (a == b) ≡ false
-unequal a b other = elim (eqb_tells a b) [ | inl same ↦ absurd (other same.1) | inr not_same ↦ not_same.0 ]
+unequal a b other = elim (eqb_tells a b) [ inl same ↦ absurd (other same.1) | inr not_same ↦ not_same.0 ]
 
 -- a text of digits alone has no sign
 unsigned_digits : (digits : List ℕ) → IsNumeral 10 digits → (starts_with_minus digits ≡ false) × (size_digits digits ≡ digits)

@@ -5,6 +5,9 @@ ghost use Rattle.std.specs.Str.Parse.{AllDigits, IsNumeral, digits_value, starts
 ghost use Rattle.gixobj_base.specs.declared.kind.Kind.{Kind};
 ghost use Rattle.gixobj_base.specs.Decode.{HasLooseHeader, HasSizeFault, IsSizeText, RefusesHeader, RefusesSize, size_digits};
 
+#[cfg(test)]
+mod tests;
+
 use crate::parse::split_at_byte;
 use crate::{Kind, kind};
 use bstr::BString;

@@ -4,6 +4,9 @@ ghost use Rattle.gixobj_base.specs.Encode.{loose_header_text};
 ghost use Rattle.gixobj_base.specs.Hash.{id_of};
 ghost use Rattle.gixobj_base.specs.Hasher.{Holds};
 
+#[cfg(test)]
+mod tests;
+
 use crate::hash::{Hasher, ObjectId};
 use crate::{Kind, hash};
 use itoa::Buffer;

@@ -4,6 +4,8 @@ mod borrowed;
 mod hasher;
 mod kind;
 mod object_id;
+#[cfg(test)]
+mod tests;
 pub mod verify;
 
 pub use borrowed::oid;

@@ -3,6 +3,9 @@ ghost use Rattle.std.specs.Prelude.{◌≡◌, ◌↔◌, ◌≤◌, IsTrue, IfO
 ghost use Rattle.gixobj_base.specs.declared.kind.Kind.{Kind};
 ghost use Rattle.gixobj_base.specs.Kind.{kind_word};
 
+#[cfg(test)]
+mod tests;
+
 use bstr::BString;
 use std::alloc::{AllocError, Global};
 use std::fmt;

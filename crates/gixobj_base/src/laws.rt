@@ -11,19 +11,16 @@ ghost use Rattle.gixobj_base.specs.declared.kind.Kind.{Kind};
 pub fn loose_header_reads_back()
     ensures { (kind : Kind) (size : ℕ) (rest : List ℕ) → size < 2 ^ 64 →
         HasLooseHeader (loose_header_text kind size ++ rest) kind size (length (loose_header_text kind size)) }
-{
-}
+{}
 
 /// The hex text that is written is in lower case, and `from_hex` reads the same id from it.
 pub fn hex_reads_back()
     ensures lower_case { (id : ObjectId) → IsId id → AllPass is_lower_hex_digit (hex_text id) }
     ensures read { (id : ObjectId) → IsId id → IsHexOfAnId (hex_text id) }
     ensures same_id { (id : ObjectId) → IsId id → Spells (hex_text id) id }
-{
-}
+{}
 
 /// A hex text in lower case that was read is written back as it was.
 pub fn hex_writes_back()
     ensures { (text : List ℕ) (id : ObjectId) → AllPass is_lower_hex_digit text → Spells text id → hex_text id ≡ text }
-{
-}
+{}

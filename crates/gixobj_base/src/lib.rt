@@ -13,6 +13,7 @@ mod header;
 pub mod kind;
 pub mod laws;
 pub mod parse;
+pub mod streams;
 
 pub use digest::compute_hash;
 pub use header::Header;

@@ -2,6 +2,9 @@
 ghost use Rattle.std.specs.Prelude.{IfSome, IfNone};
 ghost use Rattle.gixobj_base.specs.Parse.{IsFree, SplitsAt};
 
+#[cfg(test)]
+mod tests;
+
 use bstr::ByteSlice;
 
 /// What stands before and after the first such byte, or none without one.
