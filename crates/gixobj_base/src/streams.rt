@@ -4,7 +4,7 @@
 //! Over a [`Source`] and a [`Sink`] it says that a slice is always read, and that a `Vec` refuses
 //! bytes only where it has no room for them. [`FromRead`] and [`ToWrite`] make one of any reader or
 //! writer, which may then fail at every call.
-ghost use Rattle.std.specs.Prelude.{◌<◌, ◌+◌, ℕ, List, Option, Some, length, OnOk, OnErr, vec_len, vec_capacity, ⊤};
+ghost use Rattle.std.specs.Prelude.{◌≡◌, ◌<◌, ◌+◌, ℕ, List, Option, Some, length, OnOk, OnErr, vec_len, vec_capacity, ⊤};
 ghost use Rattle.std.specs.Io.{ReadsAtMost};
 ghost use Rattle.std.specs.Io.KnownBytes.{Appends, ReadConsumes};
 
@@ -22,13 +22,17 @@ pub trait Source {
     /// Whether a call may fail.
     ghost may_fail: { Self → Type 0 };
 
+    /// Which loan it holds, where it borrows what it reads: no call puts another in its place.
+    ghost loan: { Self → ℕ };
+
     /// Reads some of the bytes that are left into the front of the buffer, and answers how many.
     /// None only at the end, or where the buffer has no room.
     fn read_some(&mut self, buffer: &mut [u8]) -> io::Result<usize>
         ensures bound { ReadsAtMost result buffer.new }
         ensures bytes { ReadConsumes (rest self.old) (rest self.new) result buffer.new }
         ensures err { OnErr result (may_fail self.old) }
-        ensures lasting { may_fail self.new → may_fail self.old };
+        ensures lasting { may_fail self.new → may_fail self.old }
+        ensures same_loan { loan self.new ≡ loan self.old };
 }
 
 /// A slice is always read.
@@ -37,6 +41,8 @@ impl Source for &[u8] {
 
     ghost may_fail = { λ _. ⊥ };
 
+    ghost loan = { λ _. 0 };
+
     fn read_some(&mut self, buffer: &mut [u8]) -> io::Result<usize> {
         self.read(buffer)
     }
@@ -44,12 +50,14 @@ impl Source for &[u8] {
 
 /// Any reader as a source that may always fail. A read that was interrupted is tried again.
 #[derive(Drop)]
-pub struct FromRead<R>(pub R);
+pub struct FromRead<'a, R>(pub &'a mut R);
 
-impl<R: Read> Source for FromRead<R> {
-    ghost rest = { λ s. R.remaining s.0 };
+impl<R: Read> Source for FromRead<'_, R> {
+    ghost rest = { λ s. R.remaining s.0.now };
 
     ghost may_fail = { λ _. ⊤ };
+
+    ghost loan = { λ s. s.0.ghost_name };
 
     fn read_some(&mut self, buffer: &mut [u8]) -> io::Result<usize> {
         for _ in 0..u64::MAX {
@@ -70,10 +78,14 @@ pub trait Sink {
     /// Whether it may refuse these bytes.
     ghost may_refuse: { Self → List ℕ → Type 0 };
 
+    /// Which loan it holds, where it borrows what it writes to: no call puts another in its place.
+    ghost loan: { Self → ℕ };
+
     /// Puts all the bytes at the end.
     fn put(&mut self, bytes: &[u8]) -> io::Result<()>
         ensures ok { OnOk result (Appends (held self.old) (held self.new) bytes.now) }
-        ensures err { OnErr result (may_refuse self.old bytes.now) };
+        ensures err { OnErr result (may_refuse self.old bytes.now) }
+        ensures same_loan { loan self.new ≡ loan self.old };
 }
 
 /// A `Vec` refuses bytes only where it would have to grow.
@@ -81,6 +93,8 @@ impl Sink for Vec<u8> {
     ghost held = { λ v. Some v.items };
 
     ghost may_refuse = { λ v bytes. vec_capacity v < vec_len v + length bytes };
+
+    ghost loan = { λ _. 0 };
 
     fn put(&mut self, bytes: &[u8]) -> io::Result<()> {
         self.extend_from_slice(bytes)?;
@@ -90,12 +104,14 @@ impl Sink for Vec<u8> {
 
 /// Any writer as a sink that may refuse everything.
 #[derive(Drop)]
-pub struct ToWrite<W>(pub W);
+pub struct ToWrite<'a, W>(pub &'a mut W);
 
-impl<W: Write> Sink for ToWrite<W> {
-    ghost held = { λ s. W.contents s.0 };
+impl<W: Write> Sink for ToWrite<'_, W> {
+    ghost held = { λ s. W.contents s.0.now };
 
     ghost may_refuse = { λ _ _. ⊤ };
+
+    ghost loan = { λ s. s.0.ghost_name };
 
     fn put(&mut self, bytes: &[u8]) -> io::Result<()> {
         self.0.write_all(bytes)

@@ -9,14 +9,12 @@ fn slices_and_vectors(rt: HostRuntime) -> Result<(), Fail> {
     let mut chunk = [0u8; 2];
     assert_eq!(rt; slice.read_some(&mut chunk)?, 2);
     assert_eq!(rt; chunk.as_slice(), b"ab".as_slice());
-    let mut reader = FromRead(slice);
+    let mut reader = FromRead(&mut slice);
     assert_eq!(rt; reader.read_some(&mut chunk)?, 1);
     assert_eq!(rt; reader.read_some(&mut chunk)?, 0);
     let mut held = Vec::new(rt.alloc());
     held.put(b"ab")?;
-    let mut writer = ToWrite(held);
-    writer.put(b"c")?;
-    let ToWrite(held) = writer;
+    ToWrite(&mut held).put(b"c")?;
     assert_eq!(rt; held.as_slice(), b"abc".as_slice());
     Ok(())
 }

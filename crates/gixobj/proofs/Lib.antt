@@ -1,0 +1,2 @@
+mod FewItems
+mod Refused

@@ -1,0 +1,26 @@
+-- What the program says where it gives no answer.
+use Rattle.std.specs.Prelude.{ℕ, List, [], ◌∷◌, ◌++◌, codes}
+use Rattle.gixobj.specs.declared.refusal.Refusal.{Refusal}
+use Rattle.gixobj.specs.declared.refusal.Refusal.TheVariants.{Usage, InputFailed, OutputFailed, OutOfMemory, BadHeader, ShortData}
+
+-- a text and a newline
+abbrev pub line : List ℕ → List ℕ
+line text = text ++ 10 ∷ []
+
+-- the line for standard error
+abbrev pub line_of : Refusal → List ℕ
+line_of Usage = line (codes "usage: gixobj show|tree|edit [sha256]")
+line_of InputFailed = line (codes "gixobj: input failed")
+line_of OutputFailed = line (codes "gixobj: output failed")
+line_of OutOfMemory = line (codes "gixobj: out of memory")
+line_of BadHeader = line (codes "gixobj: bad header")
+line_of ShortData = line (codes "gixobj: short data")
+
+-- the exit status
+abbrev pub status_of : Refusal → ℕ
+status_of Usage = 2
+status_of InputFailed = 1
+status_of OutputFailed = 1
+status_of OutOfMemory = 1
+status_of BadHeader = 1
+status_of ShortData = 1
