@@ -6,6 +6,9 @@ ghost use Rattle.gixobj.specs.Engine.{Answered, Refuses, Told};
 ghost use Rattle.gixobj.specs.Refusal.{line_of, status_of};
 ghost use Rattle.gixobj.specs.declared.refusal.Refusal.{Refusal};
 
+#[cfg(test)]
+mod tests;
+
 use crate::input::read_all;
 use crate::refusal::Refusal;
 use crate::show::show;

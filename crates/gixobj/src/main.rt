@@ -1,4 +1,5 @@
-//! `gixobj show`
+//! `gixobj show [sha256]`: tells what a loose object is, from its uncompressed bytes on standard
+//! input, as `<kind> <size> <id>`.
 #![tactic(auto)]
 
 mod engine;
@@ -7,4 +8,21 @@ mod refusal;
 mod show;
 mod words;
 
-fn main() {}
+use engine::{engine, tell};
+use gixobj_base::streams::ToWrite;
+use std::process::ExitCode;
+use words::words_of_process;
+
+fn main(rt: HostRuntime) -> ExitCode {
+    let mut errors = rt.stderr();
+    ExitCode::from(match words_of_process(&rt) {
+        Ok(words) => engine(
+            rt.alloc(),
+            words.as_slice(),
+            &mut rt.reader(),
+            &mut rt.stdout(),
+            &mut errors,
+        ),
+        Err(refusal) => tell(refusal, &mut ToWrite(&mut errors)),
+    })
+}

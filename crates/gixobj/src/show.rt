@@ -2,6 +2,9 @@
 ghost use Rattle.std.specs.Prelude.{◌≡◌, IfOk, IfErr};
 ghost use Rattle.gixobj.specs.Show.{IsObject, RefusesObject, show_line};
 
+#[cfg(test)]
+mod tests;
+
 use crate::refusal::Refusal;
 use gixobj_base::decode::{LooseHeaderDecodeError, loose_header};
 use gixobj_base::hash::ObjectId;
@@ -54,9 +57,11 @@ impl Shown {
         let mut line = SmallVec::new(alloc);
         line.extend_from_slice(self.kind.as_bytes()).unwrap();
         line.push_reserved(b' ');
-        line.extend_from_slice(digits.format(self.size).as_bytes()).unwrap();
+        line.extend_from_slice(digits.format(self.size).as_bytes())
+            .unwrap();
         line.push_reserved(b' ');
-        line.extend_from_slice(self.id.hex_to_buf(&mut hex).as_bytes()).unwrap();
+        line.extend_from_slice(self.id.hex_to_buf(&mut hex).as_bytes())
+            .unwrap();
         line.push_reserved(b'\n');
         line
     }

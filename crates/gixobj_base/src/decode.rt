@@ -14,7 +14,7 @@ use bstr::BString;
 use std::alloc::{AllocError, Global};
 
 /// The refusal of a reader of objects.
-#[derive(Debug, Drop, thiserror::Error)]
+#[derive(Clone, Debug, Drop, thiserror::Error)]
 pub enum Error {
     /// The bytes are no object of the kind.
     #[error("malformed object")]
@@ -49,7 +49,7 @@ pub enum LooseHeaderDecodeError {
     ParseIntegerError {
         /// What is wrong with the text.
         source: ParseIntegerErrorKind,
-        /// What was read.
+        /// What the text was read as.
         message: &'static str,
         /// The size text.
         number: BString,

@@ -24,7 +24,7 @@ pub enum Kind {
 }
 
 /// The refusal of [`Kind::from_bytes`].
-#[derive(Debug, Drop, thiserror::Error)]
+#[derive(Clone, Debug, Drop, thiserror::Error)]
 pub enum Error {
     /// The bytes are no kind's word. They are handed back.
     #[error("unknown object kind {kind:?}")]

@@ -1,0 +1,237 @@
+//! Whole runs of the program, over readers and writers of memory that may fail.
+
+use super::{engine, run};
+use std::alloc::{AllocError, Global};
+use std::io;
+use std::io::{ErrorKind, Read, Write};
+use std::test::Fail;
+
+const USAGE: &str = "usage: gixobj show|tree|edit [sha256]\n";
+
+/// A reader that gives at most `step` bytes a time, and then fails or ends.
+#[derive(Drop)]
+struct Stepping<'a> {
+    rest: &'a [u8],
+    step: usize,
+    fails: bool,
+}
+
+impl Read for Stepping<'_> {
+    fn read(&mut self, buf: &mut [u8]) -> io::Result<usize> {
+        if self.rest.is_empty() && self.fails {
+            return Err(io::Error::from(ErrorKind::ConnectionReset));
+        }
+        let count = self.step.min(self.rest.len()).min(buf.len());
+        let (front, rest) = self.rest.split_at(count);
+        buf[..count].copy_from_slice(front);
+        self.rest = rest;
+        Ok(count)
+    }
+}
+
+/// A reader that is interrupted once before each byte.
+#[derive(Drop)]
+struct Interrupted<'a> {
+    rest: &'a [u8],
+    is_next: bool,
+}
+
+impl Read for Interrupted<'_> {
+    fn read(&mut self, buf: &mut [u8]) -> io::Result<usize> {
+        self.is_next = !self.is_next;
+        if self.is_next {
+            return Err(io::Error::from(ErrorKind::Interrupted));
+        }
+        let count = self.rest.len().min(buf.len()).min(1);
+        let (front, rest) = self.rest.split_at(count);
+        buf[..count].copy_from_slice(front);
+        self.rest = rest;
+        Ok(count)
+    }
+}
+
+/// A writer that has no room.
+#[derive(Drop)]
+struct Full;
+
+impl Write for Full {
+    fn write(&mut self, _buf: &[u8]) -> io::Result<usize> {
+        Err(io::Error::from(ErrorKind::StorageFull))
+    }
+
+    fn flush(&mut self) -> io::Result<()> {
+        Ok(())
+    }
+}
+
+fn words_in(alloc: Global, line: &str) -> Result<Vec<String>, AllocError> {
+    line.split_whitespace()
+        .map(|word| String::from_str(alloc, word))
+        .try_collect(alloc)
+}
+
+#[test]
+fn show_objects_and_faults(rt: HostRuntime) -> Result<(), Fail> {
+    let alloc = rt.alloc();
+    let hello = "blob 6 ce013625030ba8dba906f756967f9e9ca394464a\n";
+    let hello_sha256 = "blob 6 2cf8d83d9ee29543b34a87727421fdecb7e3f3a183d337639025de576db9ebb4\n";
+    let runs: [(&str, &[u8], u8, &str, &str); 16] = [
+        ("show", b"blob 6\0hello\n", 0, hello, ""),
+        ("show", b"blob 6\0hello\nand more", 0, hello, ""),
+        ("show sha256", b"blob 6\0hello\n", 0, hello_sha256, ""),
+        (
+            "show",
+            b"blob +0\0",
+            0,
+            "blob 0 e69de29bb2d1d6434b8b29ae775ad8c2e48c5391\n",
+            "",
+        ),
+        (
+            "show",
+            b"tree -0\0rest",
+            0,
+            "tree 0 4b825dc642cb6eb9a060e54bf8d69288fbee4904\n",
+            "",
+        ),
+        ("show", b"", 1, "", "gixobj: bad header\n"),
+        ("show", b"blob 6", 1, "", "gixobj: bad header\n"),
+        ("show", b"blub 6\0hello\n", 1, "", "gixobj: bad header\n"),
+        ("show", b"blob -6\0hello\n", 1, "", "gixobj: bad header\n"),
+        ("show", b"blob 7\0hello\n", 1, "", "gixobj: short data\n"),
+        (
+            "show sha256",
+            b"blob 18446744073709551615\0",
+            1,
+            "",
+            "gixobj: short data\n",
+        ),
+        ("", b"blob 6\0hello\n", 2, "", USAGE),
+        ("tree", b"tree 0\0", 2, "", USAGE),
+        ("edit", b"", 2, "", USAGE),
+        ("show sha1", b"blob 6\0hello\n", 2, "", USAGE),
+        ("show sha256 sha256", b"blob 6\0hello\n", 2, "", USAGE),
+    ];
+    for (line, input, status, output, errors) in runs {
+        let words = words_in(alloc, line)?;
+        let mut rest = input;
+        let mut answered = Vec::new(alloc);
+        let mut refused = Vec::new(alloc);
+        let got = engine(
+            alloc,
+            words.as_slice(),
+            &mut rest,
+            &mut answered,
+            &mut refused,
+        );
+        assert_eq!(rt; got, status, "{line} {input:?}");
+        assert_eq!(rt; answered.as_slice(), output.as_bytes(), "{line} {input:?}");
+        assert_eq!(rt; refused.as_slice(), errors.as_bytes(), "{line} {input:?}");
+    }
+    Ok(())
+}
+
+#[test]
+fn a_reader_in_steps_or_failing(rt: HostRuntime) -> Result<(), Fail> {
+    let alloc = rt.alloc();
+    let words = words_in(alloc, "show")?;
+    let object: &[u8] = b"blob 6\0hello\n";
+    for step in [1, 5, 4096] {
+        for fails in [false, true] {
+            let mut reader = Stepping {
+                rest: object,
+                step,
+                fails,
+            };
+            let mut answered = Vec::new(alloc);
+            let mut refused = Vec::new(alloc);
+            let status = engine(
+                alloc,
+                words.as_slice(),
+                &mut reader,
+                &mut answered,
+                &mut refused,
+            );
+            let (want, output, errors) = if fails {
+                (1, "", "gixobj: input failed\n")
+            } else {
+                (0, "blob 6 ce013625030ba8dba906f756967f9e9ca394464a\n", "")
+            };
+            assert_eq!(rt; status, want);
+            assert_eq!(rt; answered.as_slice(), output.as_bytes());
+            assert_eq!(rt; refused.as_slice(), errors.as_bytes());
+        }
+    }
+    Ok(())
+}
+
+#[test]
+fn an_interrupted_reader(rt: HostRuntime) -> Result<(), Fail> {
+    let alloc = rt.alloc();
+    let words = words_in(alloc, "show")?;
+    let mut reader = Interrupted {
+        rest: b"blob 6\0hello\n",
+        is_next: false,
+    };
+    let mut answered = Vec::new(alloc);
+    let mut refused = Vec::new(alloc);
+    let status = engine(
+        alloc,
+        words.as_slice(),
+        &mut reader,
+        &mut answered,
+        &mut refused,
+    );
+    assert_eq!(rt; status, 0);
+    assert_eq!(rt;
+        answered.as_slice(),
+        b"blob 6 ce013625030ba8dba906f756967f9e9ca394464a\n".as_slice()
+    );
+    Ok(())
+}
+
+#[test]
+fn writers_that_fail(rt: HostRuntime) -> Result<(), Fail> {
+    let alloc = rt.alloc();
+    let words = words_in(alloc, "show")?;
+    let mut object: &[u8] = b"blob 6\0hello\n";
+    let mut refused = Vec::new(alloc);
+    let status = engine(
+        alloc,
+        words.as_slice(),
+        &mut object,
+        &mut Full,
+        &mut refused,
+    );
+    assert_eq!(rt; status, 1);
+    assert_eq!(rt; refused.as_slice(), b"gixobj: output failed\n".as_slice());
+    let mut nothing: &[u8] = b"";
+    assert_eq!(rt;
+        engine(alloc, words.as_slice(), &mut nothing, &mut Full, &mut Full),
+        1
+    );
+    assert_eq!(rt; engine(alloc, &[], &mut nothing, &mut Full, &mut Full), 2);
+    Ok(())
+}
+
+#[test]
+fn over_memory(rt: HostRuntime) -> Result<(), Fail> {
+    let alloc = rt.alloc();
+    let words = words_in(alloc, "show")?;
+    let mut object: &[u8] = b"blob 6\0hello\n";
+    let mut answered = Vec::new(alloc);
+    let mut refused = Vec::new(alloc);
+    let status = run(
+        alloc,
+        words.as_slice(),
+        &mut object,
+        &mut answered,
+        &mut refused,
+    );
+    assert_eq!(rt; status, 0);
+    assert_eq!(rt;
+        answered.as_slice(),
+        b"blob 6 ce013625030ba8dba906f756967f9e9ca394464a\n".as_slice()
+    );
+    assert!(rt; refused.is_empty());
+    Ok(())
+}
