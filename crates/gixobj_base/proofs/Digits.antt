@@ -1,23 +1,33 @@
--- Decimal digits, by the test of each byte.
-use Rattle.std.proofs.Common.{◌≡◌, ℕ, ◌<◌, true, List, [], ◌∷◌, refl, arith}
-use Rattle.std.proofs.lemmas.Bool.{and_from, and_parts}
+-- Digits, by a test of each byte.
+use Rattle.std.proofs.Common.{◌≡◌, ℕ, ◌<◌, ◌≤◌, Bool, true, List, [], ◌∷◌, nat_le, arith}
+use Rattle.std.proofs.lemmas.List.Elements.{All-cons, All-head, All-nil, All-tail}
 use Rattle.std.specs.Char.{digit_value, is_ascii_digit}
-use Rattle.std.specs.List.{list_all}
+use Rattle.std.specs.List.{AllPass}
+use Rattle.std.specs.Prelude.{◌&&◌}
 use Rattle.std.specs.Str.Parse.{AllDigits}
 
-digit_from_test : (byte : ℕ) → is_ascii_digit byte ≡ true → digit_value byte < 10
+pub AllDigits-from_pass : (radix : ℕ) (p : ℕ → Bool) → ((byte : ℕ) → p byte ≡ true → digit_value byte < radix) → (text : List ℕ) → AllPass p text → AllDigits radix text
+AllDigits-from_pass radix p digit [] pass = tt
+AllDigits-from_pass radix p digit (byte ∷ text) pass =
+    (digit byte (All-head (λ it. p it ≡ true) byte text pass), AllDigits-from_pass radix p digit text (All-tail (λ it. p it ≡ true) byte text pass))
+
+pub pass-from_AllDigits : (radix : ℕ) (p : ℕ → Bool) → ((byte : ℕ) → digit_value byte < radix → p byte ≡ true) → (text : List ℕ) → AllDigits radix text → AllPass p text
+pass-from_AllDigits radix p test [] digits = All-nil (λ it. p it ≡ true)
+pass-from_AllDigits radix p test (byte ∷ text) digits =
+    All-cons (λ it. p it ≡ true) byte text (test byte digits.0) (pass-from_AllDigits radix p test text digits.1)
+
+pub digit_from_test : (byte : ℕ) → is_ascii_digit byte ≡ true → digit_value byte < 10
 digit_from_test byte passes = grind (arith, passes)
 
-test_from_digit : (byte : ℕ) → digit_value byte < 10 → is_ascii_digit byte ≡ true
+pub test_from_digit : (byte : ℕ) → digit_value byte < 10 → is_ascii_digit byte ≡ true
 test_from_digit byte digit = grind (arith, digit)
 
-pub AllDigits-from_test : (text : List ℕ) → list_all is_ascii_digit text ≡ true → AllDigits 10 text
-AllDigits-from_test [] passes = tt
-AllDigits-from_test (byte ∷ text) passes =
-    let parts = and_parts (is_ascii_digit byte) (list_all is_ascii_digit text) passes in
-    (digit_from_test byte parts.0, AllDigits-from_test text parts.1)
+-- the octal digits
+abbrev pub is_octal : ℕ → Bool
+is_octal byte = nat_le 48 byte && nat_le byte 55
 
-pub test-from_AllDigits : (text : List ℕ) → AllDigits 10 text → list_all is_ascii_digit text ≡ true
-test-from_AllDigits [] digits = refl
-test-from_AllDigits (byte ∷ text) digits =
-    and_from (is_ascii_digit byte) (list_all is_ascii_digit text) (test_from_digit byte digits.0) (test-from_AllDigits text digits.1)
+pub octal_from_test : (byte : ℕ) → is_octal byte ≡ true → digit_value byte < 8
+octal_from_test byte passes = grind (arith, passes)
+
+pub test_from_octal : (byte : ℕ) → digit_value byte < 8 → is_octal byte ≡ true
+test_from_octal byte digit = grind (arith, digit)

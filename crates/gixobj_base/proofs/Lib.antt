@@ -3,5 +3,7 @@ mod EmptyObjects
 mod Headers
 mod HexDigits
 mod HexTexts
+mod ModeTexts
+mod OctalNumbers
 mod SizeTexts
 mod Splits

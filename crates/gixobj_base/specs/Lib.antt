@@ -6,5 +6,7 @@ pub mod HeaderError
 pub mod IdOrder
 pub mod Kind
 pub mod KindError
+pub mod Mode
+pub mod ModeNumber
 pub mod Oid
 pub mod Parse

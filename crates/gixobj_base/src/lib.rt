@@ -14,6 +14,7 @@ pub mod kind;
 pub mod laws;
 pub mod parse;
 pub mod streams;
+pub mod tree;
 
 pub use digest::compute_hash;
 pub use header::Header;
