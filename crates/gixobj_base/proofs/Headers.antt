@@ -1,16 +1,15 @@
 -- Loose headers: an input begins with one at most, and then nothing refuses it.
-use Rattle.std.proofs.Common.{◌≡◌, ◌≢◌, ◌<◌, ◌≤◌, ◌+◌, ◌⊎◌, inl, inr, ℕ, List, [], ◌∷◌, ◌++◌, length, take, drop, slice_index, subst, arith, refl, ap, sym, ◌∙◌, append_assoc, length-append}
+use Rattle.std.proofs.Common.{◌≡◌, ◌<◌, ◌+◌, inl, inr, ℕ, List, [], ◌∷◌, ◌++◌, length, take, drop, slice_index, subst, arith, refl, ap, sym, ◌∙◌, append_assoc, length-append}
 use Rattle.std.proofs.Math.Seq.{take-append_seam}
 use Rattle.std.proofs.lemmas.List.{take-append-drop, length-take-le}
-use Rattle.std.proofs.lemmas.List.Elements.{All-cons, All-nil}
 use Rattle.bstr.specs.Owned.{bstring_bytes}
 use Rattle.gixobj_base.proofs.SizeTexts.{no_fault, size_text_free, written_size}
 use Rattle.gixobj_base.proofs.Splits.{free_by_test, free_of_cut, one_cut}
 use Rattle.std.specs.Prelude.{◌^◌, ◌==◌, decimal, if◌then◌else◌}
-use Rattle.gixobj_base.specs.Decode.{HasFaultySize, HasLooseHeader, HasSizeFault, HasUnknownKind, IsLooseHeader, IsSizeText, LacksZero, RefusesHeader}
+use Rattle.gixobj_base.specs.Decode.{HasFaultySize, HasLooseHeader, HasSizeFault, HasUnknownKind, IsSizeText, RefusesHeader}
 use Rattle.gixobj_base.specs.Encode.{loose_header_text}
-use Rattle.gixobj_base.specs.Kind.{IsNoKindWord, kind_word}
-use Rattle.gixobj_base.specs.Parse.{IsFree, SplitsAt}
+use Rattle.gixobj_base.specs.Kind.{kind_word}
+use Rattle.gixobj_base.specs.Parse.{IsFree}
 use Rattle.gixobj_base.specs.declared.decode.LooseHeaderDecodeError.{LooseHeaderDecodeError}
 use Rattle.gixobj_base.specs.declared.decode.LooseHeaderDecodeError.TheVariants.{InvalidHeader, ObjectHeader, OutOfMemory, ParseIntegerError}
 use Rattle.gixobj_base.specs.declared.decode.ParseIntegerErrorKind.{ParseIntegerErrorKind}

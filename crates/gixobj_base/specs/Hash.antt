@@ -1,5 +1,5 @@
 -- Object ids: digests of SHA-1 or SHA-256 (FIPS 180-4), their bytes and their hex text.
-use Rattle.std.specs.Prelude.{◌≡◌, ℕ, List, [], ◌++◌, ◌*◌, ◌⊎◌, ◌||◌, ◌&&◌, ◌==◌, ◌<◌, nat_le, Bool, Ok, All, length, replicate}
+use Rattle.std.specs.Prelude.{◌≡◌, ℕ, List, ◌++◌, ◌*◌, ◌⊎◌, ◌||◌, ◌&&◌, ◌==◌, nat_le, Bool, Ok, All, length, replicate}
 use Rattle.std.specs.Char.{is_ascii_digit}
 use Rattle.std.specs.List.{AllPass}
 use Rattle.sha1.specs.Sha1.{sha1}

@@ -1,8 +1,7 @@
 -- The input was read whole, and what refuses it refuses the run.
-use Rattle.std.proofs.Common.{◌≡◌, rules}
 use Rattle.std.proofs.lemmas.Result.{err_from_is_err_and}
 use Rattle.gixobj.proofs.Refused.{refused_object}
-use Rattle.gixobj.specs.Engine.{Asks, ReadsAll}
+use Rattle.gixobj.specs.Engine.{ReadsAll}
 use Rattle.gixobj.specs.Show.{RefusesObject}
 use Rattle.gixobj.proofs.engine.answer.Goals as goal
 

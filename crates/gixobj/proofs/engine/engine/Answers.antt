@@ -1,9 +1,7 @@
 -- A reader may always fail, and a writer always refuse.
-use Rattle.std.proofs.Common.{rules, map}
+use Rattle.std.proofs.Common.{rules}
 use Rattle.std.specs.Prelude.{⊤}
-use Rattle.std.specs.String.{string_bytes}
 use Rattle.gixobj.proofs.Refused.{refused_at}
-use Rattle.gixobj.specs.Engine.{Refuses}
 use Rattle.gixobj.proofs.engine.engine.Goals as goal
 
 pub returns-clause-refusal : goal.returns-clause-refusal

@@ -1,5 +1,4 @@
 -- An input has one loose header at most, and one that has a header isn't refused.
-use Rattle.std.proofs.Common.{◌≡◌, Ok}
 use Rattle.gixobj_base.proofs.Headers.{not_refused, one_header, parts_of}
 use Rattle.gixobj_base.proofs.decode.loose_header.Goals as goal
 

@@ -1,6 +1,6 @@
 -- The word, the size text and what follows are the header's parts.
-use Rattle.std.proofs.Common.{ap, sym, ◌≡◌, ◌∷◌, ◌++◌, ◌∙◌, length, ◌+◌, arith, rules}
-use Rattle.gixobj_base.proofs.Headers.{Parts, header_from_parts}
+use Rattle.std.proofs.Common.{ap, ◌≡◌, ◌∷◌, ◌++◌, ◌∙◌, length, ◌+◌}
+use Rattle.gixobj_base.proofs.Headers.{header_from_parts}
 use Rattle.gixobj_base.specs.Kind.{kind_word}
 use Rattle.gixobj_base.proofs.decode.read_loose_header.Goals as goal
 

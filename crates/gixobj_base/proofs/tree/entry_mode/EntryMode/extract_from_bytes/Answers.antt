@@ -1,5 +1,5 @@
 -- A text that begins with a mode has the digits that were cut off.
-use Rattle.std.proofs.Common.{◌≡◌, ℕ, List, length, sym, ◌∙◌, ap, subst, ◌≤◌}
+use Rattle.std.proofs.Common.{ℕ, List, length, sym, ◌∙◌, ap, subst, ◌≤◌}
 use Rattle.std.specs.Str.Parse.{AllDigits}
 use Rattle.gixobj_base.proofs.ModeTexts.{octal_free, one_ending}
 use Rattle.gixobj_base.proofs.tree.entry_mode.EntryMode.extract_from_bytes.Goals as goal
