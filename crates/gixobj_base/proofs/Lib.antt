@@ -4,6 +4,7 @@ mod Headers
 mod HexDigits
 mod HexTexts
 mod ModeTexts
+mod NameKeys
 mod OctalNumbers
 mod SizeTexts
 mod Splits

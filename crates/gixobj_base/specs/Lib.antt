@@ -1,5 +1,6 @@
 pub mod Decode
 pub mod Encode
+pub mod Entries
 pub mod Hash
 pub mod Hasher
 pub mod HeaderError

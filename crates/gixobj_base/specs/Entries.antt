@@ -1,0 +1,42 @@
+-- Entries of trees: their keys, their order, and well-formed lists of them (gitdatamodel, "trees"; git's index
+-- compares names so that a directory stands where its files would).
+use Rattle.std.specs.Prelude.{◌≡◌, ◌≢◌, ℕ, Bool, Option, Some, None, List, [], ◌∷◌, ◌++◌, if◌then◌else◌, IsTrue, length, min, take, drop}
+use Rattle.std.specs.List.{AllByRecursion}
+use Rattle.std.specs.Cmp.{IsTotalOrder, on_total, then_total, nat_cmp_total}
+use Rattle.std.specs.Cmp.Lexicographic.{slice_cmp, on_texts}
+use Rattle.std.specs.Option.{option_cmp}
+use Rattle.std.specs.Ordering.{nat_cmp, is_lt, on, ordering_then, then_cmp}
+use Rattle.std.specs.declared.cmp.Ordering.{Ordering}
+use Rattle.std.specs.declared.cmp.Ordering.TheVariants.{Less}
+use Rattle.gixobj_base.specs.Mode.{is_tree_mode}
+use Rattle.gixobj_base.specs.Parse.{IsFree}
+use Rattle.gixobj_base.specs.IdOrder.{id_cmp, id_cmp_total}
+use Rattle.gixobj_base.specs.declared.hash.object_id.ObjectId.{ObjectId}
+
+-- an entry as contracts see it
+pub record EntryView : Type 0 where
+  pub mode : ℕ
+  pub name : List ℕ
+  pub id : ObjectId
+
+-- the key of a name: with a slash after a tree's
+abbrev pub key_of : List ℕ → Bool → List ℕ
+key_of name is_tree = if is_tree then name ++ (47 ∷ []) else name
+
+abbrev pub entry_key : EntryView → List ℕ
+entry_key e = key_of e.name (is_tree_mode e.mode)
+
+-- the first byte of the rest of a name, where a tree's end counts as a slash
+abbrev pub next_byte : List ℕ → Bool → Option ℕ
+next_byte [] is_tree = if is_tree then Some 47 else None
+next_byte (byte ∷ rest) is_tree = Some byte
+
+-- the common length bytewise, and then the next byte; no byte comes before every byte
+abbrev pub name_cmp : List ℕ → Bool → List ℕ → Bool → Ordering
+name_cmp xs x_is_tree ys y_is_tree =
+    let n = min (length xs) (length ys) in
+    ordering_then (slice_cmp nat_cmp (take n xs) (take n ys)) (option_cmp nat_cmp (next_byte (drop n xs) x_is_tree) (next_byte (drop n ys) y_is_tree))
+
+-- no byte is a slash
+abbrev pub IsOneName : List ℕ → Type 0
+IsOneName name = IsFree 47 name
