@@ -2,15 +2,13 @@
 -- compares names so that a directory stands where its files would).
 use Rattle.std.specs.Prelude.{◌≡◌, ◌≢◌, ℕ, Bool, Option, Some, None, List, [], ◌∷◌, ◌++◌, if◌then◌else◌, IsTrue, length, min, take, drop}
 use Rattle.std.specs.List.{AllByRecursion}
-use Rattle.std.specs.Cmp.{IsTotalOrder, on_total, then_total, nat_cmp_total}
-use Rattle.std.specs.Cmp.Lexicographic.{slice_cmp, on_texts}
+use Rattle.std.specs.Cmp.Lexicographic.{slice_cmp}
 use Rattle.std.specs.Option.{option_cmp}
-use Rattle.std.specs.Ordering.{nat_cmp, is_lt, on, ordering_then, then_cmp}
+use Rattle.std.specs.Ordering.{nat_cmp, ordering_then}
 use Rattle.std.specs.declared.cmp.Ordering.{Ordering}
 use Rattle.std.specs.declared.cmp.Ordering.TheVariants.{Less}
 use Rattle.gixobj_base.specs.Mode.{is_tree_mode}
 use Rattle.gixobj_base.specs.Parse.{IsFree}
-use Rattle.gixobj_base.specs.IdOrder.{id_cmp, id_cmp_total}
 use Rattle.gixobj_base.specs.declared.hash.object_id.ObjectId.{ObjectId}
 
 -- an entry as contracts see it
@@ -37,6 +35,21 @@ name_cmp xs x_is_tree ys y_is_tree =
     let n = min (length xs) (length ys) in
     ordering_then (slice_cmp nat_cmp (take n xs) (take n ys)) (option_cmp nat_cmp (next_byte (drop n xs) x_is_tree) (next_byte (drop n ys) y_is_tree))
 
--- no byte is a slash
-abbrev pub IsOneName : List ℕ → Type 0
-IsOneName name = IsFree 47 name
+abbrev pub ComesBefore : EntryView → EntryView → Type 0
+ComesBefore x y = slice_cmp nat_cmp (entry_key x) (entry_key y) ≡ Less
+
+-- a name that an entry of a well-formed tree may have
+pub record IsEntryName (name : List ℕ) : Type 0 where
+  pub filled : name ≢ []
+  pub one_name : IsFree 47 name
+
+-- R holds of each element and each later one
+abbrev pub EachLater : {X : Type 0} → (X → X → Type 0) → List X → Type 0
+EachLater R [] = Unit {0}
+EachLater R (x ∷ xs) = AllByRecursion (R x) xs × EachLater R xs
+
+-- each name is one, no two are the same, and the keys ascend
+pub record IsWellFormed (entries : List EntryView) : Type 0 where
+  pub names : AllByRecursion (λ e. IsEntryName e.name) entries
+  pub apart : EachLater (λ x y. x.name ≢ y.name) entries
+  pub ascending : EachLater ComesBefore entries

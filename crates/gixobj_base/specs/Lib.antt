@@ -1,6 +1,7 @@
 pub mod Decode
 pub mod Encode
 pub mod Entries
+pub mod EntryOrder
 pub mod Hash
 pub mod Hasher
 pub mod HeaderError

@@ -5,6 +5,7 @@
 //! the SHA-1 or SHA-256 digest of all of that (`gitformat-loose`, "Loose object format").
 #![tactic(auto)]
 
+mod blob;
 pub mod decode;
 mod digest;
 pub mod encode;
@@ -16,6 +17,8 @@ pub mod parse;
 pub mod streams;
 pub mod tree;
 
+pub use blob::{Blob, BlobRef};
 pub use digest::compute_hash;
 pub use header::Header;
 pub use kind::Kind;
+pub use tree::Tree;
