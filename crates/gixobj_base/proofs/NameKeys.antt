@@ -24,7 +24,6 @@ decides Greater r h = refl
 abbrev at : ℕ → List ℕ → Bool → List ℕ → Bool → Ordering
 at n xs t ys u = ordering_then (slice_cmp nat_cmp (take n xs) (take n ys)) (option_cmp nat_cmp (next_byte (drop n xs) t) (next_byte (drop n ys) u))
 
-
 more : (x y : ℕ) (xs ys : List ℕ) (t u : Bool) (o : Ordering) → name_cmp xs t ys u ≡ o → name_cmp (x ∷ xs) t (y ∷ ys) u ≡ ordering_then (nat_cmp x y) o
 more x y xs ys t u o e =
     ap (λ n. at n (x ∷ xs) t (y ∷ ys) u) (suc-min-suc (length xs) (length ys)) ∙ then_assoc (nat_cmp x y) _ _ ∙ ap (ordering_then (nat_cmp x y)) e
@@ -84,7 +83,7 @@ more_key : (x y : ℕ) (xs ys : List ℕ) (t u : Bool) (keys others : List ℕ) 
     → slice_cmp nat_cmp (x ∷ keys) (y ∷ others) ≡ ordering_then (name_cmp (x ∷ xs) t (y ∷ ys) u) (nat_cmp (length (x ∷ keys)) (length (y ∷ others)))
 more_key x y xs ys t u keys others e =
     ap (ordering_then (nat_cmp x y)) (e ∙ ap (ordering_then (name_cmp xs t ys u)) (sym (more_nat (length keys) (length others))))
-      ∙ sym (then_assoc (nat_cmp x y) (name_cmp xs t ys u) (nat_cmp (length (x ∷ keys)) (length (y ∷ others)))) ∙ ap (λ o. ordering_then o (nat_cmp (length (x ∷ keys)) (length (y ∷ others)))) (sym (more x y xs ys t u _ refl))
+    ∙ sym (then_assoc (nat_cmp x y) (name_cmp xs t ys u) (nat_cmp (length (x ∷ keys)) (length (y ∷ others)))) ∙ ap (λ o. ordering_then o (nat_cmp (length (x ∷ keys)) (length (y ∷ others)))) (sym (more x y xs ys t u _ refl))
 
 right_ends : (x : ℕ) (xs : List ℕ) (t u : Bool) (n : Ordering) → ordering_then (option_cmp nat_cmp (Some x) (next_byte [] u)) n ≡ ordering_then (name_cmp (x ∷ xs) t [] u) n
 right_ends x xs t u n = ap (λ o. ordering_then o n) (sym (no_right x xs t u _ refl))

@@ -4,7 +4,6 @@ use Rattle.std.proofs.Common.{ap, sym, ◌∙◌}
 use mathlib.Core.Bool.{true≢false}
 use Rattle.std.proofs.Common.{rules}
 use Rattle.std.specs.Hash.{HashWrites, items_Alike, slice, u8, u16}
-
 use Rattle.std.specs.Cmp.{unsigned_ties, IsEquivalence, first_so, second_so, IsTotalOrder, and_equiv, eq_by_cmp_equiv, nat_cmp_total, nat_eq_equiv, on_equiv, on_total, then_total, tied_then}
 use Rattle.std.specs.Cmp.Lexicographic.{lists_equiv, lists_ties, lists_total, bytes_decides, nat_list_eq_equiv, on_texts, pointwise, slice_cmp, texts_ties}
 use Rattle.std.specs.Ordering.{is_eq, nat_cmp, on, ordering_then, then_cmp}
@@ -51,8 +50,8 @@ entry_ties x y =
     let names = slice_cmp nat_cmp x.name y.name in
     let ids = id_cmp x.id y.id in
     drop_first (is_eq keys) (x.mode == y.mode) (pointwise nat_eq x.name y.name) (is_eq ids) (same_parts x y)
-      ∙ ap (λ b. is_eq keys && b) (ap (λ b. b && (pointwise nat_eq x.name y.name && is_eq ids)) (unsigned_ties x.mode y.mode) ∙ ap (λ b. is_eq modes && b) (ap (λ b. b && is_eq ids) (texts_ties x.name y.name) ∙ tied_then names ids) ∙ tied_then modes (ordering_then names ids))
-      ∙ tied_then keys (ordering_then modes (ordering_then names ids))
+    ∙ ap (λ b. is_eq keys && b) (ap (λ b. b && (pointwise nat_eq x.name y.name && is_eq ids)) (unsigned_ties x.mode y.mode) ∙ ap (λ b. is_eq modes && b) (ap (λ b. b && is_eq ids) (texts_ties x.name y.name) ∙ tied_then names ids) ∙ tied_then modes (ordering_then names ids))
+    ∙ tied_then keys (ordering_then modes (ordering_then names ids))
 
 same_id_bytes : (x y : ObjectId) → is_eq (id_cmp x y) ≡ true → id_bytes x ≡ id_bytes y
 same_id_bytes x y ties = (bytes_decides (id_bytes x) (id_bytes y)).0 (texts_ties (id_bytes x) (id_bytes y) ∙ first_so _ _ (tied_then (slice_cmp nat_cmp (id_bytes x) (id_bytes y)) _ ∙ ties))

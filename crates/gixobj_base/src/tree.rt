@@ -11,7 +11,6 @@ pub use entry::Entry;
 pub use entry_kind::EntryKind;
 pub use entry_mode::EntryMode;
 pub use order::name_order;
-
 use std::alloc::Global;
 use std::marker::Model;
 

@@ -19,9 +19,10 @@ pub fn name_order(left: &[u8], left_is_tree: bool, right: &[u8], right_is_tree: 
     let common = left.len().min(right.len());
     let (front, rest) = left.split_at(common);
     let (other_front, other_rest) = right.split_at(common);
-    front
-        .cmp(other_front)
-        .then(next_byte(rest, left_is_tree).cmp(&next_byte(other_rest, right_is_tree)))
+    front.cmp(other_front).then(next_byte(rest, left_is_tree).cmp(&next_byte(
+        other_rest,
+        right_is_tree,
+    )))
 }
 
 /// The first byte of the rest of a name, where a tree's end counts as `/`.
