@@ -1,6 +1,9 @@
 //! Blobs: the contents of files.
 ghost use Rattle.std.specs.Prelude.{◌≡◌, IfOk};
 
+#[cfg(test)]
+mod tests;
+
 use std::alloc::{AllocError, Global};
 
 /// The content of a file, borrowed.

@@ -6,6 +6,8 @@ mod entry;
 mod entry_kind;
 mod entry_mode;
 mod order;
+#[cfg(test)]
+mod tests;
 
 pub use entry::Entry;
 pub use entry_kind::EntryKind;
