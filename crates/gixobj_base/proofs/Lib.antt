@@ -1,3 +1,5 @@
+mod ActorLines
+mod ActorWrites
 mod Digits
 mod EmptyObjects
 mod Headers
@@ -5,3 +7,4 @@ mod HexDigits
 mod HexTexts
 mod SizeTexts
 mod Splits
+mod TimeTexts

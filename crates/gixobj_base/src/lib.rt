@@ -5,6 +5,8 @@
 //! the SHA-1 or SHA-256 digest of all of that (`gitformat-loose`, "Loose object format").
 #![tactic(auto)]
 
+pub mod actor;
+pub mod date;
 pub mod decode;
 mod digest;
 pub mod encode;
