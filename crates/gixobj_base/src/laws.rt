@@ -1,8 +1,9 @@
 //! Laws that tie the readers to the writers. Each function does nothing: its contract is the law.
-ghost use Rattle.std.specs.Prelude.{◌≡◌, ◌<◌, ◌^◌, ◌++◌, ℕ, ℤ, Contains, FitsSigned, List, length};
+ghost use Rattle.std.specs.Prelude.{◌≡◌, ◌<◌, ◌^◌, ◌++◌, ℕ, ℤ, Contains, FitsSigned, List, [], length};
 ghost use Rattle.std.specs.Int.{w64};
 ghost use Rattle.std.specs.List.{AllPass};
-ghost use Rattle.gixobj_base.specs.Actor.{IsActorLine, IsNoActorLine};
+ghost use Rattle.gixobj_base.specs.Actor.{IsActorLine, IsNoActorLine, actor_text};
+ghost use Rattle.gixobj_base.specs.ActorWriting.{IsLegalActor};
 ghost use Rattle.gixobj_base.specs.Date.{IsOffset, IsTimeText, time_text};
 ghost use Rattle.gixobj_base.specs.Decode.{HasLooseHeader};
 ghost use Rattle.gixobj_base.specs.Encode.{loose_header_text};
@@ -41,4 +42,10 @@ pub fn actor_line_has_one_reading()
         IsActorLine line name email time rest → IsActorLine line name' email' time' rest' →
         (name ≡ name') × (email ≡ email') × (time ≡ time') × (rest ≡ rest') }
     ensures no_newline { (line : List ℕ) → Contains line 10 → IsNoActorLine line }
+{}
+
+/// What is written of an owned actor is a line that names it, with nothing behind its time.
+pub fn actor_reads_back()
+    ensures { (name email : List ℕ) (seconds offset : ℤ) → IsLegalActor name email → FitsSigned w64 seconds → IsOffset offset →
+        IsActorLine (actor_text name email (time_text seconds offset)) name email (time_text seconds offset) [] }
 {}
