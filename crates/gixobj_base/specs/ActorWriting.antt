@@ -1,6 +1,5 @@
 -- What a writer of actors answers.
-use Rattle.std.specs.Prelude.{◌≡◌, ◌⊎◌, ℕ, List, ◌++◌, Option}
-use Rattle.std.specs.Io.KnownBytes.{Appends}
+use Rattle.std.specs.Prelude.{◌⊎◌, ℕ, List}
 use Rattle.bstr.specs.BStr.{bstr_bytes}
 use Rattle.bstr.specs.Owned.{bstring_bytes}
 use Rattle.gixobj_base.specs.Actor.{HasIllegalByte, IsWritable, actor_text}
@@ -25,16 +24,6 @@ IsLegalActor name email = IsWritable name × IsWritable email
 -- an actor of this name and this email cannot be written
 abbrev pub IsIllegalActor : List ℕ → List ℕ → Type 0
 IsIllegalActor name email = HasIllegalByte name ⊎ HasIllegalByte email
-
--- as the text is written, piece by piece, the writer comes to where it may refuse the next piece
-pub record MayRefuseWithin {S : Type 0} (held : S → Option (List ℕ)) (may_refuse : S → List ℕ → Type 0) (sink : S) (text : List ℕ) : Type 0 where
-  pub state : S
-  pub written : List ℕ
-  pub piece : List ℕ
-  pub left : List ℕ
-  pub joined : text ≡ written ++ piece ++ left
-  pub appended : Appends (held sink) (held state) written
-  pub refused : may_refuse state piece
 
 -- why an actor is not written: it cannot be, and nothing is written; or the writer may refuse it
 abbrev pub RefusesActor : List ℕ → List ℕ → Type 0 → Type 0 → WriteError → Type 0

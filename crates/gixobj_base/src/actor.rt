@@ -7,7 +7,7 @@ ghost use Rattle.std.specs.Option.{SomeIff};
 ghost use Rattle.bstr.specs.BStr.{bstr_bytes};
 ghost use Rattle.bstr.specs.Owned.{bstring_bytes};
 ghost use Rattle.gixobj_base.specs.Actor.{EndsTime, IsActorLine, IsGap, IsNameOf, IsNoActorLine, IsTimeOrDefault, IsWritable, HasIllegalByte, actor_text, is_time_byte as is_time_byte_of, trimmed};
-ghost use Rattle.gixobj_base.specs.ActorWriting.{IsIllegalActor, IsLegalActor, MayRefuseWithin, RefusesActor, borrowed_text, owned_text};
+ghost use Rattle.gixobj_base.specs.ActorWriting.{IsIllegalActor, IsLegalActor, RefusesActor, borrowed_text, owned_text};
 ghost use Rattle.gixobj_base.specs.Date.{IsNoTimeText, IsTimeText, time_text};
 ghost use Rattle.gixobj_base.specs.declared.decode.Error.TheVariants.{Malformed};
 
@@ -165,7 +165,7 @@ impl SignatureRef<'_> {
         ensures ok { OnOk result (IsLegalActor (bstr_bytes self.now.name) (bstr_bytes self.now.email)
             × Appends (S.held sink.old) (S.held sink.new) (borrowed_text self.now)) }
         ensures refusal { IfErr result (RefusesActor (bstr_bytes self.now.name) (bstr_bytes self.now.email) (sink.new ≡ sink.old)
-            (MayRefuseWithin S.held S.may_refuse sink.old (borrowed_text self.now))) }
+            (S.may_refuse sink.old (borrowed_text self.now))) }
         ensures same_loan { S.loan sink.new ≡ S.loan sink.old }
     {
         let (name, email) = (self.name.as_bytes(), self.email.as_bytes());
@@ -198,7 +198,7 @@ impl Signature {
         ensures ok { OnOk result (IsLegalActor (bstring_bytes self.now.name) (bstring_bytes self.now.email)
             × Appends (S.held sink.old) (S.held sink.new) (owned_text self.now)) }
         ensures refusal { IfErr result (RefusesActor (bstring_bytes self.now.name) (bstring_bytes self.now.email) (sink.new ≡ sink.old)
-            (MayRefuseWithin S.held S.may_refuse sink.old (owned_text self.now))) }
+            (S.may_refuse sink.old (owned_text self.now))) }
         ensures same_loan { S.loan sink.new ≡ S.loan sink.old }
     {
         let mut time_buf = TimeBuf::new();
@@ -231,7 +231,7 @@ fn is_writable(text: &[u8]) -> bool
 /// Writes an actor, whatever its bytes are.
 fn put_actor<S: Sink>(name: &[u8], email: &[u8], time: &[u8], sink: &mut S) -> io::Result<()>
     ensures ok { OnOk result (Appends (S.held sink.old) (S.held sink.new) (actor_text name.now email.now time.now)) }
-    ensures err { OnErr result (MayRefuseWithin S.held S.may_refuse sink.old (actor_text name.now email.now time.now)) }
+    ensures err { OnErr result (S.may_refuse sink.old (actor_text name.now email.now time.now)) }
     ensures same_loan { S.loan sink.new ≡ S.loan sink.old }
 {
     sink.put(name)?;
