@@ -1,5 +1,4 @@
 -- A refusal of any piece might have been one of the first, with all behind it.
-use Rattle.std.proofs.Common.{◌∷◌, [], ◌++◌}
 use Rattle.std.proofs.lemmas.Result.{on_err_weaker}
 use Rattle.gixobj_base.proofs.ActorWrites.{on_err, pieces}
 use Rattle.gixobj_base.proofs.actor.put_actor.Goals as goal
