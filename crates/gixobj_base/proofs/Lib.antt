@@ -1,3 +1,6 @@
+mod ActorLines
+mod ActorTexts
+mod ActorWrites
 mod Digits
 mod EmptyObjects
 mod Headers
@@ -8,3 +11,4 @@ mod NameKeys
 mod OctalNumbers
 mod SizeTexts
 mod Splits
+mod TimeTexts

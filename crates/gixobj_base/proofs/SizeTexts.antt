@@ -50,7 +50,7 @@ unequal : (a b : ℕ) → a ≢ b → (a == b) ≡ false
 unequal a b other = elim (eqb_tells a b) [ inl same ↦ absurd (other same.1) | inr not_same ↦ not_same.0 ]
 
 -- a text of digits alone has no sign
-unsigned_digits : (digits : List ℕ) → IsNumeral 10 digits → (starts_with_minus digits ≡ false) × (size_digits digits ≡ digits)
+pub unsigned_digits : (digits : List ℕ) → IsNumeral 10 digits → (starts_with_minus digits ≡ false) × (size_digits digits ≡ digits)
 unsigned_digits digits numeral =
     let range = digit_at digits 0 numeral.1 numeral.0 in
     let no_minus : starts_with_minus digits ≡ false = unequal (slice_index digits 0) 45 (omega arith) in

@@ -1,3 +1,6 @@
+pub mod Actor
+pub mod ActorWriting
+pub mod Date
 pub mod Decode
 pub mod Encode
 pub mod Entries

@@ -9,3 +9,8 @@ IsFree byte text = All (λ it. it ≢ byte) text
 pub record SplitsAt (byte : ℕ) (text front rest : List ℕ) : Type 0 where
   pub joined : text ≡ front ++ byte ∷ rest
   pub first : IsFree byte front
+
+-- the text is front, then this byte for the last time, then rest
+pub record SplitsAtLast (byte : ℕ) (text front rest : List ℕ) : Type 0 where
+  pub joined : text ≡ front ++ byte ∷ rest
+  pub last : IsFree byte rest

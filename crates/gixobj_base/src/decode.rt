@@ -188,14 +188,14 @@ fn split_sign(text: &[u8]) -> (bool, &[u8])
 }
 
 /// Whether all bytes are digits.
-fn are_digits(text: &[u8]) -> bool
+pub(crate) fn are_digits(text: &[u8]) -> bool
     ensures { IsTrue result ↔ AllDigits 10 text.now }
 {
     text.iter().all(|byte| byte.is_ascii_digit())
 }
 
 /// The number that digits spell, where it fits 64 bits.
-fn number_from_digits(digits: &[u8]) -> Option<u64>
+pub(crate) fn number_from_digits(digits: &[u8]) -> Option<u64>
     requires { IsNumeral 10 digits.now }
     ensures { SomeIff result (digits_value 10 digits.now < 2 ^ 64) (digits_value 10 digits.now) }
 {

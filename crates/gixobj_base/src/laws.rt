@@ -1,6 +1,10 @@
 //! Laws that tie the readers to the writers. Each function does nothing: its contract is the law.
-ghost use Rattle.std.specs.Prelude.{◌≡◌, ◌<◌, ◌^◌, ◌++◌, ℕ, List, length};
+ghost use Rattle.std.specs.Prelude.{◌≡◌, ◌<◌, ◌^◌, ◌++◌, ℕ, ℤ, Contains, FitsSigned, List, [], length};
+ghost use Rattle.std.specs.Int.{w64};
 ghost use Rattle.std.specs.List.{AllPass};
+ghost use Rattle.gixobj_base.specs.Actor.{IsActorLine, IsNoActorLine, actor_text};
+ghost use Rattle.gixobj_base.specs.ActorWriting.{IsLegalActor};
+ghost use Rattle.gixobj_base.specs.Date.{IsOffset, IsTimeText, time_text};
 ghost use Rattle.gixobj_base.specs.Decode.{HasLooseHeader};
 ghost use Rattle.gixobj_base.specs.Encode.{loose_header_text};
 ghost use Rattle.gixobj_base.specs.Hash.{IsHexOfAnId, IsId, Spells, hex_text, is_lower_hex_digit};
@@ -23,4 +27,25 @@ pub fn hex_reads_back()
 /// A hex text in lower case that was read is written back as it was.
 pub fn hex_writes_back()
     ensures { (text : List ℕ) (id : ObjectId) → AllPass is_lower_hex_digit text → Spells text id → hex_text id ≡ text }
+{}
+
+/// The text of a time that is written reads back as that time. A text says one time at most.
+pub fn time_reads_back()
+    ensures same_time { (seconds offset : ℤ) → FitsSigned w64 seconds → IsOffset offset → IsTimeText (time_text seconds offset) seconds offset }
+    ensures one_time { (text : List ℕ) (seconds offset seconds' offset' : ℤ) →
+        IsTimeText text seconds offset → IsTimeText text seconds' offset' → (seconds ≡ seconds') × (offset ≡ offset') }
+{}
+
+/// A line names one actor at most, and one with a newline names none.
+pub fn actor_line_has_one_reading()
+    ensures one_actor { (line name email time rest name' email' time' rest' : List ℕ) →
+        IsActorLine line name email time rest → IsActorLine line name' email' time' rest' →
+        (name ≡ name') × (email ≡ email') × (time ≡ time') × (rest ≡ rest') }
+    ensures no_newline { (line : List ℕ) → Contains line 10 → IsNoActorLine line }
+{}
+
+/// What is written of an owned actor is a line that names it, with nothing behind its time.
+pub fn actor_reads_back()
+    ensures { (name email : List ℕ) (seconds offset : ℤ) → IsLegalActor name email → FitsSigned w64 seconds → IsOffset offset →
+        IsActorLine (actor_text name email (time_text seconds offset)) name email (time_text seconds offset) [] }
 {}

@@ -1,11 +1,13 @@
-//! Git's objects as bytes, the ground floor: object ids, the kinds of objects, and the header of a
-//! loose object, read and written.
+//! Git's objects as bytes, the ground floor: object ids, the kinds of objects, the header of a loose
+//! object, actors and times, read and written.
 //!
 //! A loose object is its header, `<kind> <size>` and a zero byte, and then its content. Its id is
 //! the SHA-1 or SHA-256 digest of all of that (`gitformat-loose`, "Loose object format").
 #![tactic(auto)]
 
+pub mod actor;
 mod blob;
+pub mod date;
 pub mod decode;
 mod digest;
 pub mod encode;

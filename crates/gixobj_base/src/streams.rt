@@ -4,7 +4,7 @@
 //! Over a [`Source`] and a [`Sink`] it says that a slice is always read, and that a `Vec` refuses
 //! bytes only where it has no room for them. [`FromRead`] and [`ToWrite`] make one of any reader or
 //! writer, which may then fail at every call.
-ghost use Rattle.std.specs.Prelude.{◌≡◌, ◌<◌, ◌+◌, ℕ, List, Option, Some, length, OnOk, OnErr, vec_len, vec_capacity, ⊤};
+ghost use Rattle.std.specs.Prelude.{◌≡◌, ◌<◌, ◌+◌, ◌++◌, ℕ, List, Option, Some, length, OnOk, OnErr, vec_len, vec_capacity, ⊤};
 ghost use Rattle.std.specs.Io.{ReadsAtMost};
 ghost use Rattle.std.specs.Io.KnownBytes.{Appends, ReadConsumes};
 
@@ -81,10 +81,13 @@ pub trait Sink {
     /// Which loan it holds, where it borrows what it writes to: no call puts another in its place.
     ghost loan: { Self → ℕ };
 
-    /// Puts all the bytes at the end.
+    /// Puts all the bytes at the end. Who may refuse some bytes may refuse more of them, and what may
+    /// be refused behind them might have been refused with them.
     fn put(&mut self, bytes: &[u8]) -> io::Result<()>
         ensures ok { OnOk result (Appends (held self.old) (held self.new) bytes.now) }
         ensures err { OnErr result (may_refuse self.old bytes.now) }
+        ensures longer { OnErr result ((more : List ℕ) → may_refuse self.old (bytes.now ++ more)) }
+        ensures lasting { OnOk result ((more : List ℕ) → may_refuse self.new more → may_refuse self.old (bytes.now ++ more)) }
         ensures same_loan { loan self.new ≡ loan self.old };
 }
 
