@@ -3,9 +3,31 @@
 use super::{Signature, SignatureRef, WriteError};
 use crate::date::{Time, TimeBuf};
 use crate::decode;
+use crate::streams::ToWrite;
 use bstr::{BStr, BString};
 use std::alloc::Global;
+use std::io;
+use std::io::{ErrorKind, Write};
 use std::test::Fail;
+
+/// A writer with room for so many bytes.
+#[derive(Drop)]
+struct Room(usize);
+
+impl Write for Room {
+    fn write(&mut self, buf: &[u8]) -> io::Result<usize> {
+        if self.0 == 0 {
+            return Err(io::Error::from(ErrorKind::StorageFull));
+        }
+        let taken = self.0.min(buf.len());
+        self.0 -= taken;
+        Ok(taken)
+    }
+
+    fn flush(&mut self) -> io::Result<()> {
+        Ok(())
+    }
+}
 
 /// The actor that a line names, and what is left of it.
 fn read(line: &[u8]) -> Option<(SignatureRef<'_>, &[u8])> {
@@ -279,5 +301,19 @@ fn owned_and_borrowed_again(rt: HostRuntime) -> Result<(), Fail> {
         ..actor
     };
     assert!(rt; actor < later);
+    Ok(())
+}
+
+#[test]
+fn writers_that_fail(rt: HostRuntime) -> Result<(), Fail> {
+    let line: &[u8] = b"A <a@b> 1 +0530";
+    let (actor, _) = read(line).ok_or("an actor")?;
+    for room in 0..line.len() {
+        match actor.write_to(&mut ToWrite(&mut Room(room))) {
+            Err(WriteError::Writer(_)) => {}
+            _ => return Err("a writer without room")?,
+        }
+    }
+    assert!(rt; actor.write_to(&mut ToWrite(&mut Room(line.len()))).is_ok());
     Ok(())
 }
