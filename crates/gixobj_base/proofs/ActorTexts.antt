@@ -1,6 +1,6 @@
 -- What is written of an actor is a line that names it.
 use Rattle.std.proofs.Common.{◌≡◌, ◌≢◌, ◌<◌, ◌+◌, ◌/◌, ◌%◌, ℕ, suc, Bool, true, false, List, [], ◌∷◌, ◌++◌, arith, inl, refl, sym, ap, ◌∙◌, append_assoc, append-nil}
-use Rattle.std.proofs.lemmas.Bool.{and_parts, true≢false}
+use Rattle.std.proofs.lemmas.Bool.{true≢false}
 use Rattle.std.proofs.lemmas.Bool.Decides.{nat_tests}
 use Rattle.std.proofs.lemmas.Fmt.{decimal_is_IsNumeral}
 use Rattle.std.proofs.lemmas.List.Elements.{All-append, All-cons, All-nil}
@@ -10,7 +10,7 @@ use Rattle.std.specs.Int.{w64}
 use Rattle.std.specs.List.{AllPass}
 use Rattle.std.specs.Prelude.{ℤ, pos, negsuc, unsigned_abs, FitsSigned, decimal}
 use Rattle.std.specs.Str.Parse.{AllDigits}
-use Rattle.gixobj_base.proofs.Digits.{test-from_AllDigits}
+use Rattle.gixobj_base.proofs.Digits.{test_from_digit}
 use Rattle.gixobj_base.specs.Actor.{IsActorLine, actor_text, is_time_byte}
 use Rattle.gixobj_base.specs.ActorWriting.{IsLegalActor}
 use Rattle.gixobj_base.specs.Date.{IsOffset, is_below_zero, offset_text, offset_text_of, time_text, two_digits}
@@ -25,8 +25,7 @@ digit_timed byte passes = rw passes refl
 digits_timed : (text : List ℕ) → AllDigits 10 text → AllPass is_time_byte text
 digits_timed [] digits = All-nil IsTimed
 digits_timed (byte ∷ text) digits =
-    let passes = and_parts (is_ascii_digit byte) true (test-from_AllDigits (byte ∷ []) (digits.0, tt)) in
-    All-cons IsTimed byte text (digit_timed byte passes.0) (digits_timed text digits.1)
+    All-cons IsTimed byte text (digit_timed byte (test_from_digit byte digits.0)) (digits_timed text digits.1)
 
 below_ten : (digit : ℕ) → digit < 10 → is_ascii_digit (48 + digit) ≡ true
 below_ten digit small = grind (arith, nat_tests)
