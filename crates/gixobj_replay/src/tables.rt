@@ -1,0 +1,97 @@
+//! Tables of recorded answers: a row is a question, a tab, and the answer.
+
+use crate::answers::{header_answer, mode_answer, number_answer, order_answer};
+use bstr::ByteSlice;
+use std::alloc::{AllocError, Global};
+use std::io::Write;
+
+/// A file of recorded answers.
+#[derive(Clone, Copy)]
+pub(crate) enum Table {
+    /// Texts read as modes.
+    Modes,
+    /// Numbers taken as modes.
+    ModeNumbers,
+    /// Pairs of names in order.
+    NameOrder,
+    /// Loose headers read.
+    LooseHeaders,
+}
+
+/// All of them.
+pub(crate) const TABLES: [Table; 4] = [
+    Table::Modes,
+    Table::ModeNumbers,
+    Table::NameOrder,
+    Table::LooseHeaders,
+];
+
+impl Table {
+    /// The name that is printed.
+    pub(crate) fn word(self) -> &'static str {
+        match self {
+            Table::Modes => "modes",
+            Table::ModeNumbers => "mode numbers",
+            Table::NameOrder => "name order",
+            Table::LooseHeaders => "loose headers",
+        }
+    }
+
+    /// The file.
+    pub(crate) fn path(self) -> &'static str {
+        match self {
+            Table::Modes => "modes.tsv",
+            Table::ModeNumbers => "mode-numbers.tsv",
+            Table::NameOrder => "name-order.tsv",
+            Table::LooseHeaders => "loose-headers.tsv",
+        }
+    }
+
+    /// What the public call answers, as the file would have it.
+    fn answer(self, alloc: Global, question: &[u8]) -> Result<Vec<u8>, AllocError> {
+        match self {
+            Table::Modes => mode_answer(alloc, question),
+            Table::ModeNumbers => number_answer(alloc, question),
+            Table::NameOrder => order_answer(alloc, question),
+            Table::LooseHeaders => header_answer(alloc, question),
+        }
+    }
+}
+
+/// How many answers agree, and how many there are.
+#[derive(Clone, Copy)]
+pub(crate) struct Count {
+    /// How many agree.
+    pub(crate) same: u64,
+    /// How many there are.
+    pub(crate) all: u64,
+}
+
+/// Compares the answers of a table, and shows each that differs.
+pub(crate) fn replay<W: Write>(
+    alloc: Global,
+    table: Table,
+    text: &[u8],
+    out: &mut W,
+) -> Result<Count, AllocError> {
+    let mut count = Count { same: 0, all: 0 };
+    for line in text.split(|byte| *byte == b'\n') {
+        let Some(tab) = line.rfind_byte(b'\t') else {
+            continue;
+        };
+        if line[0] == b'#' {
+            continue;
+        }
+        let answer = table.answer(alloc, &line[..tab])?;
+        count.all = count.all.saturating_add(1);
+        if answer.as_slice() == &line[tab + 1..] {
+            count.same = count.same.saturating_add(1);
+        } else {
+            let _ = out.write_all(line);
+            let _ = out.write_all(b"\n  here: ");
+            let _ = out.write_all(answer.as_slice());
+            let _ = out.write_all(b"\n");
+        }
+    }
+    Ok(count)
+}
