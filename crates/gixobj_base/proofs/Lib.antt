@@ -12,3 +12,4 @@ mod OctalNumbers
 mod SizeTexts
 mod Splits
 mod TimeTexts
+mod WellFormed

@@ -15,3 +15,4 @@ pub mod Mode
 pub mod ModeNumber
 pub mod Oid
 pub mod Parse
+pub mod WellFormed

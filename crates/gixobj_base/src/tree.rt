@@ -8,6 +8,9 @@ mod entry_mode;
 mod order;
 #[cfg(test)]
 mod tests;
+mod well_formed;
+#[cfg(test)]
+mod well_formed_tests;
 
 pub use entry::Entry;
 pub use entry_kind::EntryKind;

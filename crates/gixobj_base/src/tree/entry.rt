@@ -1,9 +1,9 @@
 //! Entries of trees (gitdatamodel, "trees").
-ghost use Rattle.std.specs.Prelude.{◌≡◌, ◌+◌, length};
+ghost use Rattle.std.specs.Prelude.{◌≡◌, length};
 ghost use Rattle.std.specs.Cmp.Lexicographic.{slice_cmp};
 ghost use Rattle.std.specs.Ordering.{nat_cmp};
 ghost use Rattle.bstr.specs.Owned.{bstring_bytes};
-ghost use Rattle.gixobj_base.specs.Entries.{entry_key};
+ghost use Rattle.gixobj_base.specs.Entries.{entry_key, key_of};
 ghost use Rattle.gixobj_base.specs.EntryOrder.{entry_cmp, entry_cmp_total, entry_equiv, entry_feed, entry_ties, same_entry};
 
 use super::{EntryMode, name_order};
@@ -35,24 +35,29 @@ impl Model for Entry {
 
 impl Entry {
     /// The order of the keys alone.
-    fn key_order(&self, other: &Entry) -> Ordering
+    pub(super) fn key_order(&self, other: &Entry) -> Ordering
         ensures { result ≡ slice_cmp nat_cmp (entry_key self.now) (entry_key other.now) }
     {
-        name_order(
-            self.filename.as_bytes(),
-            self.mode.is_tree(),
-            other.filename.as_bytes(),
-            other.mode.is_tree(),
-        )
-        .then(self.key_len().cmp(&other.key_len()))
+        self.key_order_with(other.filename.as_bytes(), other.mode.is_tree())
     }
 
-    /// The length of the key: of the name, and one more for a tree.
-    fn key_len(&self) -> usize
-        ensures { result ≡ length (entry_key self.now) }
+    /// The order of the key and the key of such a name.
+    pub(super) fn key_order_with(&self, name: &[u8], is_tree: bool) -> Ordering
+        ensures { result ≡ slice_cmp nat_cmp (entry_key self.now) (key_of name.now is_tree) }
     {
-        self.filename.len() + usize::from(self.mode.is_tree())
+        let own_name = self.filename.as_bytes();
+        let own_is_tree = self.mode.is_tree();
+        let names = name_order(own_name, own_is_tree, name, is_tree);
+        let lengths = key_len(own_name, own_is_tree).cmp(&key_len(name, is_tree));
+        names.then(lengths)
     }
+}
+
+/// The length of the key: of the name, and one more for a tree.
+fn key_len(name: &[u8], is_tree: bool) -> usize
+    ensures { result ≡ length (key_of name.now is_tree) }
+{
+    name.len() + usize::from(is_tree)
 }
 
 /// The same mode, name and id.
