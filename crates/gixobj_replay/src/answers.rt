@@ -8,7 +8,7 @@ use std::alloc::{AllocError, Global};
 use std::cmp::Ordering;
 
 /// The bytes of `x` and hex digits; none for another text.
-fn bytes_of(alloc: Global, field: &[u8]) -> Vec<u8> {
+pub(crate) fn bytes_of(alloc: Global, field: &[u8]) -> Vec<u8> {
     match field {
         [b'x', digits @ ..] => match hex::decode(alloc, digits) {
             Ok(bytes) => bytes,
@@ -19,7 +19,7 @@ fn bytes_of(alloc: Global, field: &[u8]) -> Vec<u8> {
 }
 
 /// The bytes of a text.
-fn text_of(alloc: Global, text: &str) -> Result<Vec<u8>, AllocError>
+pub(crate) fn text_of(alloc: Global, text: &str) -> Result<Vec<u8>, AllocError>
     ensures { IfOk result (λ answer. answer.items ≡ text.now) }
 {
     Vec::from_slice(alloc, text.as_bytes())

@@ -2,6 +2,7 @@
 //! file how many answers agree, and the first ones that don't.
 #![tactic(auto)]
 
+mod actors;
 mod answers;
 mod tables;
 

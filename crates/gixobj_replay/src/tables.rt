@@ -1,7 +1,9 @@
 //! Tables of recorded answers: a row is a question, a tab, and the answer.
+ghost use Rattle.std.specs.Prelude.{◌≡◌, ◌++◌, ◌∷◌, IfSome};
 
+use crate::actors::actor_answer;
 use crate::answers::{header_answer, mode_answer, number_answer, order_answer};
-use bstr::ByteSlice;
+use gixobj_base::parse::{split_at_byte, split_at_last_byte};
 use std::alloc::{AllocError, Global};
 use std::io::Write;
 
@@ -16,14 +18,17 @@ pub(crate) enum Table {
     NameOrder,
     /// Loose headers read.
     LooseHeaders,
+    /// Actors' lines read, and the actors written.
+    Actors,
 }
 
 /// All of them.
-pub(crate) const TABLES: [Table; 4] = [
+pub(crate) const TABLES: [Table; 5] = [
     Table::Modes,
     Table::ModeNumbers,
     Table::NameOrder,
     Table::LooseHeaders,
+    Table::Actors,
 ];
 
 impl Table {
@@ -34,6 +39,7 @@ impl Table {
             Table::ModeNumbers => "mode numbers",
             Table::NameOrder => "name order",
             Table::LooseHeaders => "loose headers",
+            Table::Actors => "actors",
         }
     }
 
@@ -44,6 +50,7 @@ impl Table {
             Table::ModeNumbers => "mode-numbers.tsv",
             Table::NameOrder => "name-order.tsv",
             Table::LooseHeaders => "loose-headers.tsv",
+            Table::Actors => "actors.tsv",
         }
     }
 
@@ -54,6 +61,20 @@ impl Table {
             Table::ModeNumbers => number_answer(alloc, question),
             Table::NameOrder => order_answer(alloc, question),
             Table::LooseHeaders => header_answer(alloc, question),
+            Table::Actors => actor_answer(alloc, question),
+        }
+    }
+
+    /// The question of a row and its answer, or none where the line is no row.
+    fn parts(self, line: &[u8]) -> Option<(&[u8], &[u8])>
+        ensures { IfSome result (λ it. line.now ≡ it.0.now ++ 9 ∷ it.1.now) }
+    {
+        if line.starts_with(b"#") {
+            return None;
+        }
+        match self {
+            Table::Actors => split_at_byte(line, b'\t'),
+            _ => split_at_last_byte(line, b'\t'),
         }
     }
 }
@@ -76,15 +97,12 @@ pub(crate) fn replay<W: Write>(
 ) -> Result<Count, AllocError> {
     let mut count = Count { same: 0, all: 0 };
     for line in text.split(|byte| *byte == b'\n') {
-        let Some(tab) = line.rfind_byte(b'\t') else {
+        let Some((question, recorded)) = table.parts(line) else {
             continue;
         };
-        if line[0] == b'#' {
-            continue;
-        }
-        let answer = table.answer(alloc, &line[..tab])?;
+        let answer = table.answer(alloc, question)?;
         count.all = count.all.saturating_add(1);
-        if answer.as_slice() == &line[tab + 1..] {
+        if answer.as_slice() == recorded {
             count.same = count.same.saturating_add(1);
         } else {
             let _ = out.write_all(line);
