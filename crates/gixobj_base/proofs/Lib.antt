@@ -10,6 +10,8 @@ mod ModeTexts
 mod NameKeys
 mod OctalNumbers
 mod SizeTexts
+mod Refusals
 mod Splits
 mod TimeTexts
+mod TreeWrites
 mod WellFormed

@@ -15,4 +15,6 @@ pub mod Mode
 pub mod ModeNumber
 pub mod Oid
 pub mod Parse
+pub mod TreeText
 pub mod WellFormed
+pub mod Writing

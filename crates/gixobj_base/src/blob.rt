@@ -4,6 +4,9 @@ ghost use Rattle.std.specs.Prelude.{◌≡◌, IfOk};
 #[cfg(test)]
 mod tests;
 
+use crate::encode;
+use crate::streams::Sink;
+use crate::{Kind, WriteTo};
 use std::alloc::{AllocError, Global};
 
 /// The content of a file, borrowed.
@@ -46,5 +49,52 @@ impl Blob {
         BlobRef {
             bytes: self.bytes.as_slice(),
         }
+    }
+}
+
+/// A blob is written as its bytes. Nothing is refused.
+impl WriteTo for BlobRef<'_> {
+    ghost use Rattle.gixobj_base.specs.declared.kind.Kind.TheVariants as kind;
+
+    ghost object_kind = { λ _. kind.Blob };
+
+    ghost text = { λ blob. blob.bytes.now };
+
+    ghost refuses = { λ _ _ _. ⊥ };
+
+    fn write_into<S: Sink>(&self, alloc: Global, sink: &mut S) -> Result<(), encode::Error> {
+        sink.put(self.bytes)?;
+        Ok(())
+    }
+
+    fn kind(&self) -> Kind {
+        Kind::Blob
+    }
+
+    fn size(&self) -> Option<u64> {
+        Some(self.bytes.len() as u64)
+    }
+}
+
+/// A blob is written as its bytes. Nothing is refused.
+impl WriteTo for Blob {
+    ghost use Rattle.gixobj_base.specs.declared.kind.Kind.TheVariants as kind;
+
+    ghost object_kind = { λ _. kind.Blob };
+
+    ghost text = { λ blob. blob.bytes.items };
+
+    ghost refuses = { λ _ _ _. ⊥ };
+
+    fn write_into<S: Sink>(&self, alloc: Global, sink: &mut S) -> Result<(), encode::Error> {
+        self.to_ref().write_into(alloc, sink)
+    }
+
+    fn kind(&self) -> Kind {
+        self.to_ref().kind()
+    }
+
+    fn size(&self) -> Option<u64> {
+        self.to_ref().size()
     }
 }

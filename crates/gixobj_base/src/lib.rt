@@ -17,10 +17,12 @@ pub mod kind;
 pub mod laws;
 pub mod parse;
 pub mod streams;
+pub mod traits;
 pub mod tree;
 
 pub use blob::{Blob, BlobRef};
 pub use digest::compute_hash;
 pub use header::Header;
 pub use kind::Kind;
+pub use traits::WriteTo;
 pub use tree::Tree;

@@ -11,6 +11,7 @@ mod tests;
 mod well_formed;
 #[cfg(test)]
 mod well_formed_tests;
+mod write;
 
 pub use entry::Entry;
 pub use entry_kind::EntryKind;
