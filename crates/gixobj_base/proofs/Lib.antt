@@ -1,6 +1,5 @@
 mod ActorLines
 mod ActorTexts
-mod ActorWrites
 mod Digits
 mod EmptyObjects
 mod Headers

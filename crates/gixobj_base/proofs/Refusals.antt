@@ -32,8 +32,8 @@ says_why_behind R Q a b c front F G p step fails error.StartsWithDash s = stops_
 says_why_behind R Q a b c front F G p step fails (error.InvalidRefName fault) s = stops_behind R Q a b c front p step _ s
 says_why_behind R Q a b c front F G p step fails (error.NullbyteInFilename name) s = stops_behind R Q a b c front p step _ s
 says_why_behind R Q a b c front F G p step fails error.IllegalActor s = stops_behind R Q a b c front p step _ s
-says_why_behind R Q a b c front F G p step fails error.OutOfMemory (value , inl s) = (value, inl (stops_behind R Q a b c front p step _ s))
-says_why_behind R Q a b c front F G p step fails error.OutOfMemory (value , inr s) = (value, inr (stops_behind R Q a b c front p step _ s))
+says_why_behind R Q a b c front F G p step fails error.OutOfMemory (value, inl s) = (value, inl (stops_behind R Q a b c front p step _ s))
+says_why_behind R Q a b c front F G p step fails error.OutOfMemory (value, inr s) = (value, inr (stops_behind R Q a b c front p step _ s))
 
 -- an error of a writer of which more is known where it may fail
 pub says_why_weaker : (R : Refused → List ℕ → Type 0) (a b : Option (List ℕ)) (F G : Type 0) → (F → G) → (e : Error) → SaysWhy R a b F e → SaysWhy R a b G e

@@ -45,9 +45,9 @@ pub refused_at : (a b c : Option (List ℕ)) (F G : List ℕ → Type 0) (items 
     → SaysWhy (RefusesEntry e) b c (MayRefuse G (entry_text e)) why → SaysWhy (RefusesTree items) a c (MayRefuse F (tree_text items)) why
 refused_at a b c F G items i e h is p l free why =
     says_why_behind (RefusesEntry e) (RefusesTree items) a b c (tree_text (take i items)) (MayRefuse G (entry_text e)) (MayRefuse F (tree_text items)) p
-      (λ value parts r. record { front = take i items; entry = e; back = drop (i + 1) items; begun = parts; joined = cut_at items i e h is; free = free; refused = r; written = refl })
-      (λ r. rw (text_at items i e h is) (refused_behind F G (tree_text (take i items)) (entry_text e) (tree_text (drop (i + 1) items)) l r))
-      why
+    (λ value parts r. record { front = take i items; entry = e; back = drop (i + 1) items; begun = parts; joined = cut_at items i e h is; free = free; refused = r; written = refl })
+    (λ r. rw (text_at items i e h is) (refused_behind F G (tree_text (take i items)) (entry_text e) (tree_text (drop (i + 1) items)) l r))
+    why
 
 front_shorter : (items : List EntryView) (n : ℕ) → length (tree_text (take n items)) ≤ length (tree_text items)
 front_shorter items n =

@@ -6,8 +6,8 @@ use Rattle.gixobj_base.specs.Actor.{HasIllegalByte, IsWritable, actor_text}
 use Rattle.gixobj_base.specs.Date.{time_text}
 use Rattle.gixobj_base.specs.declared.actor.Signature.{Signature}
 use Rattle.gixobj_base.specs.declared.actor.SignatureRef.{SignatureRef}
-use Rattle.gixobj_base.specs.declared.actor.WriteError.{WriteError}
-use Rattle.gixobj_base.specs.declared.actor.WriteError.TheVariants.{IllegalActor, Writer}
+use Rattle.gixobj_base.specs.declared.encode.Error.{Error}
+use Rattle.gixobj_base.specs.declared.encode.Error.TheVariants.{IllegalActor, Writer}
 
 -- a borrowed actor as it is written
 abbrev pub borrowed_text : SignatureRef → List ℕ
@@ -26,6 +26,7 @@ abbrev pub IsIllegalActor : List ℕ → List ℕ → Type 0
 IsIllegalActor name email = HasIllegalByte name ⊎ HasIllegalByte email
 
 -- why an actor is not written: it cannot be, and nothing is written; or the writer may refuse it
-abbrev pub RefusesActor : List ℕ → List ℕ → Type 0 → Type 0 → WriteError → Type 0
+abbrev pub RefusesActor : List ℕ → List ℕ → Type 0 → Type 0 → Error → Type 0
 RefusesActor name email unchanged may_refuse IllegalActor = IsIllegalActor name email × unchanged
 RefusesActor name email unchanged may_refuse (Writer error) = IsLegalActor name email × may_refuse
+RefusesActor name email unchanged may_refuse other = ⊥

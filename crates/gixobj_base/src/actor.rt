@@ -1,6 +1,6 @@
 //! Actors: who made an object, and when (`git-commit-tree`, "Commit Information"; `git-fast-import`,
 //! "author" and "committer").
-ghost use Rattle.std.specs.Prelude.{◌≡◌, ◌<◌, ◌+◌, ◌-◌, ◌*◌, ◌^◌, ◌++◌, ℕ, List, length, IfErr, IfNone, IfOk, IfSome, MatchBool, OnErr, OnOk};
+ghost use Rattle.std.specs.Prelude.{◌≡◌, ◌<◌, ◌+◌, ◌-◌, ◌*◌, ◌^◌, ◌++◌, ℕ, List, length, IfErr, IfNone, IfOk, IfSome, MatchBool, OnErr, OnOk, ⊤};
 ghost use Rattle.std.specs.Io.KnownBytes.{Appends};
 ghost use Rattle.std.specs.List.{AllPass};
 ghost use Rattle.std.specs.Option.{SomeIff};
@@ -9,6 +9,7 @@ ghost use Rattle.bstr.specs.Owned.{bstring_bytes};
 ghost use Rattle.gixobj_base.specs.Actor.{EndsTime, IsActorLine, IsGap, IsNameOf, IsNoActorLine, IsTimeOrDefault, IsWritable, HasIllegalByte, actor_text, is_time_byte as is_time_byte_of, trimmed};
 ghost use Rattle.gixobj_base.specs.ActorWriting.{IsIllegalActor, IsLegalActor, RefusesActor, borrowed_text, owned_text};
 ghost use Rattle.gixobj_base.specs.Date.{IsNoTimeText, IsTimeText, time_text};
+ghost use Rattle.gixobj_base.specs.Writing.{Lasts, MayRefuse};
 ghost use Rattle.gixobj_base.specs.declared.decode.Error.TheVariants.{Malformed};
 
 #[cfg(test)]
@@ -16,11 +17,13 @@ mod tests;
 
 use crate::date::{Time, TimeBuf, parse_header};
 use crate::decode;
+use crate::encode::Error;
 use crate::parse::{has_byte, split_at_byte, split_at_last_byte};
-use crate::streams::Sink;
+use crate::streams::{Sink, ToWrite};
 use bstr::{BStr, BString, ByteSlice};
 use std::alloc::{AllocError, Global};
 use std::io;
+use std::io::Write;
 
 /// An actor and a time, borrowed: as they stand in a line.
 #[derive(Clone, Copy, Debug, PartialEq, Eq, PartialOrd, Ord, Hash)]
@@ -42,27 +45,6 @@ pub struct Signature {
     pub email: BString,
     /// The time.
     pub time: Time,
-}
-
-/// The refusal of a writer of actors.
-#[derive(Debug, Drop, thiserror::Error)]
-pub enum WriteError {
-    /// The writer failed.
-    #[error("the writer failed: {0}")]
-    Writer(io::Error),
-    /// The name or the email has a `<`, a `>` or a newline.
-    #[error("a name or an email with `<`, `>` or a newline")]
-    IllegalActor,
-}
-
-impl From<io::Error> for WriteError {
-    ghost use Rattle.gixobj_base.specs.declared.actor.WriteError.TheVariants.{Writer};
-
-    ghost from_gives = { λ e refusal. refusal ≡ Writer e };
-
-    fn from(error: io::Error) -> WriteError {
-        WriteError::Writer(error)
-    }
 }
 
 /// Initialization
@@ -160,17 +142,27 @@ impl SignatureRef<'_> {
     /// Writes the name, ` <`, the email, `> ` and the text of the time.
     ///
     /// `IllegalActor` before any byte is written, where the name or the email has a `<`, a `>` or a
-    /// newline; `Writer` where the writer refused bytes.
-    pub fn write_to<S: Sink>(&self, sink: &mut S) -> Result<(), WriteError>
+    /// newline; `Writer` where the writer failed. It takes no memory.
+    pub fn write_to<W: Write>(&self, out: &mut W) -> Result<(), Error>
+        ensures ok { OnOk result (IsLegalActor (bstr_bytes self.now.name) (bstr_bytes self.now.email)
+            × Appends (W.contents out.old) (W.contents out.new) (borrowed_text self.now)) }
+        ensures refusal { IfErr result (RefusesActor (bstr_bytes self.now.name) (bstr_bytes self.now.email) (out.new ≡ out.old) ⊤) }
+    {
+        self.write_into(&mut ToWrite(out))
+    }
+
+    /// Puts what [`SignatureRef::write_to`] writes into a sink, and refuses it as that does.
+    pub fn write_into<S: Sink>(&self, sink: &mut S) -> Result<(), Error>
         ensures ok { OnOk result (IsLegalActor (bstr_bytes self.now.name) (bstr_bytes self.now.email)
             × Appends (S.held sink.old) (S.held sink.new) (borrowed_text self.now)) }
         ensures refusal { IfErr result (RefusesActor (bstr_bytes self.now.name) (bstr_bytes self.now.email) (sink.new ≡ sink.old)
-            (S.may_refuse sink.old (borrowed_text self.now))) }
+            (MayRefuse (S.may_refuse sink.old) (borrowed_text self.now))) }
+        ensures lasting { OnOk result (Lasts (S.may_refuse sink.old) (S.may_refuse sink.new) (borrowed_text self.now)) }
         ensures same_loan { S.loan sink.new ≡ S.loan sink.old }
     {
         let (name, email) = (self.name.as_bytes(), self.email.as_bytes());
         if !is_legal_actor(name, email) {
-            return Err(WriteError::IllegalActor);
+            return Err(Error::IllegalActor);
         }
         put_actor(name, email, self.time.as_bytes(), sink)?;
         Ok(())
@@ -193,16 +185,26 @@ impl Signature {
     /// Writes the name, ` <`, the email, `> ` and the text of the time.
     ///
     /// `IllegalActor` before any byte is written, where the name or the email has a `<`, a `>` or a
-    /// newline; `Writer` where the writer refused bytes.
-    pub fn write_to<S: Sink>(&self, sink: &mut S) -> Result<(), WriteError>
+    /// newline; `Writer` where the writer failed. It takes no memory.
+    pub fn write_to<W: Write>(&self, out: &mut W) -> Result<(), Error>
+        ensures ok { OnOk result (IsLegalActor (bstring_bytes self.now.name) (bstring_bytes self.now.email)
+            × Appends (W.contents out.old) (W.contents out.new) (owned_text self.now)) }
+        ensures refusal { IfErr result (RefusesActor (bstring_bytes self.now.name) (bstring_bytes self.now.email) (out.new ≡ out.old) ⊤) }
+    {
+        self.write_into(&mut ToWrite(out))
+    }
+
+    /// Puts what [`Signature::write_to`] writes into a sink, and refuses it as that does.
+    pub fn write_into<S: Sink>(&self, sink: &mut S) -> Result<(), Error>
         ensures ok { OnOk result (IsLegalActor (bstring_bytes self.now.name) (bstring_bytes self.now.email)
             × Appends (S.held sink.old) (S.held sink.new) (owned_text self.now)) }
         ensures refusal { IfErr result (RefusesActor (bstring_bytes self.now.name) (bstring_bytes self.now.email) (sink.new ≡ sink.old)
-            (S.may_refuse sink.old (owned_text self.now))) }
+            (MayRefuse (S.may_refuse sink.old) (owned_text self.now))) }
+        ensures lasting { OnOk result (Lasts (S.may_refuse sink.old) (S.may_refuse sink.new) (owned_text self.now)) }
         ensures same_loan { S.loan sink.new ≡ S.loan sink.old }
     {
         let mut time_buf = TimeBuf::new();
-        self.to_ref(&mut time_buf).write_to(sink)
+        self.to_ref(&mut time_buf).write_into(sink)
     }
 
     /// How many bytes [`Signature::write_to`] writes, or none past 64 bits.
@@ -231,7 +233,8 @@ fn is_writable(text: &[u8]) -> bool
 /// Writes an actor, whatever its bytes are.
 fn put_actor<S: Sink>(name: &[u8], email: &[u8], time: &[u8], sink: &mut S) -> io::Result<()>
     ensures ok { OnOk result (Appends (S.held sink.old) (S.held sink.new) (actor_text name.now email.now time.now)) }
-    ensures err { OnErr result (S.may_refuse sink.old (actor_text name.now email.now time.now)) }
+    ensures err { OnErr result (MayRefuse (S.may_refuse sink.old) (actor_text name.now email.now time.now)) }
+    ensures lasting { OnOk result (Lasts (S.may_refuse sink.old) (S.may_refuse sink.new) (actor_text name.now email.now time.now)) }
     ensures same_loan { S.loan sink.new ≡ S.loan sink.old }
 {
     sink.put(name)?;

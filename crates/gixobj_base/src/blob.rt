@@ -4,9 +4,8 @@ ghost use Rattle.std.specs.Prelude.{◌≡◌, IfOk};
 #[cfg(test)]
 mod tests;
 
-use crate::encode;
 use crate::streams::Sink;
-use crate::{Kind, WriteTo};
+use crate::{Kind, WriteTo, encode};
 use std::alloc::{AllocError, Global};
 
 /// The content of a file, borrowed.

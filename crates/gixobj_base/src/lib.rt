@@ -1,5 +1,5 @@
 //! Git's objects as bytes, the ground floor: object ids, the kinds of objects, the header of a loose
-//! object, actors and times, read and written.
+//! object, actors and times, read and written; trees and blobs, written.
 //!
 //! A loose object is its header, `<kind> <size>` and a zero byte, and then its content. Its id is
 //! the SHA-1 or SHA-256 digest of all of that (`gitformat-loose`, "Loose object format").
@@ -15,6 +15,8 @@ pub mod hash;
 mod header;
 pub mod kind;
 pub mod laws;
+#[cfg(test)]
+mod limited;
 pub mod parse;
 pub mod streams;
 pub mod traits;

@@ -5,6 +5,8 @@ ghost use Rattle.std.specs.Option.{SomeIff};
 ghost use Rattle.gixobj_base.specs.Encode.{loose_header_text};
 ghost use Rattle.gixobj_base.specs.Writing.{Lasts, MayRefuse, RefusesNothing, SaysWhy};
 
+#[cfg(test)]
+mod tests;
 
 use crate::streams::{Sink, ToWrite};
 use crate::{Kind, encode};

@@ -4,9 +4,9 @@ ghost use Rattle.std.specs.String.{string_bytes};
 ghost use Rattle.hex.specs.Hex.{encode_lower};
 
 use crate::answers::{bytes_of, text_of};
-use gixobj_base::actor::{Signature, SignatureRef, WriteError};
+use gixobj_base::actor::{Signature, SignatureRef};
 use gixobj_base::date::Time;
-use gixobj_base::decode;
+use gixobj_base::{decode, encode};
 use std::alloc::{AllocError, Global};
 
 /// What the public calls say of an actor's line.
@@ -86,14 +86,14 @@ fn owned_written(alloc: Global, actor: &Signature) -> Result<String, AllocError>
 /// How writing went, and the bytes that were written.
 fn written_text(
     alloc: Global,
-    outcome: Result<(), WriteError>,
+    outcome: Result<(), encode::Error>,
     written: &[u8],
 ) -> Result<String, AllocError> {
     let bytes = hex_of(alloc, written)?;
     let word = match outcome {
         Ok(()) => "ok",
-        Err(WriteError::IllegalActor) => "err IllegalActor",
-        Err(WriteError::Writer(_)) => "err Writer",
+        Err(encode::Error::IllegalActor) => "err IllegalActor",
+        Err(_) => "err another",
     };
     format!(in alloc; "{word} {bytes}")
 }

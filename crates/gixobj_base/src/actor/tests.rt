@@ -1,33 +1,13 @@
 //! Actor lines, as they stand in objects that `git` reads.
 
-use super::{Signature, SignatureRef, WriteError};
+use super::{Signature, SignatureRef};
 use crate::date::{Time, TimeBuf};
 use crate::decode;
-use crate::streams::ToWrite;
+use crate::encode::Error;
+use crate::limited::Limited;
 use bstr::{BStr, BString};
 use std::alloc::Global;
-use std::io;
-use std::io::{ErrorKind, Write};
 use std::test::Fail;
-
-/// A writer with room for so many bytes.
-#[derive(Drop)]
-struct Room(usize);
-
-impl Write for Room {
-    fn write(&mut self, buf: &[u8]) -> io::Result<usize> {
-        if self.0 == 0 {
-            return Err(io::Error::from(ErrorKind::StorageFull));
-        }
-        let taken = self.0.min(buf.len());
-        self.0 -= taken;
-        Ok(taken)
-    }
-
-    fn flush(&mut self) -> io::Result<()> {
-        Ok(())
-    }
-}
 
 /// The actor that a line names, and what is left of it.
 fn read(line: &[u8]) -> Option<(SignatureRef<'_>, &[u8])> {
@@ -43,8 +23,8 @@ fn written(alloc: Global, actor: &Signature) -> Result<Option<Vec<u8>>, Fail> {
     let mut out = Vec::new(alloc);
     match actor.write_to(&mut out) {
         Ok(()) => Ok(Some(out)),
-        Err(WriteError::IllegalActor) => Ok(None),
-        Err(WriteError::Writer(_)) => Err("a writer over memory")?,
+        Err(Error::IllegalActor) => Ok(None),
+        Err(_) => Err("a writer over memory")?,
     }
 }
 
@@ -306,14 +286,19 @@ fn owned_and_borrowed_again(rt: HostRuntime) -> Result<(), Fail> {
 
 #[test]
 fn writers_that_fail(rt: HostRuntime) -> Result<(), Fail> {
+    let alloc = rt.alloc();
     let line: &[u8] = b"A <a@b> 1 +0530";
     let (actor, _) = read(line).ok_or("an actor")?;
     for room in 0..line.len() {
-        match actor.write_to(&mut ToWrite(&mut Room(room))) {
-            Err(WriteError::Writer(_)) => {}
-            _ => return Err("a writer without room")?,
-        }
+        let held = Vec::new(alloc);
+        let mut writer = Limited { held, room };
+        assert!(rt;
+            matches!(&actor.write_to(&mut writer), Err(Error::Writer(_))),
+            "{room}"
+        );
+        assert!(rt; writer.held.as_slice() == &line[..room], "{room}");
     }
-    assert!(rt; actor.write_to(&mut ToWrite(&mut Room(line.len()))).is_ok());
+    let (held, room) = (Vec::new(alloc), line.len());
+    assert!(rt; actor.write_to(&mut Limited { held, room }).is_ok());
     Ok(())
 }

@@ -6,6 +6,9 @@ ghost use Rattle.gixobj_base.specs.Parse.{IsFree};
 ghost use Rattle.gixobj_base.specs.TreeText.{RefusesEntry, entry_text};
 ghost use Rattle.gixobj_base.specs.Writing.{Lasts, MayRefuse, SaysWhy};
 
+#[cfg(test)]
+mod tests;
+
 use super::{Entry, Tree};
 use crate::encode::Error;
 use crate::parse::has_byte;

@@ -11,4 +11,4 @@ pub returns-clause-refusal : goal.returns-clause-refusal
 returns-clause-refusal g c =
     let text = g.Self.WriteTo.text c.args.self.now in
     MatchResult-weaker c.write_into.result c.write_into.ensures.refusal (λ _ fact. fact)
-      (says_why_weaker (g.Self.WriteTo.refuses c.args.self.now) (Some c.args.out.now.items) (Some c.write_into.new.sink.items) (MayRefuse (λ bytes. vec_capacity c.args.out.now < vec_len c.args.out.now + length bytes) text) (vec_capacity c.args.out.now < vec_len c.args.out.now + length text) (λ refused. rw (← append-nil text) (refused [])))
+    (says_why_weaker (g.Self.WriteTo.refuses c.args.self.now) (Some c.args.out.now.items) (Some c.write_into.new.sink.items) (MayRefuse (λ bytes. vec_capacity c.args.out.now < vec_len c.args.out.now + length bytes) text) (vec_capacity c.args.out.now < vec_len c.args.out.now + length text) (λ refused. rw (← append-nil text) (refused [])))

@@ -14,5 +14,5 @@ returns-in_err-name-clause-refusal g c =
     let has_zero : Contains c.args.entry.now.name 0 = search rules in
     let mode : c.as_bytes-2.result.now ≡ mode_text c.args.entry.now.mode = search rules in
     let put : Appends (g.S.Sink.held c.args.sink.now) (g.S.Sink.held c.put-2.new.self) (before_name c.args.entry.now) =
-      rw (← mode) (appends_more (g.S.Sink.held c.args.sink.now) (g.S.Sink.held c.put.new.self) (g.S.Sink.held c.put-2.new.self) c.as_bytes-2.result.now (32 ∷ []) c.in_ok-put.ensures.ok c.in_ok-put-2.ensures.ok) in
+    rw (← mode) (appends_more (g.S.Sink.held c.args.sink.now) (g.S.Sink.held c.put.new.self) (g.S.Sink.held c.put-2.new.self) c.as_bytes-2.result.now (32 ∷ []) c.in_ok-put.ensures.ok c.in_ok-put-2.ensures.ok) in
     rw (p.1, p.2) (c.args.entry.now.name, inr (before_name c.args.entry.now, (has_zero, refl, refl), put))
