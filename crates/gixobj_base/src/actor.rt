@@ -191,7 +191,8 @@ impl Signature {
             × Appends (W.contents out.old) (W.contents out.new) (owned_text self.now)) }
         ensures refusal { IfErr result (RefusesActor (bstring_bytes self.now.name) (bstring_bytes self.now.email) (out.new ≡ out.old) ⊤) }
     {
-        self.write_into(&mut ToWrite(out))
+        let mut time_buf = TimeBuf::new();
+        self.to_ref(&mut time_buf).write_to(out)
     }
 
     /// Puts what [`Signature::write_to`] writes into a sink, and refuses it as that does.
