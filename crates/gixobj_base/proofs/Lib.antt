@@ -8,8 +8,8 @@ mod HexTexts
 mod ModeTexts
 mod NameKeys
 mod OctalNumbers
-mod SizeTexts
 mod Refusals
+mod SizeTexts
 mod Splits
 mod TimeTexts
 mod TreeWrites

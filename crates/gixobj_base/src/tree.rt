@@ -9,8 +9,6 @@ mod order;
 #[cfg(test)]
 mod tests;
 mod well_formed;
-#[cfg(test)]
-mod well_formed_tests;
 mod write;
 
 pub use entry::Entry;

@@ -3,6 +3,9 @@ ghost use Rattle.std.specs.Prelude.{MatchBool};
 ghost use Rattle.gixobj_base.specs.Entries.{ComesBefore, EachLater, IsEntryName, IsWellFormed};
 ghost use Rattle.gixobj_base.specs.WellFormed.{AreApart, HasKey, HasNamesake, HaveEntryNames};
 
+#[cfg(test)]
+mod tests;
+
 use super::{Entry, Tree};
 use crate::parse::has_byte;
 

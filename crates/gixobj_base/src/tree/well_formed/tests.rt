@@ -1,7 +1,8 @@
 //! Which trees are well-formed. The answers are those of `git fsck --strict`, broken links apart.
 
-use super::{Entry, EntryKind, Tree};
+use crate::Tree;
 use crate::hash::{Kind, ObjectId};
+use crate::tree::{Entry, EntryKind};
 use bstr::BString;
 use std::alloc::{AllocError, Global};
 use std::test::Fail;
