@@ -1,5 +1,5 @@
 -- What a writer appends and refuses behind what was written before.
-use Rattle.std.proofs.Common.{◌≡◌, ℕ, List, ◌++◌, Option, Some, None, sym, append_assoc, inl, inr}
+use Rattle.std.proofs.Common.{ℕ, List, ◌++◌, Option, Some, None, append_assoc, inl, inr}
 use Rattle.std.specs.Io.KnownBytes.{Appends}
 use Rattle.gixobj_base.specs.declared.encode.Error.{Error}
 use Rattle.gixobj_base.specs.declared.encode.Error.TheVariants as error

@@ -1,5 +1,5 @@
 -- Writing a tree entry by entry.
-use Rattle.std.proofs.Common.{◌≡◌, ℕ, ◌+◌, ◌<◌, ◌≤◌, ◌^◌, List, [], ◌∷◌, ◌++◌, length, get_or, take, drop, All, Option, refl, ap, arith, sym, ◌∙◌, length-append, append_assoc}
+use Rattle.std.proofs.Common.{◌≡◌, ℕ, ◌+◌, ◌<◌, ◌≤◌, ◌^◌, List, [], ◌∷◌, ◌++◌, length, get_or, take, drop, All, Option, refl, ap, arith, sym, ◌∙◌, length-append}
 use Rattle.std.specs.Prelude.{Contains}
 use Rattle.std.specs.Io.KnownBytes.{Appends}
 use Rattle.std.proofs.lemmas.List.{append-nil, take_all, take_more, take-append-drop, drop_more}
@@ -10,7 +10,7 @@ use Rattle.gixobj_base.specs.Parse.{IsFree}
 use Rattle.gixobj_base.specs.TreeText.{RefusesEntry, RefusesTree, entry_text, tree_text}
 use Rattle.gixobj_base.specs.Writing.{Lasts, MayRefuse, Refused, SaysWhy}
 use Rattle.gixobj_base.specs.declared.encode.Error.{Error}
-use Rattle.gixobj_base.proofs.Refusals.{appends_more, lasts_more, refused_behind, says_why_behind}
+use Rattle.gixobj_base.proofs.Refusals.{refused_behind, says_why_behind}
 
 -- no name has a zero byte
 abbrev pub AreFree : List EntryView → Type 0

@@ -1,5 +1,5 @@
 -- What writers of objects write, and what they refuse.
-use Rattle.std.specs.Prelude.{◌≡◌, ◌⊎◌, ℕ, List, ◌++◌, Option}
+use Rattle.std.specs.Prelude.{◌⊎◌, ℕ, List, ◌++◌, Option}
 use Rattle.std.specs.Io.KnownBytes.{Appends}
 use Rattle.bstr.specs.Owned.{bstring_bytes}
 use Rattle.gixobj_base.specs.declared.encode.Error.{Error}

@@ -1,5 +1,5 @@
 -- A list that may refuse the text, whatever follows, has no room for it.
-use Rattle.std.proofs.Common.{◌<◌, ◌+◌, List, ℕ, [], length, Some}
+use Rattle.std.proofs.Common.{◌<◌, ◌+◌, [], length, Some}
 use Rattle.std.specs.Prelude.{vec_capacity, vec_len}
 use Rattle.std.proofs.lemmas.List.{append-nil}
 use Rattle.std.proofs.lemmas.Result.{MatchResult-weaker}
