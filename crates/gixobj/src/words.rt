@@ -1,7 +1,8 @@
 //! What the words after the program's name ask for.
-ghost use Rattle.std.specs.Prelude.{IfSome, IfNone, map};
+ghost use Rattle.std.specs.Prelude.{◌≡◌, ◌⊎◌, IfErr, IfSome, IfNone, map};
 ghost use Rattle.std.specs.String.{string_bytes};
 ghost use Rattle.gixobj.specs.Words.{AsksForNothing, AsksToShow};
+ghost use Rattle.gixobj.specs.declared.refusal.Refusal.TheVariants.{OutOfMemory, Usage};
 
 use crate::refusal::Refusal;
 use gixobj_base::hash;
@@ -24,8 +25,13 @@ pub fn show_hash(words: &[String]) -> Option<hash::Kind>
     }
 }
 
-/// The words after the program's name. One that isn't UTF-8 asks for nothing that the program does.
-pub fn words_of_process<R: Env + AllocGlobal>(rt: &R) -> Result<Vec<String>, Refusal> {
+/// The words after the program's name.
+///
+/// `Usage` where one isn't UTF-8, since it asks for nothing that the program does; `OutOfMemory` where
+/// there was none for the words.
+pub fn words_of_process<R: Env + AllocGlobal>(rt: &R) -> Result<Vec<String>, Refusal>
+    ensures refusal { IfErr result (λ refusal. (refusal ≡ Usage) ⊎ (refusal ≡ OutOfMemory)) }
+{
     let mut args = match env::args(rt) {
         Ok(args) => args,
         Err(error) if error.kind() == ErrorKind::OutOfMemory => return Err(Refusal::OutOfMemory),
