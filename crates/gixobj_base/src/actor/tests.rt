@@ -290,7 +290,7 @@ fn writers_that_fail(rt: HostRuntime) -> Result<(), Fail> {
     let line: &[u8] = b"A <a@b> 1 +0530";
     let (actor, _) = read(line).ok_or("an actor")?;
     for room in 0..line.len() {
-        let held = Vec::new(alloc);
+        let held = Vec::with_capacity(alloc, line.len())?;
         let mut writer = Limited { held, room };
         assert!(rt;
             matches!(&actor.write_to(&mut writer), Err(Error::Writer(_))),

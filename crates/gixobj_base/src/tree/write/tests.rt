@@ -237,7 +237,7 @@ fn writers_that_fail(rt: HostRuntime) -> Result<(), Fail> {
     let tree = sorted_tree(alloc, &SHA1)?;
     let text = written(alloc, &tree)?;
     for room in 0..text.len() {
-        let held = Vec::new(alloc);
+        let held = Vec::with_capacity(alloc, text.len())?;
         let mut writer = Limited { held, room };
         assert!(rt;
             matches!(&tree.write_to(alloc, &mut writer), Err(Error::Writer(_))),
