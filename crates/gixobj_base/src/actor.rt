@@ -160,12 +160,19 @@ impl SignatureRef<'_> {
         ensures lasting { OnOk result (Lasts (S.may_refuse sink.old) (S.may_refuse sink.new) (borrowed_text self.now)) }
         ensures same_loan { S.loan sink.new ≡ S.loan sink.old }
     {
-        let (name, email) = (self.name.as_bytes(), self.email.as_bytes());
-        if !is_legal_actor(name, email) {
+        if !self.is_legal() {
             return Err(Error::IllegalActor);
         }
+        let (name, email) = (self.name.as_bytes(), self.email.as_bytes());
         put_actor(name, email, self.time.as_bytes(), sink)?;
         Ok(())
+    }
+
+    /// Whether it can be written.
+    fn is_legal(&self) -> bool
+        ensures { MatchBool result (IsLegalActor (bstr_bytes self.now.name) (bstr_bytes self.now.email)) (IsIllegalActor (bstr_bytes self.now.name) (bstr_bytes self.now.email)) }
+    {
+        is_writable(self.name.as_bytes()) && is_writable(self.email.as_bytes())
     }
 
     /// How many bytes [`SignatureRef::write_to`] writes, or none past 64 bits.
@@ -215,13 +222,6 @@ impl Signature {
         let mut time_buf = TimeBuf::new();
         self.to_ref(&mut time_buf).size()
     }
-}
-
-/// Whether an actor of this name and this email can be written.
-fn is_legal_actor(name: &[u8], email: &[u8]) -> bool
-    ensures { MatchBool result (IsLegalActor name.now email.now) (IsIllegalActor name.now email.now) }
-{
-    is_writable(name) && is_writable(email)
 }
 
 /// Whether a name or an email can be written: it has no `<`, no `>` and no newline.
