@@ -1,0 +1,36 @@
+-- What an edit makes of the entries of a directory, and which edits are refused.
+use Rattle.std.specs.Prelude.{◌≡◌, ◌≢◌, ◌&&◌, ℕ, Bool, not, List, [], ◌∷◌, ◌++◌, Contains, Err, Result, nat_eq}
+use Rattle.std.specs.List.{filter}
+use Rattle.std.specs.Cmp.Lexicographic.{pointwise, slice_cmp}
+use Rattle.std.specs.Ordering.{is_lt, nat_cmp}
+use Rattle.gixobj_base.specs.Entries.{EntryView, entry_key}
+use Rattle.gixobj_base.specs.declared.hash.object_id.ObjectId.{ObjectId}
+use Rattle.gix_object.specs.Files.{Path, is_null}
+
+abbrev pub same_name : List ℕ → List ℕ → Bool
+same_name = pointwise nat_eq
+
+abbrev pub comes_before : EntryView → EntryView → Bool
+comes_before x y = is_lt (slice_cmp nat_cmp (entry_key x) (entry_key y))
+
+-- the entries of other names
+abbrev pub without : List ℕ → List EntryView → List EntryView
+without name entries = filter (λ e. not (same_name e.name name)) entries
+
+-- the entry, at its key's place among those of other names
+abbrev pub with_entry : EntryView → List EntryView → List EntryView
+with_entry x entries = filter (λ e. comes_before e x) (without x.name entries) ++ x ∷ filter (λ e. not (comes_before e x)) (without x.name entries)
+
+-- the entries without those of null ids
+abbrev pub kept : List EntryView → List EntryView
+kept entries = filter (λ e. not (is_null e.id)) entries
+
+-- an upsert at a path of at most one name
+abbrev pub upserted_entries : Path → ℕ → ObjectId → List EntryView → List EntryView
+upserted_entries [] mode id entries = entries
+upserted_entries (name ∷ path) mode id entries = with_entry (record { mode = mode; name = name; id = id }) entries
+
+-- a removal at a path of at most one name
+abbrev pub removed_entries : Path → List EntryView → List EntryView
+removed_entries [] entries = entries
+removed_entries (name ∷ path) entries = without name entries

@@ -1,0 +1,6 @@
+pub mod Editing
+pub mod Files
+pub mod HandingOut
+pub mod History
+pub mod Opening
+pub mod State

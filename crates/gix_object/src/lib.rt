@@ -1,0 +1,4 @@
+//! Git's objects as plain bytes, and an editor of trees.
+#![tactic(auto)]
+
+pub mod tree;

@@ -1,0 +1,5 @@
+//! Trees (gitdatamodel, "trees").
+
+pub mod editor;
+
+pub use gixobj_base::tree::{Entry, EntryKind, EntryMode, name_order};
