@@ -1,8 +1,9 @@
 //! An editor of trees.
 ghost use Rattle.std.specs.Prelude.{◌≡◌};
 
-use gixobj_base::Tree;
-use gixobj_base::hash;
+mod entries;
+
+use gixobj_base::{Tree, hash};
 use std::marker::Model;
 
 /// An editor of a tree.
