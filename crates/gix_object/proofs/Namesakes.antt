@@ -2,7 +2,7 @@
 use Rattle.std.proofs.Common.{◌≡◌, ◌≢◌, ◌∙◌, ◌<◌, ◌≤◌, ◌+◌, ℕ, Bool, true, false, not, cond, List, [], ◌∷◌, length, Some, None, nat_lt, refl, sym, ap, one-add, arith}
 use Rattle.std.specs.Cmp.Lexicographic.{bytes_decides}
 use Rattle.std.specs.List.{AllByRecursion, filter, position, position_or_len, remove}
-use borrow.Author.Tests.{ltb-false, ltb-true}
+use Rattle.std.proofs.lemmas.Bool.{false_from_ne_true, ltb-false, ltb-true}
 use Rattle.gixobj_base.specs.Entries.{EachLater, EntryView}
 use Rattle.gix_object.specs.Editing.{same_name, without}
 use Rattle.gix_object.proofs.Sublists.{all_weaker}
@@ -33,15 +33,11 @@ module _ {X : Type 0} (p : X → Bool) where
         | false ↦ λ l. ap (λ ys. x ∷ ys) (none_passes xs (omega (arith, l)))
       ] high
 
-differs : (b : Bool) → (b ≢ true) → b ≡ false
-differs true f = absurd (f refl)
-differs false f = refl
-
 named_once : (name : List ℕ) (es : List EntryView) → EachLater (λ x y. x.name ≢ y.name) es → PassOnce (λ e. same_name e.name name) es
 named_once name [] apart = tt
 named_once name (e ∷ es) apart = (
   all_weaker (λ y. e.name ≢ y.name) (λ y. same_name e.name name ≡ true → same_name y.name name ≡ false)
-      (λ y other same. differs (same_name y.name name) (λ too. other ((bytes_decides e.name name).0 same ∙ sym ((bytes_decides y.name name).0 too)))) es apart.0,
+      (λ y other same. false_from_ne_true (same_name y.name name) (λ too. other ((bytes_decides e.name name).0 same ∙ sym ((bytes_decides y.name name).0 too)))) es apart.0,
   named_once name es apart.1,
 )
 

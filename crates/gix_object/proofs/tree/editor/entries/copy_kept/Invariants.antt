@@ -1,0 +1,6 @@
+use Rattle.std.proofs.Common.{◌≡◌, ◌++◌, drop}
+use Rattle.gix_object.specs.Editing.{kept}
+use Rattle.gix_object.proofs.tree.editor.entries.copy_kept.Given as goal
+
+abbrev pub invariant-loop-entry : goal.invariant-loop-entry
+invariant-loop-entry l = l.copies.items ++ kept (drop l.entry-index l.entries) ≡ kept l.entries
