@@ -1,0 +1,107 @@
+-- The files of edited entries: of an entry put in, of entries taken out, and of the entries that are kept.
+use Rattle.std.proofs.Common.{◌≡◌, ◌≢◌, ◌⊎◌, ◌↔◌, inl, inr, ⊎_elim, ℕ, zero, suc, ◌-◌, ◌≤◌, Bool, true, false, not, cond, List, [], ◌∷◌, ◌++◌, length, refl, sym, ap, subst, ◌∙◌, arith}
+use Rattle.std.specs.List.{filter}
+use Rattle.std.specs.Cmp.Lexicographic.{bytes_decides}
+use Rattle.gixobj_base.specs.Entries.{EntryView}
+use Rattle.gix_object.specs.Files.{Begins, Below, Files, Has, Removed, SameFiles, Table, Upserted, is_null}
+use Rattle.gix_object.specs.Editing.{comes_before, kept, same_name, with_entry, without}
+
+-- what an appended list has
+Has-append : (xs ys : List EntryView) (e : EntryView) → Has (xs ++ ys) e → Has xs e ⊎ Has ys e
+Has-append [] ys e h = inr h
+Has-append (x ∷ xs) ys e (inl p) = inl (inl p)
+Has-append (x ∷ xs) ys e (inr h) = ⊎_elim (λ k. inl (inr k)) inr (Has-append xs ys e h)
+
+Has-left : (xs ys : List EntryView) (e : EntryView) → Has xs e → Has (xs ++ ys) e
+Has-left (x ∷ xs) ys e (inl p) = inl p
+Has-left (x ∷ xs) ys e (inr h) = inr (Has-left xs ys e h)
+Has-left [] ys e h = absurd h
+
+Has-right : (xs ys : List EntryView) (e : EntryView) → Has ys e → Has (xs ++ ys) e
+Has-right [] ys e h = h
+Has-right (x ∷ xs) ys e h = inr (Has-right xs ys e h)
+
+-- what a filter keeps
+Has-kept : (p : EntryView → Bool) (xs : List EntryView) (e : EntryView) → Has (filter p xs) e → Has xs e × (p e ≡ true)
+Has-kept p [] e h = absurd h
+Has-kept p (x ∷ xs) e h =
+    elim (p x) as (λ b. p x ≡ b → Has (cond b (x ∷ filter p xs) (filter p xs)) e → Has (x ∷ xs) e × (p e ≡ true)) [
+      | true ↦ λ t k. ⊎_elim (λ q. (inl q, subst (λ y. p y ≡ true) q t)) (λ r. let s = Has-kept p xs e r in (inr s.0, s.1)) k
+      | false ↦ λ t k. let s = Has-kept p xs e k in (inr s.0, s.1)
+    ] refl h
+
+Has-keeps : (p : EntryView → Bool) (xs : List EntryView) (e : EntryView) → Has xs e → p e ≡ true → Has (filter p xs) e
+Has-keeps p [] e h t = h
+Has-keeps p (x ∷ xs) e (inl q) t = rw (subst (λ y. p y ≡ true) (sym q) t) (inl q)
+Has-keeps p (x ∷ xs) e (inr h) t =
+    elim (p x) as (λ b. Has (cond b (x ∷ filter p xs) (filter p xs)) e) [ true ↦ inr (Has-keeps p xs e h t) | false ↦ Has-keeps p xs e h t ]
+
+-- entries of other names
+pub has_without : (name : List ℕ) (es : List EntryView) (e : EntryView) → Has (without name es) e → Has es e × (e.name ≢ name)
+has_without name es e h =
+    let s = Has-kept (λ y. not (same_name y.name name)) es e h in
+    (s.0, λ q. cc (ap not ((bytes_decides e.name name).1 q), s.1))
+
+pub has_other : (name : List ℕ) (es : List EntryView) (e : EntryView) → Has es e → e.name ≢ name → Has (without name es) e
+has_other name es e h n = Has-keeps (λ y. not (same_name y.name name)) es e h (apart (same_name e.name name) (λ t. n ((bytes_decides e.name name).0 t)))
+  where
+    apart : (b : Bool) → b ≢ true → not b ≡ true
+    apart true f = absurd (f refl)
+    apart false f = refl
+
+either : (b : Bool) → (b ≡ true) ⊎ (not b ≡ true)
+either true = inl refl
+either false = inr refl
+
+-- the entry that was put in, and those of other names
+pub has_put : (x : EntryView) (es : List EntryView) (e : EntryView) → Has (with_entry x es) e → (x ≡ e) ⊎ (Has es e × (e.name ≢ x.name))
+has_put x es e h =
+    let others : Has (without x.name es) e → Has es e × (e.name ≢ x.name) = has_without x.name es e in
+    ⊎_elim (λ k. inr (others (Has-kept (λ y. comes_before y x) (without x.name es) e k).0))
+    (⊎_elim inl (λ k. inr (others (Has-kept (λ y. not (comes_before y x)) (without x.name es) e k).0)))
+    (Has-append (filter (λ y. comes_before y x) (without x.name es)) (x ∷ filter (λ y. not (comes_before y x)) (without x.name es)) e h)
+
+pub has_new : (x : EntryView) (es : List EntryView) → Has (with_entry x es) x
+has_new x es = Has-right (filter (λ y. comes_before y x) (without x.name es)) (x ∷ filter (λ y. not (comes_before y x)) (without x.name es)) x (inl refl)
+
+pub has_still : (x : EntryView) (es : List EntryView) (e : EntryView) → Has es e → e.name ≢ x.name → Has (with_entry x es) e
+has_still x es e h n =
+    let left = has_other x.name es e h n in
+    ⊎_elim (λ l. Has-left (filter (λ y. comes_before y x) (without x.name es)) _ e (Has-keeps (λ y. comes_before y x) (without x.name es) e left l))
+    (λ g. Has-right (filter (λ y. comes_before y x) (without x.name es)) _ e (inr (Has-keeps (λ y. not (comes_before y x)) (without x.name es) e left g))) (either (comes_before e x))
+
+one_less : (n : ℕ) (name : List ℕ) → suc n - length (name ∷ []) ≡ n
+one_less n name = omega arith
+
+pub files_put : (T : Table) (n : ℕ) (x : EntryView) (es : List EntryView) → SameFiles (Files T n (with_entry x es)) (Upserted T n (x.name ∷ []) x.mode x.id (Files T n es))
+files_put T zero x es path mode id = ((λ h. absurd h), ⊎_elim (λ h. absurd h.0) (λ h. absurd (omega (arith, h.0))))
+files_put T (suc n) x es [] mode id = ((λ h. absurd h), ⊎_elim (λ h. absurd h.0) (λ h. cc (h.2)))
+files_put T (suc n) x es (name ∷ path) mode id =
+    let P : ℕ → Type 0 = λ k. Below T (Files T k) x.mode x.id path mode id in (
+      (λ h. ⊎_elim
+          (λ e. inr (omega arith, path, (let q : name ≡ x.name = sym (h.2) ∙ ap (λ (i : EntryView). i.name) (sym e) in rw q refl), subst P (sym (one_less n x.name)) (subst (λ (i : EntryView). Below T (Files T n) i.mode i.id path mode id) (sym e) h.3)))
+          (λ o. inl ((h.0, o.0, h.2, h.3), (λ b. o.1 (cc (h.2, b.1))), (λ b. o.1 (cc (h.2, b.1)))))
+          (has_put x es h.0 h.1)),
+      ⊎_elim
+          (λ h. let ne : (h.0.0).name ≢ x.name = λ q. h.1 (path, (let r : name ≡ x.name = sym (h.0.2) ∙ q in rw r refl)) in
+          (h.0.0, has_still x es h.0.0 h.0.1 ne, h.0.2, h.0.3))
+          (λ h. let r : path ≡ h.1 = cc (h.2) in
+          (x, has_new x es, cc (h.2), subst (λ q. Below T (Files T n) x.mode x.id q mode id) (sym r) (subst (λ k. Below T (Files T k) x.mode x.id h.1 mode id) (one_less n x.name) h.3))),
+    )
+
+pub files_without : (T : Table) (n : ℕ) (name : List ℕ) (es : List EntryView) → SameFiles (Files T n (without name es)) (Removed (name ∷ []) (Files T n es))
+files_without T zero name es path mode id = ((λ h. absurd h), λ h. absurd h.0)
+files_without T (suc n) name es [] mode id = ((λ h. absurd h), λ h. absurd h.0)
+files_without T (suc n) name es (first ∷ path) mode id = (
+  (λ h. let o = has_without name es h.0 h.1 in ((h.0, o.0, h.2, h.3), λ b. o.1 (cc (h.2, b.1)))),
+  λ h. let ne : (h.0.0).name ≢ name = λ q. h.1 (path, (let r : first ≡ name = sym (h.0.2) ∙ q in rw r refl)) in
+      (h.0.0, has_other name es h.0.0 h.0.1 ne, h.0.2, h.0.3),
+)
+
+pub files_kept : (T : Table) (n : ℕ) (es : List EntryView) → SameFiles (Files T n (kept es)) (Files T n es)
+files_kept T zero es path mode id = ((λ h. absurd h), λ h. absurd h)
+files_kept T (suc n) es [] mode id = ((λ h. absurd h), λ h. absurd h)
+files_kept T (suc n) es (name ∷ path) mode id = (
+  (λ h. (h.0, (Has-kept (λ e. not (is_null e.id)) es h.0 h.1).0, h.2, h.3)),
+  λ h. (h.0, Has-keeps (λ e. not (is_null e.id)) es h.0 h.1 (ap not h.3.0), h.2, h.3),
+)
