@@ -1,10 +1,18 @@
--- The files of edited entries: of an entry put in, of entries taken out, and of the entries that are kept.
-use Rattle.std.proofs.Common.{◌≡◌, ◌≢◌, ◌⊎◌, ◌↔◌, inl, inr, ⊎_elim, ℕ, zero, suc, ◌-◌, ◌≤◌, Bool, true, false, not, cond, List, [], ◌∷◌, ◌++◌, length, refl, sym, ap, subst, ◌∙◌, arith}
+-- The files of edited entries: of an entry put in, of entries taken out, and of the entries that are kept; and the same
+-- where the root alone is open.
+use Rattle.std.proofs.Common.{◌≡◌, ◌≢◌, ◌⊎◌, inl, inr, ⊎_elim, ℕ, zero, suc, ◌-◌, ◌≤◌, Bool, true, false, not, cond, List, [], ◌∷◌, ◌++◌, length, refl, sym, ap, subst, ◌∙◌, arith, Option, Some, None}
+use Rattle.std.specs.Prelude.{MatchOption}
 use Rattle.std.specs.List.{filter}
-use Rattle.std.specs.Cmp.Lexicographic.{bytes_decides}
+use Rattle.std.specs.Cmp.Lexicographic.{bytes_decides, lists_total, nat_list_cmp_total, slice_cmp}
+use Rattle.std.specs.Ordering.{nat_cmp}
+use Rattle.std.specs.FinMap as map
 use Rattle.gixobj_base.specs.Entries.{EntryView}
-use Rattle.gix_object.specs.Files.{Begins, Below, Files, Has, Removed, SameFiles, Table, Upserted, is_null}
-use Rattle.gix_object.specs.Editing.{comes_before, kept, same_name, with_entry, without}
+use Rattle.gixobj_base.specs.declared.hash.object_id.ObjectId.{ObjectId}
+use Rattle.gix_object.specs.Editing.{comes_before, kept, removed_entries, same_name, upserted_entries, with_entry, without}
+use Rattle.gix_object.specs.Files.{Below, FileSet, Files, Has, NamedFiles, Path, Removed, SameFiles, Table, Upserted, is_null}
+use Rattle.gix_object.specs.HandingOut.{HandsOut, Walks, end, leaves, shut}
+use Rattle.gix_object.specs.Opening.{Dirs, HasAt, OpenFiles, in_dir}
+use Rattle.gix_object.specs.State.{root_alone}
 
 -- what an appended list has
 Has-append : (xs ys : List EntryView) (e : EntryView) → Has (xs ++ ys) e → Has xs e ⊎ Has ys e
@@ -77,16 +85,21 @@ pub files_put : (T : Table) (n : ℕ) (x : EntryView) (es : List EntryView) → 
 files_put T zero x es path mode id = ((λ h. absurd h), ⊎_elim (λ h. absurd h.0) (λ h. absurd (omega (arith, h.0))))
 files_put T (suc n) x es [] mode id = ((λ h. absurd h), ⊎_elim (λ h. absurd h.0) (λ h. cc (h.2)))
 files_put T (suc n) x es (name ∷ path) mode id =
-    let P : ℕ → Type 0 = λ k. Below T (Files T k) x.mode x.id path mode id in (
+    let depth : suc n - length (x.name ∷ []) ≡ n = one_less n x.name in
+    let At : ℕ → Path → EntryView → Type 0 = λ k p e. Below T (Files T k) e.mode e.id p mode id in (
       (λ h. ⊎_elim
-          (λ e. inr (omega arith, path, (let q : name ≡ x.name = sym (h.2) ∙ ap (λ (i : EntryView). i.name) (sym e) in rw q refl), subst P (sym (one_less n x.name)) (subst (λ (i : EntryView). Below T (Files T n) i.mode i.id path mode id) (sym e) h.3)))
-          (λ o. inl ((h.0, o.0, h.2, h.3), (λ b. o.1 (cc (h.2, b.1))), (λ b. o.1 (cc (h.2, b.1)))))
+          (λ new.
+          let named : name ≡ x.name = sym h.2 ∙ ap (λ (e : EntryView). e.name) (sym new) in
+          inr (omega arith, path, rw named refl, subst (λ k. At k path x) (sym depth) (subst (At n path) (sym new) h.3)))
+          (λ old. inl ((h.0, old.0, h.2, h.3), (λ b. old.1 (cc (h.2, b.1))), (λ b. old.1 (cc (h.2, b.1)))))
           (has_put x es h.0 h.1)),
       ⊎_elim
-          (λ h. let ne : (h.0.0).name ≢ x.name = λ q. h.1 (path, (let r : name ≡ x.name = sym (h.0.2) ∙ q in rw r refl)) in
-          (h.0.0, has_still x es h.0.0 h.0.1 ne, h.0.2, h.0.3))
-          (λ h. let r : path ≡ h.1 = cc (h.2) in
-          (x, has_new x es, cc (h.2), subst (λ q. Below T (Files T n) x.mode x.id q mode id) (sym r) (subst (λ k. Below T (Files T k) x.mode x.id h.1 mode id) (one_less n x.name) h.3))),
+          (λ h.
+          let other : (h.0.0).name ≢ x.name = λ q. h.1 (path, (let named : name ≡ x.name = sym (h.0.2) ∙ q in rw named refl)) in
+          (h.0.0, has_still x es h.0.0 h.0.1 other, h.0.2, h.0.3))
+          (λ h.
+          let rest : path ≡ h.1 = cc (h.2) in
+          (x, has_new x es, cc (h.2), subst (λ p. At n p x) (sym rest) (subst (λ k. At k h.1 x) depth h.3))),
     )
 
 pub files_without : (T : Table) (n : ℕ) (name : List ℕ) (es : List EntryView) → SameFiles (Files T n (without name es)) (Removed (name ∷ []) (Files T n es))
@@ -105,3 +118,78 @@ files_kept T (suc n) es (name ∷ path) mode id = (
   (λ h. (h.0, (Has-kept (λ e. not (is_null e.id)) es h.0 h.1).0, h.2, h.3)),
   λ h. (h.0, Has-keeps (λ e. not (is_null e.id)) es h.0 h.1 (ap not h.3.0), h.2, h.3),
 )
+
+-- sets of the same files
+pub same_refl : (A : FileSet) → SameFiles A A
+same_refl A path mode id = ((λ h. h), λ h. h)
+
+pub same_sym : (A B : FileSet) → SameFiles A B → SameFiles B A
+same_sym A B same path mode id = ((same path mode id).1, (same path mode id).0)
+
+pub same_trans : (A B C : FileSet) → SameFiles A B → SameFiles B C → SameFiles A C
+same_trans A B C front back path mode id = ((λ h. (back path mode id).0 ((front path mode id).0 h)), λ h. (front path mode id).1 ((back path mode id).1 h))
+
+pub same_upserted : (T : Table) (n : ℕ) (path : Path) (mode : ℕ) (id : ObjectId) (A B : FileSet) → SameFiles A B → SameFiles (Upserted T n path mode id A) (Upserted T n path mode id B)
+same_upserted T n [] mode id A B same at mode' id' = same at mode' id'
+same_upserted T n (name ∷ path) mode id A B same at mode' id' =
+    (⊎_elim (λ h. inl ((same at mode' id').0 h.0, h.1, h.2)) inr, ⊎_elim (λ h. inl ((same at mode' id').1 h.0, h.1, h.2)) inr)
+
+pub same_removed : (path : Path) (A B : FileSet) → SameFiles A B → SameFiles (Removed path A) (Removed path B)
+same_removed [] A B same at mode id = same at mode id
+same_removed (name ∷ path) A B same at mode id = ((λ h. ((same at mode id).0 h.0, h.1)), λ h. ((same at mode id).1 h.0, h.1))
+
+-- the root alone is open
+pub root_open : (es : List EntryView) → map.get (root_alone es) [] ≡ Some es
+root_open es = map.get-insert (lists_total nat_list_cmp_total) map.empty [] es []
+
+pub root_shut : (es : List EntryView) (name : List ℕ) (path : Path) → map.get (root_alone es) (name ∷ path) ≡ None
+root_shut es name path = map.get-insert (lists_total nat_list_cmp_total) map.empty [] es (name ∷ path) ∙ map.get-empty (slice_cmp (slice_cmp nat_cmp)) (name ∷ path)
+
+alone : (T : Table) (n : ℕ) (dirs : Dirs) (es : List EntryView) → dirs [] ≡ Some es → ((name : List ℕ) → dirs (name ∷ []) ≡ None) → SameFiles (OpenFiles T n dirs) (Files T n es)
+alone T zero dirs es root closed path mode id = ((λ h. absurd h), λ h. absurd h)
+alone T (suc n) dirs es root closed [] mode id = ((λ h. absurd h), λ h. absurd h)
+alone T (suc n) dirs es root closed (name ∷ path) mode id =
+    let At : EntryView → Option (List EntryView) → Type 0 = λ e o. MatchOption o (Below T (Files T n) e.mode e.id path mode id) (λ _. OpenFiles T n (in_dir name dirs) path mode id) in (
+      (λ h. (h.0, subst (λ o. HasAt o h.0) root h.1, h.2, subst (At h.0) (closed name) h.3)),
+      λ h. (h.0, subst (λ o. HasAt o h.0) (sym root) h.1, h.2, subst (At h.0) (sym (closed name)) h.3),
+    )
+
+pub root_files : (T : Table) (n : ℕ) (es : List EntryView) → SameFiles (OpenFiles T n (λ path. map.get (root_alone es) path)) (Files T n es)
+root_files T n es = alone T n (λ path. map.get (root_alone es) path) es (root_open es) (λ name. root_shut es name [])
+
+pub upserted_open : (T : Table) (n : ℕ) (path : Path) (mode : ℕ) (id : ObjectId) (es : List EntryView) → length path ≤ 1
+    → SameFiles (OpenFiles T n (λ p. map.get (root_alone (upserted_entries path mode id es)) p)) (Upserted T n path mode id (OpenFiles T n (λ p. map.get (root_alone es) p)))
+upserted_open T n [] mode id es short = same_refl _
+upserted_open T n (name ∷ []) mode id es short =
+    let x : EntryView = record { mode = mode; name = name; id = id } in
+    same_trans _ _ _ (root_files T n (with_entry x es)) (same_trans _ _ _ (files_put T n x es) (same_upserted T n (name ∷ []) mode id _ _ (same_sym _ _ (root_files T n es))))
+upserted_open T n (name ∷ next ∷ path) mode id es short = absurd (omega (arith, short))
+
+pub removed_open : (T : Table) (n : ℕ) (path : Path) (es : List EntryView) → length path ≤ 1
+    → SameFiles (OpenFiles T n (λ p. map.get (root_alone (removed_entries path es)) p)) (Removed path (OpenFiles T n (λ p. map.get (root_alone es) p)))
+removed_open T n [] es short = same_refl _
+removed_open T n (name ∷ []) es short =
+    same_trans _ _ _ (root_files T n (without name es)) (same_trans _ _ _ (files_without T n name es) (same_removed (name ∷ []) _ _ (same_sym _ _ (root_files T n es))))
+removed_open T n (name ∷ next ∷ path) es short = absurd (omega (arith, short))
+
+pub kept_open : (T : Table) (n : ℕ) (es : List EntryView) → SameFiles (OpenFiles T n (λ p. map.get (root_alone (kept es)) p)) (OpenFiles T n (λ p. map.get (root_alone es) p))
+kept_open T n es = same_trans _ _ _ (root_files T n (kept es)) (same_trans _ _ _ (files_kept T n es) (same_sym _ _ (root_files T n es)))
+
+pub named_root : (T : Table) (n : ℕ) (id : ObjectId) (es : List EntryView) → T.tree_at id ≡ Some (kept es) → SameFiles (NamedFiles T n id) (OpenFiles T n (λ p. map.get (root_alone es) p))
+named_root T n id es known =
+    let Named : Option (List EntryView) → FileSet = λ o path mode id'. MatchOption o ⊥ (λ entries. Files T n entries path mode id') in
+    subst (λ o. SameFiles (Named o) (OpenFiles T n (λ p. map.get (root_alone es) p))) (sym known) (same_trans _ _ _ (files_kept T n es) (same_sym _ _ (root_files T n es)))
+
+-- a write hands out the root alone
+put_first : (b : Bool) (e : EntryView) (es : List EntryView) → cond b [] (e ∷ []) ++ es ≡ cond (not b) (e ∷ es) es
+put_first true e es = refl
+put_first false e es = refl
+
+walk : (dirs : Dirs) → ((name : List ℕ) → dirs (name ∷ []) ≡ None) → (es : List EntryView) → Walks dirs es [] (kept es)
+walk dirs closed [] = end dirs
+walk dirs closed (e ∷ es) = subst (Walks dirs (e ∷ es) []) (put_first (is_null e.id) e (kept es)) (shut dirs e es [] (kept es) (closed e.name) (walk dirs closed es))
+
+pub hands_out_root : (es : List EntryView) (id : ObjectId) → HandsOut (λ p. map.get (root_alone es) p) ((id, kept es) ∷ [])
+hands_out_root es id =
+    let dirs : Dirs = λ p. map.get (root_alone es) p in
+    ([], id, kept es, leaves dirs es [] (kept es) (root_open es) (walk dirs (λ name. root_shut es name []) es), refl)
