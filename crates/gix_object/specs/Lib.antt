@@ -1,4 +1,5 @@
 pub mod Editing
+pub mod EditorCalls
 pub mod Files
 pub mod HandingOut
 pub mod History

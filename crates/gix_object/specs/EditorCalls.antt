@@ -1,0 +1,48 @@
+-- What the calls of an editor promise.
+use Rattle.std.specs.Prelude.{◌≡◌, ◌≢◌, ◌⊎◌, ℕ, List, [], ◌∷◌, All, Contains, Err, Result, map}
+use Rattle.bstr.specs.Owned.{bstring_bytes}
+use Rattle.bstr.specs.declared.bstring.BString.{BString}
+use Rattle.gixobj_base.specs.Entries.{IsEntryName}
+use Rattle.gixobj_base.specs.declared.hash.object_id.ObjectId.{ObjectId}
+use Rattle.gix_object.specs.Files.{FileSet, Path, Table}
+use Rattle.gix_object.specs.Opening.{OpenFiles}
+use Rattle.gix_object.specs.State.{State, open_dirs}
+use Rattle.gix_object.specs.declared.tree.editor.Error.{Error}
+use Rattle.gix_object.specs.declared.tree.editor.Error.TheVariants as error
+use Rattle.gix_object.specs.declared.tree.editor.WriteError.{WriteError}
+use Rattle.gix_object.specs.declared.tree.editor.WriteError.TheVariants as write
+
+abbrev pub names_of : List BString → Path
+names_of path = map bstring_bytes path
+
+-- the files of an editor
+abbrev pub EditorFiles : {S : Type 0} → Table → ℕ → State S → FileSet
+EditorFiles T n state = OpenFiles T n (open_dirs state)
+
+-- the editor with another store
+abbrev pub with_store : {S : Type 0} → State S → S → State S
+with_store state store = record state { store = store }
+
+-- each name is one that an entry may have
+abbrev pub AreNames : Path → Type 0
+AreNames path = All IsEntryName path
+
+-- a name that no entry may have
+abbrev pub RefusesName : List ℕ → Error → Type 0
+RefusesName name error.EmptyPathComponent = name ≡ []
+RefusesName name error.SlashInPathComponent = (name ≢ []) × Contains name 47
+RefusesName name error.OutOfMemory = ⊥
+
+-- the first name that no entry may have decides; want of memory says that there is none
+abbrev pub RefusesEdit : Path → Error → Type 0
+RefusesEdit [] error.EmptyPathComponent = ⊥
+RefusesEdit [] error.SlashInPathComponent = ⊥
+RefusesEdit [] error.OutOfMemory = Unit {0}
+RefusesEdit (name ∷ path) error.EmptyPathComponent = RefusesName name error.EmptyPathComponent ⊎ (IsEntryName name × RefusesEdit path error.EmptyPathComponent)
+RefusesEdit (name ∷ path) error.SlashInPathComponent = RefusesName name error.SlashInPathComponent ⊎ (IsEntryName name × RefusesEdit path error.SlashInPathComponent)
+RefusesEdit (name ∷ path) error.OutOfMemory = IsEntryName name × RefusesEdit path error.OutOfMemory
+
+-- a write stopped at an answer, or for memory before it asked
+abbrev pub StoppedBy : {E : Type 0} → (Result ObjectId E → Type 0) → Type 0 → WriteError E → Type 0
+StoppedBy answered unasked (write.Out e) = answered (Err e)
+StoppedBy answered unasked write.OutOfMemory = unasked
