@@ -23,12 +23,12 @@ mutual
   pub data Walks : Dirs → List EntryView → List Pair → List EntryView → Type 0 where
     end : (dirs : Dirs) → Walks dirs [] [] []
     shut : (dirs : Dirs) (e : EntryView) (entries : List EntryView) (below : List Pair) (own : List EntryView) → dirs (e.name ∷ []) ≡ None
-      → Walks dirs entries below own → Walks dirs (e ∷ entries) below (entry_with e e.id ++ own)
+        → Walks dirs entries below own → Walks dirs (e ∷ entries) below (entry_with e e.id ++ own)
     emptied : (dirs : Dirs) (e : EntryView) (entries : List EntryView) (inner below : List Pair) (own : List EntryView) → Leaves (in_dir e.name dirs) inner []
-      → Walks dirs entries below own → Walks dirs (e ∷ entries) (inner ++ below) own
+        → Walks dirs entries below own → Walks dirs (e ∷ entries) (inner ++ below) own
     written : (dirs : Dirs) (e first : EntryView) (entries rest : List EntryView) (inner below : List Pair) (own : List EntryView) (id : ObjectId)
-      → Leaves (in_dir e.name dirs) inner (first ∷ rest) → Walks dirs entries below own
-      → Walks dirs (e ∷ entries) (inner ++ (id, first ∷ rest) ∷ below) (entry_with e id ++ own)
+        → Leaves (in_dir e.name dirs) inner (first ∷ rest) → Walks dirs entries below own
+        → Walks dirs (e ∷ entries) (inner ++ (id, first ∷ rest) ∷ below) (entry_with e id ++ own)
 
 -- a write of these directories hands out these pairs: its own, also where it is empty, behind those below it
 abbrev pub HandsOut : Dirs → List Pair → Type 0

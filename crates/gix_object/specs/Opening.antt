@@ -31,4 +31,4 @@ pub record IsOpened (dirs : Dirs) : Type 0 where
   pub root : dirs [] ≢ None
   pub well_formed : (path : Path) (entries : List EntryView) → dirs path ≡ Some entries → IsWellFormed entries
   pub above : (path : Path) (name : List ℕ) (entries : List EntryView) → dirs (path ++ name ∷ []) ≡ Some entries
-    → (e : EntryView) × HasAt (dirs path) e × (e.name ≡ name) × IsTrue (is_tree_mode e.mode)
+      → (e : EntryView) × HasAt (dirs path) e × (e.name ≡ name) × IsTrue (is_tree_mode e.mode)

@@ -52,8 +52,8 @@ id_parts (id.Sha1 bytes) = (true, bytes)
 id_parts (id.Sha256 bytes) = (false, bytes)
 
 abbrev pub id_from_parts : Bool × List ℕ → ObjectId
-id_from_parts (true , bytes) = id.Sha1 bytes
-id_from_parts (false , bytes) = id.Sha256 bytes
+id_from_parts (true, bytes) = id.Sha1 bytes
+id_from_parts (false, bytes) = id.Sha256 bytes
 
 pub id_back : (it : ObjectId) → id_from_parts (id_parts it) ≡ it
 id_back (id.Sha1 bytes) = refl

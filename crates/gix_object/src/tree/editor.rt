@@ -132,7 +132,12 @@ impl<S> Editor<S> {
     ///
     /// `EmptyPathComponent` or `SlashInPathComponent` for the first name that no entry may have, else
     /// `OutOfMemory`. A refusal leaves the editor as it was: [`Editor::try_upsert`] says so to a caller.
-    pub fn upsert(&mut self, path: &[BString], kind: EntryKind, id: ObjectId) -> Result<&mut Editor<S>, Error>
+    pub fn upsert(
+        &mut self,
+        path: &[BString],
+        kind: EntryKind,
+        id: ObjectId,
+    ) -> Result<&mut Editor<S>, Error>
         requires short { length path.now ≤ 1 }
         ensures same_reference { IfOk result (λ it. it.ghost_name ≡ self.entry.ghost_name) }
         ensures files { IfOk result (λ it. (T : Table) (n : ℕ) → SameFiles (EditorFiles T n it.now) (Upserted T n (names_of path.now) (mode_of_kind kind) id (EditorFiles T n self.old))) }
@@ -143,7 +148,12 @@ impl<S> Editor<S> {
     }
 
     /// As [`Editor::upsert`], with a contract on what a refusal leaves.
-    pub fn try_upsert(&mut self, path: &[BString], kind: EntryKind, id: ObjectId) -> Result<(), Error>
+    pub fn try_upsert(
+        &mut self,
+        path: &[BString],
+        kind: EntryKind,
+        id: ObjectId,
+    ) -> Result<(), Error>
         requires short { length path.now ≤ 1 }
         ensures files { OnOk result ((T : Table) (n : ℕ) → SameFiles (EditorFiles T n self.new) (Upserted T n (names_of path.now) (mode_of_kind kind) id (EditorFiles T n self.old))) }
         ensures state { OnOk result ((root : List EntryView) → self.old.dirs ≡ root_alone root → self.new ≡ record self.old { dirs = root_alone (upserted_entries (names_of path.now) (mode_of_kind kind) id root) }) }
@@ -155,7 +165,7 @@ impl<S> Editor<S> {
             return Ok(());
         };
         check_name(name)?;
-        self.put_entry(name, kind, id)?;
+        put_entry(&mut self.root, name, kind, id)?;
         Ok(())
     }
 
@@ -186,7 +196,7 @@ impl<S> Editor<S> {
             return Ok(());
         };
         check_name(name)?;
-        self.take_entry(name);
+        take_entry(&mut self.root, name);
         Ok(())
     }
 }
@@ -197,7 +207,10 @@ impl<S> Editor<S> {
     /// null ids are left out of it. The answer is the tree's id.
     ///
     /// `Out` where `out` refused the tree, `OutOfMemory` where there was no memory to hand it out.
-    pub fn write<E, F: FnMut(&Tree) -> Result<ObjectId, E> + Drop>(&mut self, out: F) -> Result<Written, WriteError<E>>
+    pub fn write<E, F: FnMut(&Tree) -> Result<ObjectId, E> + Drop>(
+        &mut self,
+        out: F,
+    ) -> Result<Written, WriteError<E>>
         requires { F.IsAlwaysCallable out }
         ensures files { IfOk result (λ it. (T : Table) (n : ℕ) → Agrees T it.trees.items → SameFiles (NamedFiles T n it.id) (EditorFiles T n self.old)) }
         ensures same_files { (T : Table) (n : ℕ) → SameFiles (EditorFiles T n self.new) (EditorFiles T n self.old) }
@@ -214,9 +227,9 @@ impl<S> Editor<S> {
     /// The same with a borrowed closure, so that its state tells of each call.
     fn write_root<E, F: FnMut(&Tree) -> Result<ObjectId, E>>(&mut self, out: &mut F) -> Result<Written, WriteError<E>>
         requires { F.IsAlwaysCallable out.old }
-        ensures ok { IfOk result (λ it. (root : List EntryView) → self.old.dirs ≡ root_alone root →
-            CalledAt F.FnMut out.old (kept root) (Ok it.id) out.new × (it.trees.items ≡ (it.id, kept root) ∷ []) × (self.new ≡ record self.old { dirs = root_alone (kept root) })) }
-        ensures stopped { IfErr result (StoppedBy (λ answer. (root : List EntryView) → self.old.dirs ≡ root_alone root → CalledAt F.FnMut out.old (kept root) answer out.new) (out.new ≡ out.old)) }
+        ensures ok { IfOk result (λ it. (root : List EntryView) × (self.old.dirs ≡ root_alone root) × CalledAt F.FnMut out.old (kept root) (Ok it.id) out.new
+            × (it.trees.items ≡ (it.id, kept root) ∷ []) × (self.new ≡ record self.old { dirs = root_alone (kept root) })) }
+        ensures stopped { IfErr result (StoppedBy (λ answer. (root : List EntryView) × (self.old.dirs ≡ root_alone root) × CalledAt F.FnMut out.old (kept root) answer out.new) (out.new ≡ out.old)) }
         ensures unchanged { OnErr result (self.new ≡ self.old) }
     {
         let alloc = *self.root.entries.allocator();
@@ -239,29 +252,36 @@ impl<S> Editor<S> {
     }
 }
 
-/// Steps of the edits
-impl<S> Editor<S> {
-    /// Puts an entry in, in place of any entry of its name.
-    fn put_entry(&mut self, name: &BString, kind: EntryKind, id: ObjectId) -> Result<(), AllocError>
-        requires { IsEntryName (bstring_bytes name.now) }
-        ensures state { OnOk result ((root : List EntryView) → self.old.dirs ≡ root_alone root → self.new ≡ record self.old { dirs = root_alone (with_entry (record { mode = mode_of_kind kind; name = bstring_bytes name.now; id = id }) root) }) }
-        ensures unchanged { OnErr result (self.new ≡ self.old) }
-    {
-        let alloc = *self.root.entries.allocator();
-        let filename = BString::from_slice(alloc, name.as_bytes())?;
-        self.root.entries.reserve(1)?;
-        let mode = kind.into();
-        let oid = id;
-        put(&mut self.root.entries, Entry { mode, filename, oid });
-        Ok(())
-    }
+/// Puts an entry in, in place of any entry of its name.
+fn put_entry(
+    root: &mut Tree,
+    name: &BString,
+    kind: EntryKind,
+    id: ObjectId,
+) -> Result<(), AllocError>
+    requires well_formed { IsWellFormed root.old }
+    requires name { IsEntryName (bstring_bytes name.now) }
+    ensures ok { OnOk result (root.new ≡ with_entry (record { mode = mode_of_kind kind; name = bstring_bytes name.now; id = id }) root.old) }
+    ensures unchanged { OnErr result (root.new ≡ root.old) }
+{
+    let alloc = *root.entries.allocator();
+    let filename = BString::from_slice(alloc, name.as_bytes())?;
+    root.entries.reserve(1)?;
+    let entry = Entry {
+        mode: kind.into(),
+        filename,
+        oid: id,
+    };
+    put(&mut root.entries, entry);
+    Ok(())
+}
 
-    /// Takes the entry of a name out, if there is one.
-    fn take_entry(&mut self, name: &BString)
-        ensures state { (root : List EntryView) → self.old.dirs ≡ root_alone root → self.new ≡ record self.old { dirs = root_alone (without (bstring_bytes name.now) root) } }
-    {
-        take_out(&mut self.root.entries, name.as_bytes());
-    }
+/// Takes the entry of a name out, if there is one.
+fn take_entry(root: &mut Tree, name: &BString)
+    requires { IsWellFormed root.old }
+    ensures { root.new ≡ without (bstring_bytes name.now) root.old }
+{
+    take_out(&mut root.entries, name.as_bytes());
 }
 
 /// Refuses a name that no entry may have.

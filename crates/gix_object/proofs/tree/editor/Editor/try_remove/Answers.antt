@@ -1,0 +1,26 @@
+-- One name is taken out of the root.
+use Rattle.std.proofs.Common.{◌≡◌, [], ◌∷◌, ap, sym, ◌∙◌, arith, rules}
+use Rattle.bstr.specs.Owned.{bstring_bytes}
+use Rattle.gix_object.specs.Editing.{removed_entries}
+use Rattle.gix_object.specs.EditorCalls.{names_of}
+use Rattle.gix_object.specs.Files.{Removed}
+use Rattle.gix_object.specs.State.{root_alone}
+use Rattle.gix_object.proofs.EditedFiles.{removed_open}
+use Rattle.gix_object.proofs.Formed.{well_formed_without}
+use Rattle.gix_object.proofs.Paths.{one_name, short_path}
+use Rattle.gix_object.proofs.Roots.{after_edit, files_after}
+use Rattle.gix_object.proofs.tree.editor.Editor.try_remove.Goals as goal
+
+pub invariant_of-self : goal.invariant_of-self
+invariant_of-self g c = rw c.take_entry.ensures (well_formed_without (bstring_bytes c.name-item.result) c.self.inside.root c.self.invariant)
+
+pub returns-clause-files : goal.returns-clause-files
+returns-clause-files g c =
+    let path : names_of c.args.path.now ≡ bstring_bytes c.name-item.result ∷ [] = one_name c.args.path.now c.name-item.result (omega (arith, c.in-len1.len_at_least, c.in-len1.len_below)) c.name-item.is in
+    λ T n. files_after c.args.self.now _ c.self.inside.root (removed_entries (names_of c.args.path.now)) (Removed (names_of c.args.path.now)) T n (ap (λ s. s.dirs) c.self.view_is)
+      (rw path (ap root_alone c.take_entry.ensures)) (removed_open T n (names_of c.args.path.now) c.self.inside.root (short_path c.args.path.now c.requires.short))
+
+pub returns-clause-state : goal.returns-clause-state
+returns-clause-state g c =
+    let path : names_of c.args.path.now ≡ bstring_bytes c.name-item.result ∷ [] = one_name c.args.path.now c.name-item.result (omega (arith, c.in-len1.len_at_least, c.in-len1.len_below)) c.name-item.is in
+    after_edit c.args.self.now c.self.inside.root c.take_entry.new.root c.self.inside.store c.self.inside.lookups c.self.inside.object_hash (removed_entries (names_of c.args.path.now)) c.self.view_is (rw path c.take_entry.ensures)
