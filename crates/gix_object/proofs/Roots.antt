@@ -35,7 +35,7 @@ pub files_after : {S : Type 0} (old new : State S) (inner : List EntryView) (edi
     → SameFiles (EditorFiles T n new) (Edited (EditorFiles T n old))
 files_after old new inner edit Edited T n view is same =
     subst (λ (m : DirMap). SameFiles (OpenFiles T n (λ p. map.get m p)) (Edited (EditorFiles T n old))) (sym is)
-      (subst (λ (m : DirMap). SameFiles (OpenFiles T n (λ p. map.get (root_alone (edit inner)) p)) (Edited (OpenFiles T n (λ p. map.get m p)))) view same)
+    (subst (λ (m : DirMap). SameFiles (OpenFiles T n (λ p. map.get (root_alone (edit inner)) p)) (Edited (OpenFiles T n (λ p. map.get m p)))) view same)
 
 -- the files of the tree that was handed out
 pub named_after : {S : Type 0} (old : State S) (root : List EntryView) (id : ObjectId) (pairs : List (ObjectId × List EntryView)) (T : Table) (n : ℕ)
@@ -48,12 +48,12 @@ pub handed_after : {S : Type 0} (old : State S) (root : List EntryView) (id : Ob
     → old.dirs ≡ root_alone root → pairs ≡ (id, kept root) ∷ [] → HandsOut (open_dirs old) pairs
 handed_after old root id pairs view is =
     subst (λ (ps : List (ObjectId × List EntryView)). HandsOut (open_dirs old) ps) (sym is)
-      (subst (λ (m : DirMap). HandsOut (λ path. map.get m path) ((id, kept root) ∷ [])) (sym view) (hands_out_root root id))
+    (subst (λ (m : DirMap). HandsOut (λ path. map.get m path) ((id, kept root) ∷ [])) (sym view) (hands_out_root root id))
 
 -- a write leaves the files
 pub same_after : {S W E : Type 0} (result : Result W E) (old new : State S) → IfOk result (λ _. (root : List EntryView) × (old.dirs ≡ root_alone root) × (new.dirs ≡ root_alone (kept root)))
     → OnErr result (new ≡ old) → (T : Table) (n : ℕ) → SameFiles (EditorFiles T n new) (EditorFiles T n old)
-same_after (Ok it) old new (root , view , is) unchanged T n = files_after old new root kept (λ files. files) T n (sym view) is (kept_open T n root)
+same_after (Ok it) old new (root, view, is) unchanged T n = files_after old new root kept (λ files. files) T n (sym view) is (kept_open T n root)
 same_after {S} (Err error) old new ok unchanged T n = subst (λ (s : State S). SameFiles (EditorFiles T n s) (EditorFiles T n old)) (sym unchanged) (same_refl (EditorFiles T n old))
 
 pub stopped_weaker : {E : Type 0} (A B : Result ObjectId E → Type 0) (U V : Type 0) → ((answer : Result ObjectId E) → A answer → B answer) → (U → V) → (error : WriteError E) → StoppedBy A U error → StoppedBy B V error

@@ -225,7 +225,10 @@ impl<S> Editor<S> {
     }
 
     /// The same with a borrowed closure, so that its state tells of each call.
-    fn write_root<E, F: FnMut(&Tree) -> Result<ObjectId, E>>(&mut self, out: &mut F) -> Result<Written, WriteError<E>>
+    fn write_root<E, F: FnMut(&Tree) -> Result<ObjectId, E>>(
+        &mut self,
+        out: &mut F,
+    ) -> Result<Written, WriteError<E>>
         requires { F.IsAlwaysCallable out.old }
         ensures ok { IfOk result (λ it. (root : List EntryView) × (self.old.dirs ≡ root_alone root) × CalledAt F.FnMut out.old (kept root) (Ok it.id) out.new
             × (it.trees.items ≡ (it.id, kept root) ∷ []) × (self.new ≡ record self.old { dirs = root_alone (kept root) })) }

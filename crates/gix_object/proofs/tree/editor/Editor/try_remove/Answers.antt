@@ -17,8 +17,8 @@ invariant_of-self g c = rw c.take_entry.ensures (well_formed_without (bstring_by
 pub returns-clause-files : goal.returns-clause-files
 returns-clause-files g c =
     let path : names_of c.args.path.now ≡ bstring_bytes c.name-item.result ∷ [] = one_name c.args.path.now c.name-item.result (omega (arith, c.in-len1.len_at_least, c.in-len1.len_below)) c.name-item.is in
-    λ T n. files_after c.args.self.now _ c.self.inside.root (removed_entries (names_of c.args.path.now)) (Removed (names_of c.args.path.now)) T n (ap (λ s. s.dirs) c.self.view_is)
-      (rw path (ap root_alone c.take_entry.ensures)) (removed_open T n (names_of c.args.path.now) c.self.inside.root (short_path c.args.path.now c.requires.short))
+    λ T n. files_after c.args.self.now (record { dirs = root_alone c.take_entry.new.root; store = c.self.inside.store; lookups = c.self.inside.lookups; object_hash = c.self.inside.object_hash }) c.self.inside.root (removed_entries (names_of c.args.path.now)) (Removed (names_of c.args.path.now)) T n (ap (λ s. s.dirs) c.self.view_is)
+    (rw path (ap root_alone c.take_entry.ensures)) (removed_open T n (names_of c.args.path.now) c.self.inside.root (short_path c.args.path.now c.requires.short))
 
 pub returns-clause-state : goal.returns-clause-state
 returns-clause-state g c =

@@ -19,12 +19,12 @@ invariant_of-self-2 g c =
 pub returns-clause-files : goal.returns-clause-files
 returns-clause-files g c =
     let path : names_of c.args.path.now ≡ bstring_bytes c.name-item.result ∷ [] = one_name c.args.path.now c.name-item.result (omega (arith, c.in-len1.len_at_least, c.in-len1.len_below)) c.name-item.is in
-    λ T n. files_after c.args.self.now _ c.self.inside.root (upserted_entries (names_of c.args.path.now) (mode_of_kind c.args.kind) c.args.id) (Upserted T n (names_of c.args.path.now) (mode_of_kind c.args.kind) c.args.id) T n
-      (ap (λ s. s.dirs) c.self.view_is) (rw path (ap root_alone c.in_ok-put_entry.ensures.ok))
-      (upserted_open T n (names_of c.args.path.now) (mode_of_kind c.args.kind) c.args.id c.self.inside.root (short_path c.args.path.now c.requires.short))
+    λ T n. files_after c.args.self.now (record { dirs = root_alone c.put_entry.new.root; store = c.self.inside.store; lookups = c.self.inside.lookups; object_hash = c.self.inside.object_hash }) c.self.inside.root (upserted_entries (names_of c.args.path.now) (mode_of_kind c.args.kind) c.args.id) (Upserted T n (names_of c.args.path.now) (mode_of_kind c.args.kind) c.args.id) T n
+    (ap (λ s. s.dirs) c.self.view_is) (rw path (ap root_alone c.in_ok-put_entry.ensures.ok))
+    (upserted_open T n (names_of c.args.path.now) (mode_of_kind c.args.kind) c.args.id c.self.inside.root (short_path c.args.path.now c.requires.short))
 
 pub returns-clause-state : goal.returns-clause-state
 returns-clause-state g c =
     let path : names_of c.args.path.now ≡ bstring_bytes c.name-item.result ∷ [] = one_name c.args.path.now c.name-item.result (omega (arith, c.in-len1.len_at_least, c.in-len1.len_below)) c.name-item.is in
     after_edit c.args.self.now c.self.inside.root c.put_entry.new.root c.self.inside.store c.self.inside.lookups c.self.inside.object_hash (upserted_entries (names_of c.args.path.now) (mode_of_kind c.args.kind) c.args.id) c.self.view_is
-      (rw path c.in_ok-put_entry.ensures.ok)
+    (rw path c.in_ok-put_entry.ensures.ok)

@@ -1,5 +1,6 @@
 -- What was handed out is the root's tree.
-use Rattle.std.proofs.Common.{◌∙◌, List, ap, sym}
+use Rattle.std.proofs.Common.{◌≡◌, ◌∙◌, List, ap, sym}
+use Rattle.std.specs.Fn.{CalledAt}
 use Rattle.std.proofs.lemmas.Result.{IfOk-weaker, MatchResult-weaker}
 use Rattle.gixobj_base.specs.Entries.{EntryView}
 use Rattle.gix_object.specs.Editing.{kept}
@@ -27,4 +28,6 @@ returns-clause-state g c =
 pub returns-clause-stopped : goal.returns-clause-stopped
 returns-clause-stopped g c =
     MatchResult-weaker c.write_root.result c.write_root.ensures.stopped (λ it fact. fact)
-      (λ error. stopped_weaker _ _ _ _ (λ answer called. (kept called.0, c.write_root.new.out, called.2)) (λ _. tt) error)
+      (stopped_weaker (λ answer. (root : List EntryView) × (c.args.self.now.dirs ≡ root_alone root) × CalledAt g.F.FnMut c.args.out (kept root) answer c.write_root.new.out)
+        (λ answer. (tree : List EntryView) × (last : g.row.F.Denot) × CalledAt g.F.FnMut c.args.out tree answer last)
+        (c.write_root.new.out ≡ c.args.out) (Unit {0}) (λ answer called. (kept called.0, c.write_root.new.out, called.2)) (λ _. tt))

@@ -17,9 +17,13 @@ returns-in-Ok-clause-ok g c =
     let view = sym (ap (λ s. s.dirs) c.self.view_is) in
     let called : CalledAt g.F.FnMut c.args.out.now (kept c.self.inside.root) (Ok c.in-Ok.id) c.out.new.self = search rules in
     let pairs : c.push.new.self.items ≡ (c.in-Ok.id, kept c.self.inside.root) ∷ [] = search rules in
-    let rest : c.in-Ok-Ok-Ok.rest.items ≡ kept c.self.inside.root = search rules in
-    (c.self.inside.root, view, called, pairs,
-      after_edit c.args.self.now c.self.inside.root c.in-Ok-Ok-Ok.rest.items c.self.inside.store c.self.inside.lookups c.self.inside.object_hash kept c.self.view_is rest c.self.inside.root view)
+    let rest : c.in-Ok-Ok-Ok.rest.items ≡ kept c.self.inside.root = search rules in (
+      c.self.inside.root,
+      view,
+      called,
+      pairs,
+      after_edit c.args.self.now c.self.inside.root c.in-Ok-Ok-Ok.rest.items c.self.inside.store c.self.inside.lookups c.self.inside.object_hash kept c.self.view_is rest c.self.inside.root view,
+    )
 
 pub returns-in-Err-clause-stopped : goal.returns-in-Err-clause-stopped
 returns-in-Err-clause-stopped g c =
