@@ -15,17 +15,17 @@ use Rattle.gix_object.specs.Opening.{Dirs, HasAt, OpenFiles, in_dir}
 use Rattle.gix_object.specs.State.{root_alone}
 
 -- what an appended list has
-Has-append : (xs ys : List EntryView) (e : EntryView) → Has (xs ++ ys) e → Has xs e ⊎ Has ys e
+pub Has-append : (xs ys : List EntryView) (e : EntryView) → Has (xs ++ ys) e → Has xs e ⊎ Has ys e
 Has-append [] ys e h = inr h
 Has-append (x ∷ xs) ys e (inl p) = inl (inl p)
 Has-append (x ∷ xs) ys e (inr h) = ⊎_elim (λ k. inl (inr k)) inr (Has-append xs ys e h)
 
-Has-left : (xs ys : List EntryView) (e : EntryView) → Has xs e → Has (xs ++ ys) e
+pub Has-left : (xs ys : List EntryView) (e : EntryView) → Has xs e → Has (xs ++ ys) e
 Has-left (x ∷ xs) ys e (inl p) = inl p
 Has-left (x ∷ xs) ys e (inr h) = inr (Has-left xs ys e h)
 Has-left [] ys e h = absurd h
 
-Has-right : (xs ys : List EntryView) (e : EntryView) → Has ys e → Has (xs ++ ys) e
+pub Has-right : (xs ys : List EntryView) (e : EntryView) → Has ys e → Has (xs ++ ys) e
 Has-right [] ys e h = h
 Has-right (x ∷ xs) ys e h = inr (Has-right xs ys e h)
 

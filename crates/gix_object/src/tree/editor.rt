@@ -16,6 +16,8 @@ ghost use Rattle.gix_object.specs.State.{open_dirs, root_alone};
 ghost use Rattle.gix_object.specs.contracts.tree.editor.Editor.{the_row};
 
 mod entries;
+#[cfg(test)]
+mod listing;
 
 use bstr::BString;
 use entries::{copy_kept, put, take_out};
