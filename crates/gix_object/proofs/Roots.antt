@@ -1,19 +1,21 @@
 -- An editor that has the root alone open, after an edit of its entries.
-use Rattle.std.proofs.Common.{◌≡◌, ℕ, List, [], ◌∷◌, Some, Result, Ok, Err, refl, sym, ap, subst, ◌∙◌}
-use Rattle.std.specs.Prelude.{IfOk, OnErr}
-use Rattle.std.proofs.lemmas.List.Elements.{All-head}
+use Rattle.std.proofs.Common.{◌≡◌, ℕ, List, [], ◌∷◌, All, Bool, true, false, not, Some, Result, Ok, Err, refl, sym, ap, subst, ◌∙◌}
+use Rattle.std.specs.Prelude.{IfOk, IsFalse, OnErr}
+use Rattle.std.proofs.lemmas.List.Elements.{All-from_recursion, All-head, All-weaker}
 use Rattle.std.specs.FinMap as map
-use Rattle.gixobj_base.specs.Entries.{EntryView}
+use Rattle.gixobj_base.specs.Entries.{EntryView, IsWellFormed}
 use Rattle.gixobj_base.specs.declared.hash.kind.Kind.{Kind}
 use Rattle.gixobj_base.specs.declared.hash.object_id.ObjectId.{ObjectId}
 use Rattle.gix_object.specs.Editing.{kept}
-use Rattle.gix_object.specs.EditorCalls.{EditorFiles, StoppedBy}
+use Rattle.gix_object.specs.EditorCalls.{EditorFiles, IsStorable, StoppedBy}
 use Rattle.gix_object.specs.declared.tree.editor.WriteError.{WriteError}
 use Rattle.gix_object.specs.declared.tree.editor.WriteError.TheVariants as write
-use Rattle.gix_object.specs.Files.{Agrees, FileSet, NamedFiles, SameFiles, Table}
+use Rattle.gix_object.specs.Files.{Agrees, FileSet, NamedFiles, SameFiles, Table, is_null}
 use Rattle.gix_object.specs.HandingOut.{HandsOut}
 use Rattle.gix_object.specs.Opening.{OpenFiles}
 use Rattle.gix_object.specs.State.{DirMap, State, open_dirs, root_alone}
+use Rattle.gix_object.proofs.Sublists.{all_pass}
+use Rattle.gix_object.proofs.Formed.{well_formed_kept}
 use Rattle.gix_object.proofs.EditedFiles.{hands_out_root, kept_open, named_root, root_open, same_refl}
 
 some_same : {X : Type 0} (x y : X) → Some x ≡ Some y → x ≡ y
@@ -59,3 +61,13 @@ same_after {S} (Err error) old new ok unchanged T n = subst (λ (s : State S). S
 pub stopped_weaker : {E : Type 0} (A B : Result ObjectId E → Type 0) (U V : Type 0) → ((answer : Result ObjectId E) → A answer → B answer) → (U → V) → (error : WriteError E) → StoppedBy A U error → StoppedBy B V error
 stopped_weaker A B U V answered unasked (write.Out e) s = answered (Err e) s
 stopped_weaker A B U V answered unasked write.OutOfMemory s = unasked s
+
+no_nulls : (es : List EntryView) → All (λ e. IsFalse (is_null e.id)) (kept es)
+no_nulls es = All-weaker (λ (e : EntryView). not (is_null e.id) ≡ true) (λ (e : EntryView). IsFalse (is_null e.id)) (λ e. is_false (is_null e.id)) (kept es) (All-from_recursion (λ (e : EntryView). not (is_null e.id) ≡ true) (kept es) (all_pass (λ e. not (is_null e.id)) es))
+  where
+    is_false : (b : Bool) → not b ≡ true → IsFalse b
+    is_false true e = absurd (cc e)
+    is_false false e = refl
+
+pub storable : (es : List EntryView) → IsWellFormed es → IsStorable (kept es)
+storable es h = record { well_formed = well_formed_kept es h; no_nulls = no_nulls es }

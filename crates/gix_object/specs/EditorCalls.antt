@@ -1,10 +1,11 @@
 -- What the calls of an editor promise.
-use Rattle.std.specs.Prelude.{◌≡◌, ◌≢◌, ◌⊎◌, ℕ, List, [], ◌∷◌, All, Contains, Err, Result, map}
+use Rattle.std.specs.Prelude.{◌≡◌, ◌≢◌, ◌⊎◌, ℕ, List, [], ◌∷◌, All, Contains, Err, IsFalse, Result, map}
+use denote.Ref.{Bor}
 use Rattle.bstr.specs.Owned.{bstring_bytes}
 use Rattle.bstr.specs.declared.bstring.BString.{BString}
-use Rattle.gixobj_base.specs.Entries.{IsEntryName}
+use Rattle.gixobj_base.specs.Entries.{EntryView, IsEntryName, IsWellFormed}
 use Rattle.gixobj_base.specs.declared.hash.object_id.ObjectId.{ObjectId}
-use Rattle.gix_object.specs.Files.{FileSet, Path, Table}
+use Rattle.gix_object.specs.Files.{FileSet, Path, Table, is_null}
 use Rattle.gix_object.specs.Opening.{OpenFiles}
 use Rattle.gix_object.specs.State.{State, open_dirs}
 use Rattle.gix_object.specs.declared.tree.editor.Error.{Error}
@@ -41,6 +42,15 @@ RefusesEdit [] error.OutOfMemory = Unit {0}
 RefusesEdit (name ∷ path) error.EmptyPathComponent = RefusesName name error.EmptyPathComponent ⊎ (IsEntryName name × RefusesEdit path error.EmptyPathComponent)
 RefusesEdit (name ∷ path) error.SlashInPathComponent = RefusesName name error.SlashInPathComponent ⊎ (IsEntryName name × RefusesEdit path error.SlashInPathComponent)
 RefusesEdit (name ∷ path) error.OutOfMemory = IsEntryName name × RefusesEdit path error.OutOfMemory
+
+-- a tree that may be handed out: well-formed, and without null ids
+pub record IsStorable (entries : List EntryView) : Type 0 where
+  pub well_formed : IsWellFormed entries
+  pub no_nulls : All (λ e. IsFalse (is_null e.id)) entries
+
+-- a closure of this condition may be called on each such tree, whatever it was called on before
+abbrev pub IsCallableOnTrees : {F : Type 0} → (F → Bor (List EntryView) → Type 0) → Type 0
+IsCallableOnTrees {F} pre = (state : F) (tree : Bor (List EntryView)) → IsStorable tree.now → pre state tree
 
 -- a write stopped at an answer, or for memory before it asked
 abbrev pub StoppedBy : {E : Type 0} → (Result ObjectId E → Type 0) → Type 0 → WriteError E → Type 0

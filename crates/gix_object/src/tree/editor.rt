@@ -2,14 +2,14 @@
 //!
 //! It edits a tree in memory by paths and hands out what is to be stored. So far a path has at most one
 //! name: the root's entries are edited, and no other directory is opened.
-ghost use Rattle.std.specs.Prelude.{◌≡◌, ◌≤◌, Err, IfErr, IfOk, List, Ok, OnErr, OnOk, Some, ◌∷◌, [], length, ℕ};
+ghost use Rattle.std.specs.Prelude.{◌≡◌, ◌≤◌, All, Err, IfErr, IfOk, List, Ok, OnErr, OnOk, Some, ◌∷◌, [], length, ℕ};
 ghost use Rattle.std.specs.Borrow.{Lends, sem};
 ghost use Rattle.std.specs.Fn.{CalledAt};
 ghost use Rattle.bstr.specs.Owned.{bstring_bytes};
 ghost use Rattle.gixobj_base.specs.Entries.{EntryView, IsEntryName, IsWellFormed};
 ghost use Rattle.gixobj_base.specs.Mode.{mode_of_kind};
 ghost use Rattle.gix_object.specs.Editing.{kept, removed_entries, upserted_entries, with_entry, without};
-ghost use Rattle.gix_object.specs.EditorCalls.{AreNames, EditorFiles, RefusesEdit, RefusesName, StoppedBy, names_of, with_store};
+ghost use Rattle.gix_object.specs.EditorCalls.{AreNames, EditorFiles, RefusesEdit, RefusesName, IsCallableOnTrees, IsStorable, StoppedBy, names_of, with_store};
 ghost use Rattle.gix_object.specs.Files.{Agrees, NamedFiles, Removed, SameFiles, Table, Upserted};
 ghost use Rattle.gix_object.specs.HandingOut.{HandsOut};
 ghost use Rattle.gix_object.specs.State.{open_dirs, root_alone};
@@ -142,6 +142,8 @@ impl<S> Editor<S> {
     ) -> Result<&mut Editor<S>, Error>
         requires short { length path.now ≤ 1 }
         ensures same_reference { IfOk result (λ it. it.ghost_name ≡ self.entry.ghost_name) }
+        ensures accepted { IfOk result (λ _. AreNames (names_of path.now)) }
+        ensures state { IfOk result (λ it. (root : List EntryView) → self.old.dirs ≡ root_alone root → it.now ≡ record self.old { dirs = root_alone (upserted_entries (names_of path.now) (mode_of_kind kind) id root) }) }
         ensures files { IfOk result (λ it. (T : Table) (n : ℕ) → SameFiles (EditorFiles T n it.now) (Upserted T n (names_of path.now) (mode_of_kind kind) id (EditorFiles T n self.old))) }
         ensures refusal { IfErr result (RefusesEdit (names_of path.now)) }
     {
@@ -178,6 +180,8 @@ impl<S> Editor<S> {
     pub fn remove(&mut self, path: &[BString]) -> Result<&mut Editor<S>, Error>
         requires short { length path.now ≤ 1 }
         ensures same_reference { IfOk result (λ it. it.ghost_name ≡ self.entry.ghost_name) }
+        ensures accepted { IfOk result (λ _. AreNames (names_of path.now)) }
+        ensures state { IfOk result (λ it. (root : List EntryView) → self.old.dirs ≡ root_alone root → it.now ≡ record self.old { dirs = root_alone (removed_entries (names_of path.now) root) }) }
         ensures files { IfOk result (λ it. (T : Table) (n : ℕ) → SameFiles (EditorFiles T n it.now) (Removed (names_of path.now) (EditorFiles T n self.old))) }
         ensures refusal { IfErr result (RefusesEdit (names_of path.now)) }
     {
@@ -213,13 +217,14 @@ impl<S> Editor<S> {
         &mut self,
         out: F,
     ) -> Result<Written, WriteError<E>>
-        requires { F.IsAlwaysCallable out }
+        requires { IsCallableOnTrees F.pre }
         ensures files { IfOk result (λ it. (T : Table) (n : ℕ) → Agrees T it.trees.items → SameFiles (NamedFiles T n it.id) (EditorFiles T n self.old)) }
         ensures same_files { (T : Table) (n : ℕ) → SameFiles (EditorFiles T n self.new) (EditorFiles T n self.old) }
         ensures handed_out { IfOk result (λ it. HandsOut (open_dirs self.old) it.trees.items) }
+        ensures storable { IfOk result (λ it. All (λ pair. IsStorable pair.1) it.trees.items) }
         ensures called { IfOk result (λ it. (tree : List EntryView) × (last : F) × CalledAt F.FnMut out tree (Ok it.id) last × (it.trees.items ≡ (it.id, tree) ∷ [])) }
         ensures state { IfOk result (λ it. (root : List EntryView) → self.old.dirs ≡ root_alone root → self.new ≡ record self.old { dirs = root_alone (kept root) }) }
-        ensures stopped { IfErr result (StoppedBy (λ answer. (tree : List EntryView) × (last : F) × CalledAt F.FnMut out tree answer last) (Unit {0})) }
+        ensures stopped { IfErr result (StoppedBy (λ answer. (tree : List EntryView) × (last : F) × CalledAt F.FnMut out tree answer last × ((id : ObjectId) → HandsOut (open_dirs self.old) ((id, tree) ∷ []))) (Unit {0})) }
         ensures unchanged { OnErr result (self.new ≡ self.old) }
     {
         let mut out = out;
@@ -231,9 +236,9 @@ impl<S> Editor<S> {
         &mut self,
         out: &mut F,
     ) -> Result<Written, WriteError<E>>
-        requires { F.IsAlwaysCallable out.old }
+        requires { IsCallableOnTrees F.pre }
         ensures ok { IfOk result (λ it. (root : List EntryView) × (self.old.dirs ≡ root_alone root) × CalledAt F.FnMut out.old (kept root) (Ok it.id) out.new
-            × (it.trees.items ≡ (it.id, kept root) ∷ []) × (self.new ≡ record self.old { dirs = root_alone (kept root) })) }
+            × (it.trees.items ≡ (it.id, kept root) ∷ []) × (self.new ≡ record self.old { dirs = root_alone (kept root) }) × IsStorable (kept root)) }
         ensures stopped { IfErr result (StoppedBy (λ answer. (root : List EntryView) × (self.old.dirs ≡ root_alone root) × CalledAt F.FnMut out.old (kept root) answer out.new) (out.new ≡ out.old)) }
         ensures unchanged { OnErr result (self.new ≡ self.old) }
     {

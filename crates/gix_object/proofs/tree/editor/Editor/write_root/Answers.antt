@@ -2,9 +2,10 @@
 use Rattle.std.proofs.Common.{◌≡◌, [], ◌∷◌, Err, Ok, ap, sym, ◌∙◌, rules}
 use Rattle.std.specs.Fn.{CalledAt}
 use Rattle.gix_object.specs.Editing.{kept}
+use Rattle.gix_object.specs.EditorCalls.{IsStorable}
 use Rattle.gix_object.specs.State.{root_alone}
 use Rattle.gix_object.proofs.Formed.{well_formed_kept}
-use Rattle.gix_object.proofs.Roots.{after_edit}
+use Rattle.gix_object.proofs.Roots.{after_edit, storable}
 use Rattle.gix_object.proofs.tree.editor.Editor.write_root.Goals as goal
 
 pub invariant_of-self : goal.invariant_of-self
@@ -23,9 +24,16 @@ returns-in-Ok-clause-ok g c =
       called,
       pairs,
       after_edit c.args.self.now c.self.inside.root c.in-Ok-Ok-Ok.rest.items c.self.inside.store c.self.inside.lookups c.self.inside.object_hash kept c.self.view_is rest c.self.inside.root view,
+      storable c.self.inside.root c.self.invariant,
     )
 
 pub returns-in-Err-clause-stopped : goal.returns-in-Err-clause-stopped
 returns-in-Err-clause-stopped g c =
     let called : CalledAt g.F.FnMut c.args.out.now (kept c.self.inside.root) (Err c.in-Err.error) c.out.new.self = search rules in
     (c.self.inside.root, sym (ap (λ s. s.dirs) c.self.view_is), called)
+
+pub out-requires : goal.out-requires
+out-requires g c =
+    let entries : c.in-Ok-Ok-Ok.entries.items ≡ kept c.self.inside.root = search rules in
+    let fit : IsStorable c.in-Ok-Ok-Ok.entries.items = rw entries (storable c.self.inside.root c.self.invariant) in
+    c.requires c.args.out.now _ fit
