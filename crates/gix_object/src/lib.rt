@@ -1,4 +1,11 @@
 //! Git's objects as plain bytes, and an editor of trees.
+//!
+//! It hands on what `gixobj_base` has for users: ids, kinds, loose headers, actors and times, trees and
+//! blobs, and how they are written. Its own is [`tree::editor`].
 #![tactic(auto)]
 
 pub mod tree;
+
+pub use gixobj_base::{
+    Blob, BlobRef, Header, Kind, Tree, WriteTo, actor, compute_hash, date, decode, encode, hash, kind,
+};

@@ -18,6 +18,7 @@ ghost use Rattle.gix_object.specs.contracts.tree.editor.Editor.{the_row};
 mod entries;
 #[cfg(test)]
 mod listing;
+mod tests;
 
 use bstr::BString;
 use entries::{copy_kept, put, take_out};
