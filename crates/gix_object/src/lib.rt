@@ -7,5 +7,6 @@
 pub mod tree;
 
 pub use gixobj_base::{
-    Blob, BlobRef, Header, Kind, Tree, WriteTo, actor, compute_hash, date, decode, encode, hash, kind,
+    Blob, BlobRef, Header, Kind, Tree, WriteTo, actor, compute_hash, date, decode, encode, hash,
+    kind,
 };

@@ -1,5 +1,10 @@
 //! The editor of one level. Ids of trees are those that `git mktree` answers.
-ghost use Rattle.std.specs.Prelude.{◌≡◌, IfOk, length};
+ghost use Rattle.std.specs.Prelude.{◌≡◌, ◌≤◌, ℕ, ◌∷◌, [], IfOk, IfSome, length};
+ghost use Rattle.gixobj_base.specs.Mode.{mode_of_kind};
+ghost use Rattle.gixobj_base.specs.declared.tree.entry_kind.EntryKind.TheVariants.{Blob};
+ghost use Rattle.gix_object.specs.EditorCalls.{EditorFiles, IsCallableOnTrees, names_of};
+ghost use Rattle.gix_object.specs.Files.{Agrees, NamedFiles, SameFiles, Table};
+ghost use Rattle.gix_object.specs.History.{History, remove, upsert};
 
 use super::{Editor, Error, WriteError, Written};
 use crate::hash::{Kind as HashKind, ObjectId};
@@ -50,8 +55,31 @@ fn written(alloc: Global, editor: &mut Editor<()>) -> Result<Written, Fail> {
     }
 }
 
+/// Two edits and a write: the tree that is named has the files of that history.
+fn edited_and_written<S, E: Drop, F: FnMut(&Tree) -> Result<ObjectId, E> + Drop>(
+    editor: &mut Editor<S>,
+    first: &[BString],
+    id: ObjectId,
+    second: &[BString],
+    out: F,
+) -> Result<Option<Written>, Error>
+    requires short { (length first.now ≤ 1) × (length second.now ≤ 1) }
+    requires callable { IsCallableOnTrees F.pre }
+    ensures { IfOk result (λ it. IfSome it (λ written. (T : Table) (n : ℕ) → Agrees T written.trees.items → SameFiles (NamedFiles T n written.id)
+        (History T n (upsert (names_of first.now) (mode_of_kind Blob) id ∷ remove (names_of second.now) ∷ []) (EditorFiles T n editor.old)))) }
+{
+    editor.try_upsert(first, EntryKind::Blob, id)?;
+    editor.try_remove(second)?;
+    match editor.write(out) {
+        Ok(written) => Ok(Some(written)),
+        Err(_) => Ok(None),
+    }
+}
+
 const TEST: &[u8] = b"1f7a7a472abf3dd9643fd615f6da379c4acb3e3a";
+
 const NEW: &[u8] = b"fa49b077972391ad58037050f2a75f74e3671e92";
+
 const BAK: &[u8] = b"d8329fc1cc938780ffdd9f94e0d364e0ea74f579";
 
 #[test]
@@ -106,7 +134,11 @@ fn null_placeholder(rt: HostRuntime) -> Result<(), Fail> {
         return Ok(());
     }
     let mut editor = Editor::new(root, (), HashKind::Sha1);
-    editor.upsert(&path(alloc, b"g")?, EntryKind::Blob, ObjectId::null(HashKind::Sha1))?;
+    editor.upsert(
+        &path(alloc, b"g")?,
+        EntryKind::Blob,
+        ObjectId::null(HashKind::Sha1),
+    )?;
     let written = written(alloc, &mut editor)?;
     assert!(rt; written.id == ObjectId::empty_tree(HashKind::Sha1));
     assert_eq!(rt; written.trees.len(), 1);
@@ -123,7 +155,14 @@ const NEAR: [(EntryKind, &[u8]); 3] = [
 #[test]
 fn all_orders(rt: HostRuntime) -> Result<(), Fail> {
     let alloc = rt.alloc();
-    let orders = [[0, 1, 2], [0, 2, 1], [1, 0, 2], [1, 2, 0], [2, 0, 1], [2, 1, 0]];
+    let orders = [
+        [0, 1, 2],
+        [0, 2, 1],
+        [1, 0, 2],
+        [1, 2, 0],
+        [2, 0, 1],
+        [2, 1, 0],
+    ];
     for order in orders {
         let mut editor = empty_editor(alloc);
         for place in order {
@@ -166,13 +205,30 @@ fn refused_edits(rt: HostRuntime) -> Result<(), Fail> {
     editor.upsert(&path(alloc, b"a")?, EntryKind::Blob, id(TEST)?)?;
     let empty = path(alloc, b"")?;
     let slashed = path(alloc, b"b/c")?;
-    assert!(rt; matches!(&editor.try_upsert(&empty, EntryKind::Blob, id(TEST)?), Err(Error::EmptyPathComponent)));
-    assert!(rt; matches!(&editor.try_upsert(&slashed, EntryKind::Blob, id(TEST)?), Err(Error::SlashInPathComponent)));
+    assert!(rt;
+        matches!(
+            &editor.try_upsert(&empty, EntryKind::Blob, id(TEST)?),
+            Err(Error::EmptyPathComponent)
+        )
+    );
+    assert!(rt;
+        matches!(
+            &editor.try_upsert(&slashed, EntryKind::Blob, id(TEST)?),
+            Err(Error::SlashInPathComponent)
+        )
+    );
     assert!(rt; matches!(&editor.try_remove(&empty), Err(Error::EmptyPathComponent)));
-    assert!(rt; matches!(&editor.try_remove(&slashed), Err(Error::SlashInPathComponent)));
+    assert!(rt;
+        matches!(
+            &editor.try_remove(&slashed),
+            Err(Error::SlashInPathComponent)
+        )
+    );
     assert!(rt; editor.remove(&slashed).is_err());
     let none = Vec::new(alloc);
-    editor.upsert(&none, EntryKind::Tree, id(BAK)?)?.remove(&none)?;
+    editor
+        .upsert(&none, EntryKind::Tree, id(BAK)?)?
+        .remove(&none)?;
     let tree = written(alloc, &mut editor)?;
     let [(_, tree)] = tree.trees.as_slice() else {
         return Err("one tree")?;
@@ -197,6 +253,18 @@ fn removed_entries(rt: HostRuntime) -> Result<(), Fail> {
     assert_eq!(rt; names(alloc, tree)?.as_slice(), b"a ".as_slice());
     editor.try_remove(&path(alloc, b"a")?)?;
     assert!(rt; written(alloc, &mut editor)?.id == ObjectId::empty_tree(HashKind::Sha1));
+    Ok(())
+}
+
+#[test]
+fn a_history(rt: HostRuntime) -> Result<(), Fail> {
+    let alloc = rt.alloc();
+    let mut editor = empty_editor(alloc);
+    let (a, b) = (path(alloc, b"a")?, path(alloc, b"b")?);
+    editor.upsert(&b, EntryKind::Tree, id(BAK)?)?;
+    let out = |tree: &Tree| id_of(alloc, tree);
+    let written = edited_and_written(&mut editor, &a, id(TEST)?, &b, out)?.ok_or("a write")?;
+    assert!(rt; written.id == id(b"a18166ad9dc2c46e84c28b674ab8be1e202f6f82")?);
     Ok(())
 }
 

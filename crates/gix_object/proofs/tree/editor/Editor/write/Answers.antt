@@ -36,6 +36,6 @@ returns-clause-state g c =
 pub returns-clause-stopped : goal.returns-clause-stopped
 returns-clause-stopped g c =
     MatchResult-weaker c.write_root.result c.write_root.ensures.stopped (λ it fact. fact)
-      (stopped_weaker (λ answer. (root : List EntryView) × (c.args.self.now.dirs ≡ root_alone root) × CalledAt g.F.FnMut c.args.out (kept root) answer c.write_root.new.out)
-        (λ answer. (tree : List EntryView) × (last : g.row.F.Denot) × CalledAt g.F.FnMut c.args.out tree answer last × ((id : ObjectId) → HandsOut (open_dirs c.args.self.now) ((id, tree) ∷ [])))
-        (c.write_root.new.out ≡ c.args.out) (Unit {0}) (λ answer called. (kept called.0, c.write_root.new.out, called.2, λ id. handed_after c.args.self.now called.0 id ((id, kept called.0) ∷ []) called.1 refl)) (λ _. tt))
+    (stopped_weaker (λ answer. (root : List EntryView) × (c.args.self.now.dirs ≡ root_alone root) × CalledAt g.F.FnMut c.args.out (kept root) answer c.write_root.new.out)
+    (λ answer. (tree : List EntryView) × (last : g.row.F.Denot) × CalledAt g.F.FnMut c.args.out tree answer last × ((id : ObjectId) → HandsOut (open_dirs c.args.self.now) ((id, tree) ∷ [])))
+    (c.write_root.new.out ≡ c.args.out) (Unit {0}) (λ answer called. (kept called.0, c.write_root.new.out, called.2, λ id. handed_after c.args.self.now called.0 id ((id, kept called.0) ∷ []) called.1 refl)) (λ _. tt))
