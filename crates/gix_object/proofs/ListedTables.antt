@@ -1,7 +1,9 @@
--- Every list of ids and trees makes a table, if there is one at all.
+-- Every list of ids and trees makes a table.
 use Rattle.std.proofs.Common.{◌≡◌, ◌≢◌, ◌⊎◌, inl, inr, ⊎_elim, ℕ, Bool, true, false, List, [], ◌∷◌, ◌∙◌, refl, sym, ap, subst, Option, Some, None}
 use Rattle.std.specs.Cmp.Lexicographic.{bytes_decides}
-use Rattle.std.proofs.lemmas.Bool.{false_from_ne_true}
+use Rattle.std.specs.Fmt.{digits}
+use Rattle.sha1.specs.Sha1 as sha1
+use Rattle.sha2.specs.Sha256 as sha256
 use Rattle.gixobj_base.specs.Entries.{EntryView}
 use Rattle.gixobj_base.specs.Hash.{id_of}
 use Rattle.gixobj_base.specs.declared.hash.kind.Kind.{Kind}
@@ -14,9 +16,18 @@ use Rattle.gix_object.specs.Files.{Table, is_null}
 use Rattle.gix_object.specs.HandingOut.{Pair}
 use Rattle.gix_object.specs.Listing.{IsFirst, IsTableOf}
 
--- where there is a table, the ids of the empty tree aren't null
-empty_not_null : Table → (hash : Kind) → is_null (id_of hash Tree []) ≡ false
-empty_not_null T hash = false_from_ne_true (is_null (id_of hash Tree [])) (λ null. cc (T.none_by_null (id_of hash Tree []) null, T.none_in_empty hash))
+-- the ids of the empty tree, computed, aren't null
+sha1_not_null : is_null (id_of hash.Sha1 Tree []) ≡ false
+unfolding digits sha1.first_words sha1.schedule sha1.rounds sha1.compress sha1.hash_after sha1.digest_bytes sha1.sha1
+sha1_not_null = refl
+
+sha256_not_null : is_null (id_of hash.Sha256 Tree []) ≡ false
+unfolding digits sha256.first_words sha256.schedule sha256.rounds sha256.compress sha256.hash_after sha256.digest_bytes sha256.sha256
+sha256_not_null = refl
+
+empty_not_null : (hash : Kind) → is_null (id_of hash Tree []) ≡ false
+empty_not_null hash.Sha1 = sha1_not_null
+empty_not_null hash.Sha256 = sha256_not_null
 
 -- two ids are the same, or not
 same_bytes : (xs ys : List ℕ) → (xs ≡ ys) ⊎ (xs ≢ ys)
@@ -65,12 +76,12 @@ chosen_first : (pairs : List Pair) (it : ObjectId) → IsFilled it → (which : 
 chosen_first pairs it other (inl is) = absurd (other is.0 is.1)
 chosen_first pairs it other (inr is) = (first_of pairs it).1
 
-pub table_of : Table → (pairs : List Pair) → (made : Table) × IsTableOf made pairs
-table_of T pairs = (
+pub table_of : (pairs : List Pair) → (T : Table) × IsTableOf T pairs
+table_of pairs = (
   record {
     tree_at = λ it. listed_at pairs it (is_null it);
     none_by_null = λ it null. ap (listed_at pairs it) null;
-    none_in_empty = λ hash. ap (listed_at pairs (id_of hash Tree [])) (empty_not_null T hash) ∙ chosen_empty pairs hash (empty_or_filled (id_of hash Tree []));
+    none_in_empty = λ hash. ap (listed_at pairs (id_of hash Tree [])) (empty_not_null hash) ∙ chosen_empty pairs hash (empty_or_filled (id_of hash Tree []));
   },
   λ it some other. subst (λ (null : Bool). IsFirst pairs it (listed_at pairs it null)) (sym some) (chosen_first pairs it other (empty_or_filled it)),
 )

@@ -4,6 +4,7 @@
 //! blobs, and how they are written. Its own is [`tree::editor`].
 #![tactic(auto)]
 
+pub mod laws;
 pub mod tree;
 
 pub use gixobj_base::{

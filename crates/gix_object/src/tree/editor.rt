@@ -18,6 +18,7 @@ ghost use Rattle.gix_object.specs.contracts.tree.editor.Editor.{the_row};
 mod entries;
 #[cfg(test)]
 mod listing;
+#[cfg(test)]
 mod tests;
 
 use bstr::BString;

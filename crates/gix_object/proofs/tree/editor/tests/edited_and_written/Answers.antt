@@ -12,6 +12,6 @@ returns-in-Ok g c = λ T n agrees.
     let upserted = Upserted T n (names_of c.args.first.now) (mode_of_kind Blob) c.args.id (EditorFiles T n c.args.editor.now) in
     let removed = Removed (names_of c.args.second.now) in
     same_trans (NamedFiles T n c.in-Ok.written.id) (EditorFiles T n c.try_remove.new.self) (removed upserted) (c.in-Ok.ensures.files T n agrees)
-      (same_trans (EditorFiles T n c.try_remove.new.self) (removed (EditorFiles T n c.try_upsert.new.self)) (removed upserted)
-        (c.in_ok-try_remove.ensures.files T n)
-        (same_removed (names_of c.args.second.now) (EditorFiles T n c.try_upsert.new.self) upserted (c.in_ok-try_upsert.ensures.files T n)))
+    (same_trans (EditorFiles T n c.try_remove.new.self) (removed (EditorFiles T n c.try_upsert.new.self)) (removed upserted)
+    (c.in_ok-try_remove.ensures.files T n)
+    (same_removed (names_of c.args.second.now) (EditorFiles T n c.try_upsert.new.self) upserted (c.in_ok-try_upsert.ensures.files T n)))
