@@ -234,6 +234,7 @@ impl<S> Editor<S> {
     }
 
     /// The same with a borrowed closure, so that its state tells of each call.
+    #[tactic(auto, using(crate::proofs::Roots::storable))]
     fn write_root<E, F: FnMut(&Tree) -> Result<ObjectId, E>>(
         &mut self,
         out: &mut F,

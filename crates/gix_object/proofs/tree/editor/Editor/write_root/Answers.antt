@@ -31,9 +31,3 @@ pub returns-in-Err-clause-stopped : goal.returns-in-Err-clause-stopped
 returns-in-Err-clause-stopped g c =
     let called : CalledAt g.F.FnMut c.args.out.now (kept c.self.inside.root) (Err c.in-Err.error) c.out.new.self = search rules in
     (c.self.inside.root, sym (ap (λ s. s.dirs) c.self.view_is), called)
-
-pub out-requires : goal.out-requires
-out-requires g c =
-    let entries : c.in-Ok-Ok-Ok.entries.items ≡ kept c.self.inside.root = search rules in
-    let fit : IsStorable c.in-Ok-Ok-Ok.entries.items = rw entries (storable c.self.inside.root c.self.invariant) in
-    c.requires c.args.out.now _ fit
