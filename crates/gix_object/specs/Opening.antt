@@ -2,7 +2,6 @@
 use Rattle.std.specs.Prelude.{◌≡◌, ◌≢◌, ℕ, zero, suc, List, [], ◌∷◌, ◌++◌, IsTrue, MatchOption, Option, Some, None}
 use Rattle.gixobj_base.specs.Entries.{EntryView, IsWellFormed}
 use Rattle.gixobj_base.specs.Mode.{is_tree_mode}
-use Rattle.gixobj_base.specs.declared.hash.object_id.ObjectId.{ObjectId}
 use Rattle.gix_object.specs.Files.{Below, FileSet, Files, Has, Path, Table}
 
 -- the entries of each open directory, by its path

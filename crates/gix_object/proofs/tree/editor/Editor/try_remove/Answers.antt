@@ -1,5 +1,5 @@
 -- One name is taken out of the root.
-use Rattle.std.proofs.Common.{◌≡◌, [], ◌∷◌, ap, sym, ◌∙◌, arith, rules}
+use Rattle.std.proofs.Common.{◌≡◌, [], ◌∷◌, ap, arith}
 use Rattle.bstr.specs.Owned.{bstring_bytes}
 use Rattle.gix_object.specs.Editing.{removed_entries}
 use Rattle.gix_object.specs.EditorCalls.{names_of}

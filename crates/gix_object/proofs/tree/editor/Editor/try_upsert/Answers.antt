@@ -1,5 +1,5 @@
 -- One entry is put into the root.
-use Rattle.std.proofs.Common.{◌≡◌, [], ◌∷◌, ap, sym, ◌∙◌, arith, rules}
+use Rattle.std.proofs.Common.{◌≡◌, [], ◌∷◌, ap, arith}
 use Rattle.bstr.specs.Owned.{bstring_bytes}
 use Rattle.gixobj_base.specs.Mode.{mode_of_kind}
 use Rattle.gix_object.specs.Editing.{upserted_entries}

@@ -1,5 +1,4 @@
 -- Each call adds its step.
-use Rattle.bstr.specs.declared.bstring.BString.{BString}
 use Rattle.gixobj_base.specs.Mode.{mode_of_kind}
 use Rattle.gixobj_base.specs.declared.tree.entry_kind.EntryKind.TheVariants.{Blob}
 use Rattle.gix_object.specs.EditorCalls.{EditorFiles, names_of}
