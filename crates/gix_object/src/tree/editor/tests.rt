@@ -6,6 +6,7 @@ ghost use Rattle.gix_object.specs.EditorCalls.{EditorFiles, IsCallableOnTrees, n
 ghost use Rattle.gix_object.specs.Files.{Agrees, NamedFiles, SameFiles, Table};
 ghost use Rattle.gix_object.specs.History.{History, remove, upsert};
 
+use super::listing::files_of;
 use super::{Editor, Error, WriteError, Written};
 use crate::hash::{Kind as HashKind, ObjectId};
 use crate::tree::{Entry, EntryKind};
@@ -79,6 +80,8 @@ fn edited_and_written<S, E: Drop, F: FnMut(&Tree) -> Result<ObjectId, E> + Drop>
 const TEST: &[u8] = b"1f7a7a472abf3dd9643fd615f6da379c4acb3e3a";
 
 const NEW: &[u8] = b"fa49b077972391ad58037050f2a75f74e3671e92";
+
+const BAK_TEST: &[u8] = b"83baae61804e65cc73a7201a7252750c76066a30";
 
 const BAK: &[u8] = b"d8329fc1cc938780ffdd9f94e0d364e0ea74f579";
 
@@ -265,6 +268,63 @@ fn a_history(rt: HostRuntime) -> Result<(), Fail> {
     let out = |tree: &Tree| id_of(alloc, tree);
     let written = edited_and_written(&mut editor, &a, id(TEST)?, &b, out)?.ok_or("a write")?;
     assert!(rt; written.id == id(b"a18166ad9dc2c46e84c28b674ab8be1e202f6f82")?);
+    Ok(())
+}
+
+/// The paths of a tree's files to a depth, a line each.
+fn paths(
+    alloc: Global,
+    table: &[(ObjectId, Tree)],
+    depth: usize,
+    tree: &Tree,
+) -> Result<String, AllocError> {
+    let mut paths = String::new(alloc);
+    for file in files_of(alloc, table, depth, tree)? {
+        for name in &file.path {
+            paths.push_str(&format!(in alloc; "/{name}")?)?;
+        }
+        paths.push_str("\n")?;
+    }
+    Ok(paths)
+}
+
+/// What a written root has, by the slow listing: no placeholder, and below a known tree its files.
+#[test]
+fn files_to_a_depth(rt: HostRuntime) -> Result<(), Fail> {
+    let alloc = rt.alloc();
+    let mut inner = empty_editor(alloc);
+    inner.upsert(&path(alloc, b"test.txt")?, EntryKind::Blob, id(BAK_TEST)?)?;
+    let table = written(alloc, &mut inner)?.trees;
+    let [(inner_id, _)] = table.as_slice() else {
+        return Err("one tree")?;
+    };
+    assert!(rt; *inner_id == id(BAK)?);
+    let mut editor = empty_editor(alloc);
+    editor
+        .upsert(&path(alloc, b"new.txt")?, EntryKind::Blob, id(NEW)?)?
+        .upsert(&path(alloc, b"bak")?, EntryKind::Tree, *inner_id)?
+        .upsert(
+            &path(alloc, b"q")?,
+            EntryKind::Blob,
+            ObjectId::null(HashKind::Sha1),
+        )?
+        .upsert(&path(alloc, b"far")?, EntryKind::Tree, id(TEST)?)?;
+    let outer = written(alloc, &mut editor)?;
+    let [(_, tree)] = outer.trees.as_slice() else {
+        return Err("one tree")?;
+    };
+    assert_eq!(rt; paths(alloc, &table, 0, tree)?.as_str(), "");
+    assert_eq!(rt; paths(alloc, &table, 1, tree)?.as_str(), "/far\n/new.txt\n");
+    assert_eq!(rt;
+        paths(alloc, &table, 2, tree)?.as_str(),
+        "/bak/test.txt\n/far\n/new.txt\n"
+    );
+    editor.remove(&path(alloc, b"bak")?)?;
+    let outer = written(alloc, &mut editor)?;
+    let [(_, tree)] = outer.trees.as_slice() else {
+        return Err("one tree")?;
+    };
+    assert_eq!(rt; paths(alloc, &table, 9, tree)?.as_str(), "/far\n/new.txt\n");
     Ok(())
 }
 
