@@ -34,14 +34,12 @@ RefusesName name error.EmptyPathComponent = name ≡ []
 RefusesName name error.SlashInPathComponent = (name ≢ []) × Contains name 47
 RefusesName name error.OutOfMemory = ⊥
 
--- the first name that no entry may have decides; want of memory says that there is none
+-- the first name that no entry may have decides; want of memory says that there is none. Without names nothing is refused
 abbrev pub RefusesEdit : Path → Error → Type 0
-RefusesEdit [] error.EmptyPathComponent = ⊥
-RefusesEdit [] error.SlashInPathComponent = ⊥
-RefusesEdit [] error.OutOfMemory = Unit {0}
+RefusesEdit [] refusal = ⊥
 RefusesEdit (name ∷ path) error.EmptyPathComponent = RefusesName name error.EmptyPathComponent ⊎ (IsEntryName name × RefusesEdit path error.EmptyPathComponent)
 RefusesEdit (name ∷ path) error.SlashInPathComponent = RefusesName name error.SlashInPathComponent ⊎ (IsEntryName name × RefusesEdit path error.SlashInPathComponent)
-RefusesEdit (name ∷ path) error.OutOfMemory = IsEntryName name × RefusesEdit path error.OutOfMemory
+RefusesEdit (name ∷ path) error.OutOfMemory = IsEntryName name × AreNames path
 
 -- a tree that may be handed out: well-formed, and without null ids
 pub record IsStorable (entries : List EntryView) : Type 0 where
