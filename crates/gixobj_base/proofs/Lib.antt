@@ -2,6 +2,7 @@ mod ActorLines
 mod ActorTexts
 mod Digits
 mod EmptyObjects
+pub mod HeaderFields
 mod Headers
 mod HexDigits
 mod HexTexts

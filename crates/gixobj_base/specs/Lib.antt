@@ -8,6 +8,8 @@ pub mod EntryOrder
 pub mod Hash
 pub mod Hasher
 pub mod HeaderError
+pub mod HeaderReading
+pub mod HeaderText
 pub mod IdOrder
 pub mod Kind
 pub mod KindError

@@ -11,7 +11,7 @@ mod tests;
 use crate::parse::split_at_byte;
 use crate::{Kind, kind};
 use bstr::BString;
-use std::alloc::{AllocError, Global};
+use std::alloc::{AllocError, AllocFailed, Global};
 
 /// The refusal of a reader of objects.
 #[derive(Clone, Debug, Drop, thiserror::Error)]
@@ -22,6 +22,26 @@ pub enum Error {
     /// There was no memory for what was read.
     #[error("out of memory")]
     OutOfMemory,
+}
+
+impl From<AllocError> for Error {
+    ghost use Rattle.gixobj_base.specs.declared.decode.Error.TheVariants.{OutOfMemory};
+
+    ghost from_gives = { λ _ error. error ≡ OutOfMemory };
+
+    fn from(_: AllocError) -> Error {
+        Error::OutOfMemory
+    }
+}
+
+impl<T: Drop> From<AllocFailed<T>> for Error {
+    ghost use Rattle.gixobj_base.specs.declared.decode.Error.TheVariants.{OutOfMemory};
+
+    ghost from_gives = { λ _ error. error ≡ OutOfMemory };
+
+    fn from(_: AllocFailed<T>) -> Error {
+        Error::OutOfMemory
+    }
 }
 
 /// Why a text is no size.

@@ -8,6 +8,7 @@ ghost use Rattle.gixobj_base.specs.Date.{IsOffset, IsTimeText, time_text};
 ghost use Rattle.gixobj_base.specs.Decode.{HasLooseHeader};
 ghost use Rattle.gixobj_base.specs.Encode.{loose_header_text};
 ghost use Rattle.gixobj_base.specs.Hash.{IsHexOfAnId, IsId, Spells, hex_text, is_lower_hex_digit};
+ghost use Rattle.gixobj_base.specs.HeaderText.{HasField, HasHeader, Header};
 ghost use Rattle.gixobj_base.specs.declared.hash.object_id.ObjectId.{ObjectId};
 ghost use Rattle.gixobj_base.specs.declared.kind.Kind.{Kind};
 
@@ -48,4 +49,12 @@ pub fn actor_line_has_one_reading()
 pub fn actor_reads_back()
     ensures { (name email : List ℕ) (seconds offset : ℤ) → IsLegalActor name email → FitsSigned w64 seconds → IsOffset offset →
         IsActorLine (actor_text name email (time_text seconds offset)) name email (time_text seconds offset) [] }
+{}
+
+/// A text begins with one field of a name at most, and with one header at most.
+pub fn header_fields_have_one_reading()
+    ensures one_field { (name input value rest value' rest' : List ℕ) →
+        HasField name input value rest → HasField name input value' rest' → (value ≡ value') × (rest ≡ rest') }
+    ensures one_header { (input : List ℕ) (header header' : Header) (rest rest' : List ℕ) →
+        HasHeader input header rest → HasHeader input header' rest' → (header ≡ header') × (rest ≡ rest') }
 {}
