@@ -1,17 +1,17 @@
-mod ActorLines
-mod ActorTexts
+pub mod ActorLines
+pub mod ActorTexts
 mod Digits
 mod EmptyObjects
 pub mod HeaderFields
 mod Headers
-mod HexDigits
-mod HexTexts
+pub mod HexDigits
+pub mod HexTexts
 mod ModeTexts
 mod NameKeys
 mod OctalNumbers
-mod Refusals
+pub mod Refusals
 mod SizeTexts
-mod Splits
+pub mod Splits
 mod TimeTexts
 mod TreeWrites
 mod WellFormed

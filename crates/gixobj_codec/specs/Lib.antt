@@ -1,0 +1,5 @@
+pub mod Commit
+pub mod CommitReading
+pub mod CommitTokens
+pub mod CommitViews
+pub mod CommitWriting

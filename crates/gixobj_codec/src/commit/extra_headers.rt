@@ -1,0 +1,1 @@
+//! The headers of commits behind those that each has.

@@ -1,0 +1,1 @@
+//! Commits, written (gitdatamodel, "commits").

@@ -1,0 +1,1 @@
+//! Header fields, written (gitdatamodel, "commits"; gitformat-signature, "Commit signatures").
