@@ -1,6 +1,9 @@
 //! Commits (gitdatamodel, "commits").
 
+mod decode;
+mod extra_headers;
 pub mod ref_iter;
+mod write;
 
 use bstr::{BStr, BString};
 use gixobj_base::actor::Signature;
