@@ -46,7 +46,7 @@ pub fn has_byte(text: &[u8], byte: u8) -> bool
 
 /// The value of the header field of this name, and what follows its line, or none where the input does
 /// not begin with the name, a space and a line that ends in a newline.
-#[tactic(auto, using(crate::proofs::HeaderFields::field_of_parts, crate::proofs::HeaderFields::no_field_without_name, crate::proofs::HeaderFields::no_field_without_newline))]
+#[tactic(auto, using(crate::proofs::HeaderFields::field_of_parts, crate::proofs::HeaderFields::no_field_without_name))]
 pub fn header_field<'a>(input: &'a [u8], name: &[u8]) -> Option<(&'a [u8], &'a [u8])>
     ensures found { IfSome result (λ it. HasField name.now input.now it.0.now it.1.now) }
     ensures none { IfNone result (HasNoField name.now input.now) }
@@ -61,7 +61,6 @@ pub fn header_field<'a>(input: &'a [u8], name: &[u8]) -> Option<(&'a [u8], &'a [
 }
 
 /// What stands after the name and a space at the front of the input.
-#[tactic(auto, using(crate::proofs::HeaderFields::no_space_behind))]
 pub fn after_name<'a>(input: &'a [u8], name: &[u8]) -> Option<&'a [u8]>
     ensures found { IfSome result (λ rest. input.now ≡ name.now ++ 32 ∷ rest.now) }
     ensures none { IfNone result ((rest : List ℕ) → input.now ≢ name.now ++ 32 ∷ rest) }
@@ -80,7 +79,7 @@ pub fn after_name<'a>(input: &'a [u8], name: &[u8]) -> Option<&'a [u8]>
 /// Its value is its one line without the newline, or all of its lines with their newlines, less the
 /// space before each but the first. `Malformed` where the input begins with no header. A value of
 /// several lines takes memory, and `OutOfMemory` comes for no other.
-#[tactic(auto, using(crate::proofs::HeaderFields::header_of_one_line, crate::proofs::HeaderFields::header_of_lines, crate::proofs::HeaderFields::no_header_without_space, crate::proofs::HeaderFields::no_header_of_no_name, crate::proofs::HeaderFields::no_header_without_newline, crate::proofs::HeaderFields::no_header_without_lines, crate::proofs::HeaderFields::begins_several))]
+#[tactic(auto, using(crate::proofs::HeaderFields::header_of_one_line, crate::proofs::HeaderFields::header_of_lines))]
 pub fn any_header_field(
     alloc: Global,
     input: &[u8],
@@ -119,7 +118,6 @@ pub fn hex_hash(text: &[u8], kind: Kind) -> Option<BStr<'_>>
 }
 
 /// The actor of a line, or none where the line is none or bytes follow its time.
-#[tactic(auto, using(crate::proofs::HeaderFields::no_actor_of_no_line, crate::proofs::HeaderFields::no_actor_with_rest))]
 pub fn signature(line: &[u8]) -> Option<SignatureRef<'_>>
     ensures found { IfSome result (λ it. IsActor line.now (bstr_bytes it.name) (bstr_bytes it.email) (bstr_bytes it.time)) }
     ensures none { IfNone result (IsNoActor line.now) }
@@ -132,7 +130,7 @@ pub fn signature(line: &[u8]) -> Option<SignatureRef<'_>>
 }
 
 /// The first line and the lines that follow it, with their newlines, and what stands behind them.
-#[tactic(auto, using(crate::proofs::HeaderFields::unfolding_starts, crate::proofs::HeaderFields::unfolding_more, crate::proofs::HeaderFields::unfolding_ends, crate::proofs::HeaderFields::unfolding_cut, crate::proofs::HeaderFields::unfolding_shorter))]
+#[tactic(auto, using(crate::proofs::HeaderFields::unfolding_starts, crate::proofs::HeaderFields::unfolding_ends, crate::proofs::HeaderFields::unfolding_shorter))]
 fn unfolded<'a>(alloc: Global, first: &[u8], input: &'a [u8]) -> Result<(Vec<u8>, &'a [u8]), Error>
     ensures found { IfOk result (λ it. IsUnfolded first.now input.now it.0.items it.1.now) }
     ensures refusal { IfErr result (λ e. e ≡ Malformed → HasNoLines input.now) }
