@@ -1,4 +1,5 @@
 pub mod Commit
+pub mod CommitOwned
 pub mod CommitReading
 pub mod CommitTokens
 pub mod CommitViews

@@ -1,4 +1,5 @@
 //! Objects whose content is not yet read.
+ghost use Rattle.std.specs.Prelude.{◌≡◌};
 
 use gixobj_base::{Kind, hash};
 
@@ -11,4 +12,20 @@ pub struct Data<'a> {
     pub object_hash: hash::Kind,
     /// The content.
     pub bytes: &'a [u8],
+}
+
+/// Initialization
+impl<'a> Data<'a> {
+    /// The content of an object of this kind. It takes no memory.
+    pub fn new(bytes: &'a [u8], kind: Kind, object_hash: hash::Kind) -> Data<'a>
+        ensures content { result.bytes ≡ bytes.entry }
+        ensures kind { result.kind ≡ kind }
+        ensures object_hash { result.object_hash ≡ object_hash }
+    {
+        Data {
+            kind,
+            object_hash,
+            bytes,
+        }
+    }
 }
