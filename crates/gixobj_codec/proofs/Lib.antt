@@ -1,1 +1,3 @@
+pub mod CommitsTold
 pub mod HexCase
+pub mod ToldCommits
