@@ -1,3 +1,4 @@
 pub mod CommitsTold
+pub mod FieldWrites
 pub mod HexCase
 pub mod ToldCommits

@@ -5,4 +5,5 @@ pub mod CommitRuns
 pub mod CommitTokens
 pub mod CommitViews
 pub mod CommitWriting
+pub mod FieldWriting
 pub mod Readers

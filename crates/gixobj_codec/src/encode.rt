@@ -1,1 +1,241 @@
 //! Header fields, written (gitdatamodel, "commits"; gitformat-signature, "Commit signatures").
+ghost use Rattle.std.specs.Prelude.{◌≡◌, ◌<◌, ◌+◌, ◌*◌, ◌^◌, ◌++◌, ◌∷◌, [], List, ℕ, Some, length, IfErr, MatchOption, OnErr, OnOk};
+ghost use Rattle.std.specs.Io.KnownBytes.{Appends};
+ghost use Rattle.std.specs.Option.{SomeIff};
+ghost use Rattle.std.specs.Str.{str_to_ascii_lowercase};
+ghost use Rattle.bstr.specs.Owned.{bstring_bytes};
+ghost use Rattle.gixobj_base.specs.ActorWriting.{owned_text};
+ghost use Rattle.gixobj_base.specs.Hash.{IsHexOfAnId, Spells, hex_text};
+ghost use Rattle.gixobj_base.specs.HeaderText.{field_text};
+ghost use Rattle.gixobj_base.specs.Writing.{Lasts, MayRefuse, RefusesNothing, SaysWhy};
+ghost use Rattle.gixobj_codec.specs.CommitWriting.{IsLegal, folded};
+ghost use Rattle.gixobj_codec.specs.FieldWriting.{IsLastLine, RefusesLine, RefusesSignature};
+
+use bstr::BString;
+use gixobj_base::actor::Signature;
+use gixobj_base::encode::Error;
+use gixobj_base::hash::ObjectId;
+use gixobj_base::parse::{has_byte, split_at_byte};
+use gixobj_base::streams::Sink;
+use std::alloc::Global;
+use std::io;
+
+/// Puts a field of one line, whatever its value is.
+pub(crate) fn trusted_header_field<S: Sink>(
+    name: &[u8],
+    value: &[u8],
+    sink: &mut S,
+) -> io::Result<()>
+    ensures written { OnOk result (Appends (S.held sink.old) (S.held sink.new) (field_text name.now value.now)) }
+    ensures err { OnErr result (MayRefuse (S.may_refuse sink.old) (field_text name.now value.now)) }
+    ensures lasting { OnOk result (Lasts (S.may_refuse sink.old) (S.may_refuse sink.new) (field_text name.now value.now)) }
+    ensures same_loan { S.loan sink.new ≡ S.loan sink.old }
+{
+    sink.put(name)?;
+    sink.put(b" ")?;
+    sink.put(value)?;
+    sink.put(b"\n")
+}
+
+/// Puts the field of an id, in lower case.
+pub(crate) fn trusted_header_id<S: Sink>(name: &[u8], id: &ObjectId, sink: &mut S) -> io::Result<()>
+    ensures written { OnOk result (Appends (S.held sink.old) (S.held sink.new) (field_text name.now (hex_text id.now))) }
+    ensures err { OnErr result (MayRefuse (S.may_refuse sink.old) (field_text name.now (hex_text id.now))) }
+    ensures lasting { OnOk result (Lasts (S.may_refuse sink.old) (S.may_refuse sink.new) (field_text name.now (hex_text id.now))) }
+    ensures same_loan { S.loan sink.new ≡ S.loan sink.old }
+{
+    let mut buffer = [0; 64];
+    trusted_header_field(name, id.hex_to_buf(&mut buffer).as_bytes(), sink)
+}
+
+/// Puts the field of an id of this hex text, in lower case.
+#[tactic(auto, using(crate::proofs::HexCase::hex_in_lower_case))]
+pub(crate) fn trusted_header_hex<S: Sink>(name: &[u8], hex: &[u8], sink: &mut S) -> io::Result<()>
+    requires { IsHexOfAnId hex.now }
+    ensures written { OnOk result (Appends (S.held sink.old) (S.held sink.new) (field_text name.now (str_to_ascii_lowercase hex.now))) }
+    ensures err { OnErr result (MayRefuse (S.may_refuse sink.old) (field_text name.now (str_to_ascii_lowercase hex.now))) }
+    ensures lasting { OnOk result (Lasts (S.may_refuse sink.old) (S.may_refuse sink.new) (field_text name.now (str_to_ascii_lowercase hex.now))) }
+    ensures same_loan { S.loan sink.new ≡ S.loan sink.old }
+{
+    trusted_header_id(name, &id_of_hex(hex), sink)
+}
+
+/// The id of a hex text.
+fn id_of_hex(hex: &[u8]) -> ObjectId
+    requires { IsHexOfAnId hex.now }
+    ensures { Spells hex.now result }
+{
+    match ObjectId::from_hex(hex) {
+        Some(id) => id,
+        None => unreachable!(),
+    }
+}
+
+/// Puts the field of an actor, which is refused behind the name and a space where it is illegal.
+pub(crate) fn trusted_header_signature<S: Sink>(
+    name: &[u8],
+    actor: &Signature,
+    sink: &mut S,
+) -> Result<(), Error>
+    ensures written { OnOk result (Appends (S.held sink.old) (S.held sink.new) (field_text name.now (owned_text actor.now))) }
+    ensures legal { OnOk result (IsLegal actor.now) }
+    ensures lasting { OnOk result (Lasts (S.may_refuse sink.old) (S.may_refuse sink.new) (field_text name.now (owned_text actor.now))) }
+    ensures refusal { IfErr result (SaysWhy (RefusesSignature name.now actor.now) (S.held sink.old) (S.held sink.new) (MayRefuse (S.may_refuse sink.old) (field_text name.now (owned_text actor.now)))) }
+    ensures same_loan { S.loan sink.new ≡ S.loan sink.old }
+{
+    sink.put(name)?;
+    sink.put(b" ")?;
+    actor.write_into(sink)?;
+    sink.put(b"\n")?;
+    Ok(())
+}
+
+/// Puts a field of one line, and refuses a value that is empty or has a newline.
+#[tactic(auto, using(crate::proofs::FieldWrites::appends_nothing))]
+pub(crate) fn header_field<S: Sink>(
+    alloc: Global,
+    name: &[u8],
+    value: &[u8],
+    sink: &mut S,
+) -> Result<(), Error>
+    ensures written { OnOk result (Appends (S.held sink.old) (S.held sink.new) (field_text name.now value.now)) }
+    ensures nothing_refused { OnOk result (RefusesNothing (RefusesLine (Some value.now))) }
+    ensures lasting { OnOk result (Lasts (S.may_refuse sink.old) (S.may_refuse sink.new) (field_text name.now value.now)) }
+    ensures refusal { IfErr result (SaysWhy (RefusesLine (Some value.now)) (S.held sink.old) (S.held sink.new) (MayRefuse (S.may_refuse sink.old) (field_text name.now value.now))) }
+    ensures same_loan { S.loan sink.new ≡ S.loan sink.old }
+{
+    if value.is_empty() {
+        return Err(Error::EmptyValue);
+    }
+    if has_byte(value, b'\n') {
+        let value = BString::from_slice(alloc, value)?;
+        return Err(Error::NewlineInHeaderValue { value });
+    }
+    trusted_header_field(name, value, sink)?;
+    Ok(())
+}
+
+/// Puts a header, with a space before each line of its value but the first, and a newline at the end.
+pub(crate) fn header_field_multi_line<S: Sink>(
+    name: &[u8],
+    value: &[u8],
+    sink: &mut S,
+) -> io::Result<()>
+    ensures written { OnOk result (Appends (S.held sink.old) (S.held sink.new) (name.now ++ 32 ∷ folded value.now)) }
+    ensures err { OnErr result (MayRefuse (S.may_refuse sink.old) (name.now ++ 32 ∷ folded value.now)) }
+    ensures lasting { OnOk result (Lasts (S.may_refuse sink.old) (S.may_refuse sink.new) (name.now ++ 32 ∷ folded value.now)) }
+    ensures same_loan { S.loan sink.new ≡ S.loan sink.old }
+{
+    sink.put(name)?;
+    sink.put(b" ")?;
+    put_folded(value, sink)
+}
+
+/// Puts the lines of a value.
+fn put_folded<S: Sink>(value: &[u8], sink: &mut S) -> io::Result<()>
+    ensures written { OnOk result (Appends (S.held sink.old) (S.held sink.new) (folded value.now)) }
+    ensures err { OnErr result (MayRefuse (S.may_refuse sink.old) (folded value.now)) }
+    ensures lasting { OnOk result (Lasts (S.may_refuse sink.old) (S.may_refuse sink.new) (folded value.now)) }
+    ensures same_loan { S.loan sink.new ≡ S.loan sink.old }
+{
+    let mut rest = value;
+    while let Some((line, after)) = first_line(rest) {
+        put_line(line, sink)?;
+        rest = after;
+    }
+    put_last_line(rest, sink)
+}
+
+/// Puts a line, and the space before the next.
+fn put_line<S: Sink>(line: &[u8], sink: &mut S) -> io::Result<()>
+    ensures written { OnOk result (Appends (S.held sink.old) (S.held sink.new) (line.now ++ 10 ∷ 32 ∷ [])) }
+    ensures err { OnErr result (MayRefuse (S.may_refuse sink.old) (line.now ++ 10 ∷ 32 ∷ [])) }
+    ensures lasting { OnOk result (Lasts (S.may_refuse sink.old) (S.may_refuse sink.new) (line.now ++ 10 ∷ 32 ∷ [])) }
+    ensures same_loan { S.loan sink.new ≡ S.loan sink.old }
+{
+    sink.put(line)?;
+    sink.put(b"\n ")
+}
+
+/// Puts the last line, with its newline.
+fn put_last_line<S: Sink>(line: &[u8], sink: &mut S) -> io::Result<()>
+    requires { IsLastLine line.now }
+    ensures written { OnOk result (Appends (S.held sink.old) (S.held sink.new) (folded line.now)) }
+    ensures err { OnErr result (MayRefuse (S.may_refuse sink.old) (folded line.now)) }
+    ensures lasting { OnOk result (Lasts (S.may_refuse sink.old) (S.may_refuse sink.new) (folded line.now)) }
+    ensures same_loan { S.loan sink.new ≡ S.loan sink.old }
+{
+    let end = missing_newline(line);
+    sink.put(line)?;
+    sink.put(end)
+}
+
+/// The newline, where the last line has none.
+#[tactic(auto, using(crate::proofs::FieldWrites::folded_with_newline, crate::proofs::FieldWrites::folded_without_newline))]
+fn missing_newline(line: &[u8]) -> &'static [u8]
+    requires { IsLastLine line.now }
+    ensures { folded line.now ≡ line.now ++ result.now }
+{
+    if has_byte(line, b'\n') { b"" } else { b"\n" }
+}
+
+/// The first line and what follows it, or none where no byte follows the first newline.
+#[tactic(auto, using(crate::proofs::FieldWrites::folded_cut, crate::proofs::FieldWrites::cut_shorter, crate::proofs::FieldWrites::last_line))]
+fn first_line(value: &[u8]) -> Option<(&[u8], &[u8])>
+    ensures { MatchOption result (IsLastLine value.now) (λ it. (folded value.now ≡ it.0.now ++ 10 ∷ 32 ∷ folded it.1.now) × (length it.1.now < length value.now)) }
+{
+    let (line, after) = split_at_byte(value, b'\n')?;
+    if after.is_empty() {
+        None
+    } else {
+        Some((line, after))
+    }
+}
+
+/// The size with that of a field of one line, or none past 64 bits.
+pub(crate) fn size_with_field(size: u64, name: &[u8], value: &[u8]) -> Option<u64>
+    ensures { SomeIff result (size + length (field_text name.now value.now) < 2 ^ 64) (size + length (field_text name.now value.now)) }
+{
+    let with_name = size.checked_add(name.len() as u64)?.checked_add(2)?;
+    with_name.checked_add(value.len() as u64)
+}
+
+/// The size with that of the field of an id, or none past 64 bits.
+#[tactic(auto, using(crate::proofs::FieldWrites::id_field_len))]
+pub(crate) fn size_with_id(size: u64, name: &[u8], id: &ObjectId) -> Option<u64>
+    ensures { SomeIff result (size + length (field_text name.now (hex_text id.now)) < 2 ^ 64) (size + length (field_text name.now (hex_text id.now))) }
+{
+    let with_name = size.checked_add(name.len() as u64)?.checked_add(2)?;
+    with_name.checked_add(2 * id.as_bytes().len() as u64)
+}
+
+/// The size with that of the field of an actor, or none past 64 bits.
+pub(crate) fn size_with_signature(size: u64, name: &[u8], actor: &Signature) -> Option<u64>
+    ensures { SomeIff result (size + length (field_text name.now (owned_text actor.now)) < 2 ^ 64) (size + length (field_text name.now (owned_text actor.now))) }
+{
+    let with_name = size.checked_add(name.len() as u64)?.checked_add(2)?;
+    with_name.checked_add(actor.size()?)
+}
+
+/// The size with that of a header, or none past 64 bits.
+pub(crate) fn size_with_multi_line(size: u64, name: &[u8], value: &[u8]) -> Option<u64>
+    ensures { SomeIff result (size + length (name.now ++ 32 ∷ folded value.now) < 2 ^ 64) (size + length (name.now ++ 32 ∷ folded value.now)) }
+{
+    let with_name = size.checked_add(name.len() as u64)?.checked_add(1)?;
+    size_with_folded(with_name, value)
+}
+
+/// The size with that of the lines of a value, or none past 64 bits.
+fn size_with_folded(size: u64, value: &[u8]) -> Option<u64>
+    ensures { SomeIff result (size + length (folded value.now) < 2 ^ 64) (size + length (folded value.now)) }
+{
+    let mut size = size;
+    let mut rest = value;
+    while let Some((line, after)) = first_line(rest) {
+        size = size.checked_add(line.len() as u64)?.checked_add(2)?;
+        rest = after;
+    }
+    let end = missing_newline(rest);
+    let with_line = size.checked_add(rest.len() as u64)?;
+    with_line.checked_add(end.len() as u64)
+}
