@@ -1,7 +1,7 @@
 -- What the parts of a commit's reader answer, from the left.
-use Rattle.std.specs.Prelude.{◌≡◌, ◌≢◌, ◌⊎◌, ℕ, List, [], ◌∷◌, ◌++◌, All, Option, Some, None, codes}
+use Rattle.std.specs.Prelude.{◌≡◌, ◌≢◌, ℕ, List, [], ◌∷◌, ◌++◌, All, Option, Some, None, codes}
 use Rattle.std.specs.List.{flat_map}
-use Rattle.gixobj_base.specs.HeaderReading.{IsActor, IsHexOf}
+use Rattle.gixobj_base.specs.HeaderReading.{IsHexOf}
 use Rattle.gixobj_base.specs.HeaderText.{HasField, HasHeader, Header}
 use Rattle.gixobj_base.specs.declared.decode.Error.{Error}
 use Rattle.gixobj_base.specs.declared.decode.Error.TheVariants.{Malformed, OutOfMemory}

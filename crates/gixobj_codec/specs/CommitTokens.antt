@@ -1,5 +1,5 @@
 -- Commits told token by token.
-use Rattle.std.specs.Prelude.{◌≡◌, ◌≢◌, ◌⊎◌, ℕ, List, [], ◌∷◌, ◌++◌, Option, Some, None, Result, Ok, Err, MatchOption, codes, ⊤}
+use Rattle.std.specs.Prelude.{◌≡◌, ◌≢◌, ℕ, List, [], ◌∷◌, ◌++◌, Option, Some, None, codes, ⊤}
 use Rattle.bstr.specs.BStr.{bstr_bytes}
 use Rattle.gixobj_base.specs.Hash.{Spells, id_kind}
 use Rattle.gixobj_base.specs.HeaderReading.{IsActor, header_of}

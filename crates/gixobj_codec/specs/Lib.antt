@@ -7,3 +7,5 @@ pub mod CommitViews
 pub mod CommitWriting
 pub mod FieldWriting
 pub mod Readers
+pub mod TokenGiving
+pub mod TokenReading

@@ -1,10 +1,19 @@
 //! Commits told token by token.
+ghost use Rattle.std.specs.Prelude.{◌≡◌, MatchOption, None, Some};
+ghost use Rattle.gixobj_base.specs.Oid.{borrowed_id};
+ghost use Rattle.gixobj_codec.specs.TokenGiving.{GivesToken, reader_bytes, reader_kind, reader_state, token_id, tokens_left};
+ghost use Rattle.gixobj_codec.specs.CommitTokens.{token_view};
+ghost use Rattle.gixobj_codec.specs.declared.commit.ref_iter.State.TheVariants as state;
+
+mod tokens;
 
 use bstr::BStr;
 use gixobj_base::actor::SignatureRef;
-use gixobj_base::hash::{Kind, ObjectId};
+use gixobj_base::decode::Error;
+use gixobj_base::hash::{Kind, ObjectId, oid};
 use std::alloc::Global;
 use std::borrow::CowSlice;
+use tokens::read_token;
 
 /// Where in a commit a reader stands.
 #[derive(Clone, Copy, Debug)]
@@ -28,6 +37,53 @@ pub struct CommitRefIter<'a> {
     state: State,
     hash_kind: Kind,
     alloc: Global,
+}
+
+/// Lifecycle
+impl<'a> CommitRefIter<'a> {
+    /// A reader of the commit with this text, whose ids are of this kind. It reads nothing yet, and
+    /// takes no memory.
+    pub fn from_bytes(alloc: Global, bytes: &'a [u8], hash_kind: Kind) -> CommitRefIter<'a>
+        ensures bytes { reader_bytes result ≡ bytes.now }
+        ensures state { reader_state result ≡ state.Tree }
+        ensures kind { reader_kind result ≡ hash_kind }
+    {
+        CommitRefIter {
+            bytes,
+            state: State::Tree,
+            hash_kind,
+            alloc,
+        }
+    }
+}
+
+/// Tells the next token. Behind an error the reader is at its end.
+///
+/// `Malformed` where the bytes that are left begin with no token that may come next. A header of
+/// several lines takes memory, and `OutOfMemory` comes for no other token.
+impl<'a> Iterator for CommitRefIter<'a> {
+    type Item = Result<Token<'a>, Error>;
+
+    ghost next_gives = { GivesToken };
+
+    ghost remaining = { tokens_left };
+
+    fn next(&mut self) -> Option<Result<Token<'a>, Error>> {
+        if self.bytes.is_empty() {
+            return None;
+        }
+        match read_token(self.alloc, self.state, self.hash_kind, self.bytes) {
+            Ok((token, state, rest)) => {
+                self.bytes = rest;
+                self.state = state;
+                Some(Ok(token))
+            }
+            Err(error) => {
+                self.bytes = b"";
+                Some(Err(error))
+            }
+        }
+    }
 }
 
 /// A part of a commit.
@@ -59,4 +115,27 @@ pub enum Token<'a> {
     ExtraHeader((BStr<'a>, CowSlice<'a, u8>)),
     /// The message.
     Message(BStr<'a>),
+}
+
+/// Access
+impl<'a> Token<'a> {
+    /// The id of a tree or a parent, borrowed.
+    pub fn id(&self) -> Option<oid<'_>>
+        ensures { MatchOption result (token_id (token_view self.now) ≡ None) (λ id. token_id (token_view self.now) ≡ Some (borrowed_id id)) }
+    {
+        match self {
+            Token::Tree { id } | Token::Parent { id } => Some(id.as_oid()),
+            _ => None,
+        }
+    }
+
+    /// The id of a tree or a parent.
+    pub fn try_into_id(self) -> Option<ObjectId>
+        ensures { result ≡ token_id (token_view self.entry) }
+    {
+        match &self {
+            Token::Tree { id } | Token::Parent { id } => Some(*id),
+            _ => None,
+        }
+    }
 }
