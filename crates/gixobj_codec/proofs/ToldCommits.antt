@@ -165,25 +165,55 @@ tokens_grouped : (tree author committer : TokenView) (parents encoding headers :
     → tree ∷ (parents ++ (author ∷ (committer ∷ (encoding ++ (headers ++ message ∷ []))))) ≡ tree ∷ parents ++ author ∷ committer ∷ encoding ++ headers ++ message ∷ []
 tokens_grouped tree author committer parents encoding headers message = simp append_assoc
 
+-- the parts of a commit behind its parents, and their tokens
+pub record ToldBehind (kind : Kind) (commit : CommitLines) (headers_text : List ℕ) : Type 0 where
+  pub author : ActorParts
+  pub committer : ActorParts
+  pub is_author : IsActor commit.author author.name author.email author.time
+  pub is_committer : IsActor commit.committer committer.name committer.email committer.time
+  pub told : Tells kind state.Parents (field_text (codes "author") commit.author ++ (field_text (codes "committer") commit.committer ++ (encoding_text commit.encoding ++ (headers_text ++ 10 ∷ commit.message))))
+      (author_token author.name author.email author.time ∷ committer_token committer.name committer.email committer.time ∷ (encoding_tokens commit.encoding ++ (map header_token commit.extra_headers ++ message_token commit.message ∷ []))) complete
+
+told_behind : (kind : Kind) (text : List ℕ) (commit : CommitLines) (is : IsCommitText kind text commit) → ToldBehind kind commit is.headers_text
+told_behind kind text commit is =
+    let (name, email, time, author) = is.author in
+    let (name', email', time', committer) = is.committer in
+    let rest = encoding_text commit.encoding ++ (is.headers_text ++ 10 ∷ commit.message) in
+    let tokens = encoding_tokens commit.encoding ++ (map header_token commit.extra_headers ++ message_token commit.message ∷ []) in
+    let behind = encoding_told kind commit.encoding is.headers_text commit.message commit.extra_headers is.encoding is.extra_headers in
+    record {
+      author = record { name = name; email = email; time = time };
+      committer = record { name = name'; email = email'; time = time' };
+      is_author = author;
+      is_committer = committer;
+      told = author_told kind commit.author name email time (field_text (codes "committer") commit.committer ++ rest) (committer_token name' email' time' ∷ tokens) author
+          (committer_told kind commit.committer name' email' time' rest tokens committer behind);
+    }
+
+retold : (kind : Kind) (text again : List ℕ) (tokens : List TokenView) → text ≡ again → Tells kind state.Tree again tokens complete → Tells kind state.Tree text tokens complete
+retold kind text again tokens same told = subst (λ (it : List ℕ). Tells kind state.Tree it tokens complete) (sym same) told
+
 pub commit_told : (kind : Kind) (text : List ℕ) (commit : CommitLines) → IsCommitText kind text commit → ToldCommit kind text commit
 commit_told kind text commit is =
     let tree = id_of_hex kind commit.tree is.tree in
-    let behind = encoding_told kind commit.encoding is.headers_text commit.message commit.extra_headers is.encoding is.extra_headers in
-    let behind_author = committer_told kind commit.committer is.committer.0 is.committer.1 is.committer.2 _ _ is.committer.3 behind in
-    let behind_parents = author_told kind commit.author is.author.0 is.author.1 is.author.2 _ _ is.author.3 behind_author in
-    let parents = parents_told kind commit.parents _ _ is.parents behind_parents in
+    let behind = told_behind kind text commit is in
+    let rest = field_text (codes "author") commit.author ++ (field_text (codes "committer") commit.committer ++ (encoding_text commit.encoding ++ (is.headers_text ++ 10 ∷ commit.message))) in
+    let tokens = author_token behind.author.name behind.author.email behind.author.time ∷ committer_token behind.committer.name behind.committer.email behind.committer.time ∷ (encoding_tokens commit.encoding ++ (map header_token commit.extra_headers ++ message_token commit.message ∷ [])) in
+    let parents = parents_told kind commit.parents rest tokens is.parents behind.told in
     record {
-      tokens = tree_token tree.0 ∷ (map parent_token parents.ids ++ (author_token is.author.0 is.author.1 is.author.2 ∷ (committer_token is.committer.0 is.committer.1 is.committer.2 ∷ (encoding_tokens commit.encoding ++ (map header_token commit.extra_headers ++ message_token commit.message ∷ [])))));
+      tokens = tree_token tree.0 ∷ (map parent_token parents.ids ++ tokens);
       are = record {
         tree = tree.0;
         parents = parents.ids;
-        author = record { name = is.author.0; email = is.author.1; time = is.author.2 };
-        committer = record { name = is.committer.0; email = is.committer.1; time = is.committer.2 };
-        joined = tokens_grouped (tree_token tree.0) (author_token is.author.0 is.author.1 is.author.2) (committer_token is.committer.0 is.committer.1 is.committer.2) (map parent_token parents.ids) (encoding_tokens commit.encoding) (map header_token commit.extra_headers) (message_token commit.message);
+        author = behind.author;
+        committer = behind.committer;
+        joined = tokens_grouped (tree_token tree.0) (author_token behind.author.name behind.author.email behind.author.time) (committer_token behind.committer.name behind.committer.email behind.committer.time) (map parent_token parents.ids) (encoding_tokens commit.encoding) (map header_token commit.extra_headers) (message_token commit.message);
         tree_spelled = tree.1;
         parents_spelled = parents.spelled;
-        is_author = is.author.3;
-        is_committer = is.committer.3;
+        is_author = behind.is_author;
+        is_committer = behind.is_committer;
       };
-      told = rw (is.joined, grouped commit.tree commit.author commit.committer is.headers_text commit.message commit.parents commit.encoding) (tree_told kind commit.tree _ tree.0 _ tree.1 tree.2 parents.told);
+      told = retold kind text (field_text (codes "tree") commit.tree ++ (flat_map parent_text commit.parents ++ rest)) (tree_token tree.0 ∷ (map parent_token parents.ids ++ tokens))
+          (is.joined ∙ grouped commit.tree commit.author commit.committer is.headers_text commit.message commit.parents commit.encoding)
+          (tree_told kind commit.tree (flat_map parent_text commit.parents ++ rest) tree.0 (map parent_token parents.ids ++ tokens) tree.1 tree.2 parents.told);
     }
