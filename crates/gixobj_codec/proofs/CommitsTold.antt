@@ -10,8 +10,7 @@ use Rattle.gixobj_base.specs.declared.hash.kind.Kind.{Kind}
 use Rattle.gixobj_base.specs.declared.hash.object_id.ObjectId.{ObjectId}
 use Rattle.gixobj_codec.proofs.ToldCommits.{grouped, hex_of_id}
 use Rattle.gixobj_codec.specs.Commit.{AreHeaderTexts, CommitLines, IsCommitText, IsEncoding, NamesActor, encoding_text, parent_text}
-use Rattle.gixobj_codec.specs.CommitRuns.Ending.{complete}
-use Rattle.gixobj_codec.specs.CommitRuns.{Tells}
+use Rattle.gixobj_codec.specs.CommitRuns.{Tells, complete, tells_end, tells_error, tells_token}
 use Rattle.gixobj_codec.specs.CommitTokens.{HasToken, IsTokenText, TokenView, author_token, committer_token, encoding_token, header_token, message_token, parent_token, state_behind, tree_token}
 use Rattle.gixobj_codec.specs.Readers.{EndsInMessage}
 use Rattle.gixobj_codec.specs.declared.commit.ref_iter.State.{State}
@@ -27,7 +26,7 @@ pub record First (kind : Kind) (before : State) (input : List ℕ) (token : Toke
   pub told : Tells kind behind rest tokens complete
 
 pub first : (kind : Kind) (before : State) (input : List ℕ) (token : TokenView) (tokens : List TokenView) → Tells kind before input (token ∷ tokens) complete → First kind before input token tokens
-first kind before input token tokens (behind, rest, has, told) = record { behind = behind; rest = rest; has = has; told = told }
+first kind before input token tokens (tells_token _ behind _ rest _ _ _ has told) = record { behind = behind; rest = rest; has = has; told = told }
 
 long : (front value : List ℕ) → 0 < length (front ++ 32 ∷ value)
 long front value = omega (arith, length-append front (32 ∷ value))
@@ -44,7 +43,7 @@ token_has_bytes kind (header_token header) text is =
 token_has_bytes kind (message_token message) text is = omega (arith, ap length is)
 
 -- nothing has no token
-no_token_of_nothing : (kind : Kind) (before : State) (input : List ℕ) (token : TokenView) (behind : State) (rest : List ℕ) → input ≡ [] → HasToken kind before input token behind rest → ⊥
+pub no_token_of_nothing : (kind : Kind) (before : State) (input : List ℕ) (token : TokenView) (behind : State) (rest : List ℕ) → input ≡ [] → HasToken kind before input token behind rest → ⊥
 no_token_of_nothing kind before input token behind rest none has =
     omega (arith, token_has_bytes kind token has.text has.written, ap length (sym none ∙ has.joined), length-append has.text rest)
 

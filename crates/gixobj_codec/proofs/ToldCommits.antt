@@ -14,8 +14,7 @@ use Rattle.gixobj_base.specs.declared.hash.kind.Kind.{Kind}
 use Rattle.gixobj_base.specs.declared.hash.kind.Kind.TheVariants as hash
 use Rattle.gixobj_base.specs.declared.hash.object_id.ObjectId.{ObjectId}
 use Rattle.gixobj_codec.specs.Commit.{AreHeaderTexts, CommitLines, IsCommitText, IsEncoding, NamesActor, encoding_text, parent_text}
-use Rattle.gixobj_codec.specs.CommitRuns.Ending.{complete}
-use Rattle.gixobj_codec.specs.CommitRuns.{Ending, Tells}
+use Rattle.gixobj_codec.specs.CommitRuns.{Tells, complete, tells_end, tells_token}
 use Rattle.gixobj_codec.specs.CommitTokens.{HasToken, IsActorText, IsIdText, MayComeHeader, TokenView, author_token, committer_token, encoding_token, header_token, message_token, parent_token, tree_token}
 use Rattle.gixobj_codec.specs.Readers.{ActorParts, AreSpelled, AreTokensOf, encoding_tokens}
 use Rattle.gixobj_codec.specs.declared.commit.ref_iter.State.{State}
@@ -51,10 +50,6 @@ hex_of_id kind hex id spells of_kind =
 
 -- ---- from a commit to its tokens, the last part first
 
-tells_token : (kind : Kind) (before behind : State) (input rest : List ℕ) (token : TokenView) (tokens : List TokenView) (ending : Ending)
-    → HasToken kind before input token behind rest → Tells kind behind rest tokens ending → Tells kind before input (token ∷ tokens) ending
-tells_token kind before behind input rest token tokens ending has told = (behind, rest, has, told)
-
 message_comes : (kind : Kind) (before : State) (message : List ℕ) → MayComeHeader before → HasToken kind before (10 ∷ message) (message_token message) state.ExtraHeaders []
 message_comes kind state.Encoding message comes = record { text = 10 ∷ message; joined = sym (append-nil (10 ∷ message)); written = refl; comes = refl; follows = refl; no_encoding = tt }
 message_comes kind state.ExtraHeaders message comes = record { text = 10 ∷ message; joined = sym (append-nil (10 ∷ message)); written = refl; comes = refl; follows = refl; no_encoding = tt }
@@ -64,7 +59,7 @@ message_comes kind state.Committer message comes = absurd comes
 
 message_told : (kind : Kind) (before : State) (message : List ℕ) → MayComeHeader before → Tells kind before (10 ∷ message) (message_token message ∷ []) complete
 message_told kind before message comes =
-    tells_token kind before state.ExtraHeaders (10 ∷ message) [] (message_token message) [] complete (message_comes kind before message comes) refl
+    tells_token before state.ExtraHeaders (10 ∷ message) [] (message_token message) [] complete (message_comes kind before message comes) (tells_end state.ExtraHeaders)
 
 name_first : (name rest : List ℕ) → name ≢ [] → IsFree 32 name → EndsHeader (name ++ rest)
 name_first [] rest some free = absurd (some refl)
@@ -91,7 +86,7 @@ headers_told : (kind : Kind) (text message : List ℕ) (headers : List Header) �
 headers_told kind text message [] is = rw is (message_told kind state.ExtraHeaders message tt)
 headers_told kind text message (header ∷ headers) (first, rest, joined, is, others) =
     rw (split_first text first rest message joined)
-    (tells_token kind state.ExtraHeaders state.ExtraHeaders (first ++ (rest ++ 10 ∷ message)) (rest ++ 10 ∷ message) (header_token header) (map header_token headers ++ message_token message ∷ []) complete
+    (tells_token state.ExtraHeaders state.ExtraHeaders (first ++ (rest ++ 10 ∷ message)) (rest ++ 10 ∷ message) (header_token header) (map header_token headers ++ message_token message ∷ []) complete
     (header_comes kind header first (rest ++ 10 ∷ message) is (headers_end rest message headers others)) (headers_told kind rest message headers others))
 
 encoding_comes : (kind : Kind) (encoding rest : List ℕ) → IsFree 10 encoding → HasToken kind state.Encoding (field_text (codes "encoding") encoding ++ rest) (encoding_token encoding) state.ExtraHeaders rest
@@ -100,30 +95,30 @@ encoding_comes kind encoding rest free = record { text = field_text (codes "enco
 encoding_told : (kind : Kind) (encoding : Option (List ℕ)) (text message : List ℕ) (headers : List Header) → IsEncoding encoding headers → AreHeaderTexts text headers
     → Tells kind state.Encoding (encoding_text encoding ++ (text ++ 10 ∷ message)) (encoding_tokens encoding ++ (map header_token headers ++ message_token message ∷ [])) complete
 encoding_told kind (Some encoding) text message headers free are =
-    tells_token kind state.Encoding state.ExtraHeaders (field_text (codes "encoding") encoding ++ (text ++ 10 ∷ message)) (text ++ 10 ∷ message) (encoding_token encoding) (map header_token headers ++ message_token message ∷ []) complete
+    tells_token state.Encoding state.ExtraHeaders (field_text (codes "encoding") encoding ++ (text ++ 10 ∷ message)) (text ++ 10 ∷ message) (encoding_token encoding) (map header_token headers ++ message_token message ∷ []) complete
     (encoding_comes kind encoding (text ++ 10 ∷ message) free) (headers_told kind text message headers are)
 encoding_told kind None text message [] free are = rw are (message_told kind state.Encoding message tt)
 encoding_told kind None text message (header ∷ headers) other (first, rest, joined, is, others) =
     rw (split_first text first rest message joined)
-    (tells_token kind state.Encoding state.ExtraHeaders (first ++ (rest ++ 10 ∷ message)) (rest ++ 10 ∷ message) (header_token header) (map header_token headers ++ message_token message ∷ []) complete
+    (tells_token state.Encoding state.ExtraHeaders (first ++ (rest ++ 10 ∷ message)) (rest ++ 10 ∷ message) (header_token header) (map header_token headers ++ message_token message ∷ []) complete
     (first_header_comes kind header first (rest ++ 10 ∷ message) is (headers_end rest message headers others) other) (headers_told kind rest message headers others))
 
 committer_told : (kind : Kind) (line name email time rest : List ℕ) (tokens : List TokenView) → IsActor line name email time → Tells kind state.Encoding rest tokens complete
     → Tells kind state.Committer (field_text (codes "committer") line ++ rest) (committer_token name email time ∷ tokens) complete
 committer_told kind line name email time rest tokens is told =
-    tells_token kind state.Committer state.Encoding (field_text (codes "committer") line ++ rest) rest (committer_token name email time) tokens complete
+    tells_token state.Committer state.Encoding (field_text (codes "committer") line ++ rest) rest (committer_token name email time) tokens complete
     (record { text = field_text (codes "committer") line; joined = refl; written = record { line = line; joined = refl; actor = is }; comes = refl; follows = tt; no_encoding = tt }) told
 
 author_told : (kind : Kind) (line name email time rest : List ℕ) (tokens : List TokenView) → IsActor line name email time → Tells kind state.Committer rest tokens complete
     → Tells kind state.Parents (field_text (codes "author") line ++ rest) (author_token name email time ∷ tokens) complete
 author_told kind line name email time rest tokens is told =
-    tells_token kind state.Parents state.Committer (field_text (codes "author") line ++ rest) rest (author_token name email time) tokens complete
+    tells_token state.Parents state.Committer (field_text (codes "author") line ++ rest) rest (author_token name email time) tokens complete
     (record { text = field_text (codes "author") line; joined = refl; written = record { line = line; joined = refl; actor = is }; comes = refl; follows = tt; no_encoding = tt }) told
 
 parent_told : (kind : Kind) (hex rest : List ℕ) (id : ObjectId) (tokens : List TokenView) → Spells hex id → id_kind id ≡ kind → Tells kind state.Parents rest tokens complete
     → Tells kind state.Parents (parent_text hex ++ rest) (parent_token id ∷ tokens) complete
 parent_told kind hex rest id tokens spells of_kind told =
-    tells_token kind state.Parents state.Parents (parent_text hex ++ rest) rest (parent_token id) tokens complete
+    tells_token state.Parents state.Parents (parent_text hex ++ rest) rest (parent_token id) tokens complete
     (record { text = parent_text hex; joined = refl; written = record { hex = hex; joined = refl; spelled = spells; of_kind = of_kind }; comes = refl; follows = tt; no_encoding = tt }) told
 
 -- the ids of the parents, and how they are told
@@ -146,7 +141,7 @@ parents_told kind (hex ∷ hexes) rest tokens are told =
 tree_told : (kind : Kind) (hex rest : List ℕ) (id : ObjectId) (tokens : List TokenView) → Spells hex id → id_kind id ≡ kind → Tells kind state.Parents rest tokens complete
     → Tells kind state.Tree (field_text (codes "tree") hex ++ rest) (tree_token id ∷ tokens) complete
 tree_told kind hex rest id tokens spells of_kind told =
-    tells_token kind state.Tree state.Parents (field_text (codes "tree") hex ++ rest) rest (tree_token id) tokens complete
+    tells_token state.Tree state.Parents (field_text (codes "tree") hex ++ rest) rest (tree_token id) tokens complete
     (record { text = field_text (codes "tree") hex; joined = refl; written = record { hex = hex; joined = refl; spelled = spells; of_kind = of_kind }; comes = refl; follows = tt; no_encoding = tt }) told
 
 -- the text of a commit, its parts one behind the other
@@ -165,55 +160,25 @@ tokens_grouped : (tree author committer : TokenView) (parents encoding headers :
     → tree ∷ (parents ++ (author ∷ (committer ∷ (encoding ++ (headers ++ message ∷ []))))) ≡ tree ∷ parents ++ author ∷ committer ∷ encoding ++ headers ++ message ∷ []
 tokens_grouped tree author committer parents encoding headers message = simp append_assoc
 
--- the parts of a commit behind its parents, and their tokens
-pub record ToldBehind (kind : Kind) (commit : CommitLines) (headers_text : List ℕ) : Type 0 where
-  pub author : ActorParts
-  pub committer : ActorParts
-  pub is_author : IsActor commit.author author.name author.email author.time
-  pub is_committer : IsActor commit.committer committer.name committer.email committer.time
-  pub told : Tells kind state.Parents (field_text (codes "author") commit.author ++ (field_text (codes "committer") commit.committer ++ (encoding_text commit.encoding ++ (headers_text ++ 10 ∷ commit.message))))
-      (author_token author.name author.email author.time ∷ committer_token committer.name committer.email committer.time ∷ (encoding_tokens commit.encoding ++ (map header_token commit.extra_headers ++ message_token commit.message ∷ []))) complete
-
-told_behind : (kind : Kind) (text : List ℕ) (commit : CommitLines) (is : IsCommitText kind text commit) → ToldBehind kind commit is.headers_text
-told_behind kind text commit is =
-    let (name, email, time, author) = is.author in
-    let (name', email', time', committer) = is.committer in
-    let rest = encoding_text commit.encoding ++ (is.headers_text ++ 10 ∷ commit.message) in
-    let tokens = encoding_tokens commit.encoding ++ (map header_token commit.extra_headers ++ message_token commit.message ∷ []) in
-    let behind = encoding_told kind commit.encoding is.headers_text commit.message commit.extra_headers is.encoding is.extra_headers in
-    record {
-      author = record { name = name; email = email; time = time };
-      committer = record { name = name'; email = email'; time = time' };
-      is_author = author;
-      is_committer = committer;
-      told = author_told kind commit.author name email time (field_text (codes "committer") commit.committer ++ rest) (committer_token name' email' time' ∷ tokens) author
-          (committer_told kind commit.committer name' email' time' rest tokens committer behind);
-    }
-
-retold : (kind : Kind) (text again : List ℕ) (tokens : List TokenView) → text ≡ again → Tells kind state.Tree again tokens complete → Tells kind state.Tree text tokens complete
-retold kind text again tokens same told = subst (λ (it : List ℕ). Tells kind state.Tree it tokens complete) (sym same) told
-
 pub commit_told : (kind : Kind) (text : List ℕ) (commit : CommitLines) → IsCommitText kind text commit → ToldCommit kind text commit
 commit_told kind text commit is =
     let tree = id_of_hex kind commit.tree is.tree in
-    let behind = told_behind kind text commit is in
-    let rest = field_text (codes "author") commit.author ++ (field_text (codes "committer") commit.committer ++ (encoding_text commit.encoding ++ (is.headers_text ++ 10 ∷ commit.message))) in
-    let tokens = author_token behind.author.name behind.author.email behind.author.time ∷ committer_token behind.committer.name behind.committer.email behind.committer.time ∷ (encoding_tokens commit.encoding ++ (map header_token commit.extra_headers ++ message_token commit.message ∷ [])) in
-    let parents = parents_told kind commit.parents rest tokens is.parents behind.told in
+    let behind = encoding_told kind commit.encoding is.headers_text commit.message commit.extra_headers is.encoding is.extra_headers in
+    let behind_author = committer_told kind commit.committer is.committer.0 is.committer.1 is.committer.2 _ _ is.committer.3 behind in
+    let behind_parents = author_told kind commit.author is.author.0 is.author.1 is.author.2 _ _ is.author.3 behind_author in
+    let parents = parents_told kind commit.parents _ _ is.parents behind_parents in
     record {
-      tokens = tree_token tree.0 ∷ (map parent_token parents.ids ++ tokens);
+      tokens = tree_token tree.0 ∷ (map parent_token parents.ids ++ (author_token is.author.0 is.author.1 is.author.2 ∷ (committer_token is.committer.0 is.committer.1 is.committer.2 ∷ (encoding_tokens commit.encoding ++ (map header_token commit.extra_headers ++ message_token commit.message ∷ [])))));
       are = record {
         tree = tree.0;
         parents = parents.ids;
-        author = behind.author;
-        committer = behind.committer;
-        joined = tokens_grouped (tree_token tree.0) (author_token behind.author.name behind.author.email behind.author.time) (committer_token behind.committer.name behind.committer.email behind.committer.time) (map parent_token parents.ids) (encoding_tokens commit.encoding) (map header_token commit.extra_headers) (message_token commit.message);
+        author = record { name = is.author.0; email = is.author.1; time = is.author.2 };
+        committer = record { name = is.committer.0; email = is.committer.1; time = is.committer.2 };
+        joined = tokens_grouped (tree_token tree.0) (author_token is.author.0 is.author.1 is.author.2) (committer_token is.committer.0 is.committer.1 is.committer.2) (map parent_token parents.ids) (encoding_tokens commit.encoding) (map header_token commit.extra_headers) (message_token commit.message);
         tree_spelled = tree.1;
         parents_spelled = parents.spelled;
-        is_author = behind.is_author;
-        is_committer = behind.is_committer;
+        is_author = is.author.3;
+        is_committer = is.committer.3;
       };
-      told = retold kind text (field_text (codes "tree") commit.tree ++ (flat_map parent_text commit.parents ++ rest)) (tree_token tree.0 ∷ (map parent_token parents.ids ++ tokens))
-          (is.joined ∙ grouped commit.tree commit.author commit.committer is.headers_text commit.message commit.parents commit.encoding)
-          (tree_told kind commit.tree (flat_map parent_text commit.parents ++ rest) tree.0 (map parent_token parents.ids ++ tokens) tree.1 tree.2 parents.told);
+      told = rw (is.joined, grouped commit.tree commit.author commit.committer is.headers_text commit.message commit.parents commit.encoding) (tree_told kind commit.tree _ tree.0 _ tree.1 tree.2 parents.told);
     }
