@@ -3,7 +3,9 @@ pub mod CommitHeaders
 pub mod CommitParts
 pub mod CommitsTold
 pub mod FieldWrites
+mod HeaderSearches
 pub mod HexCase
+mod HexIds
 mod TokenCases
 mod TokenRefusals
 pub mod ToldCommits

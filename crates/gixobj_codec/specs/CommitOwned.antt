@@ -1,12 +1,21 @@
--- Fields of commits taken apart, and commits with parts of their own.
-use Rattle.std.specs.Prelude.{◌≡◌, ℕ, List, codes}
+-- Actors of commits taken apart, and commits with parts of their own.
+use Rattle.std.specs.Prelude.{◌≡◌, ◌⊎◌, ℕ, List, codes, map}
+use Rattle.std.specs.List.{AllZip}
 use Rattle.bstr.specs.BStr.{bstr_bytes}
+use Rattle.bstr.specs.Owned.{bstring_bytes}
 use Rattle.gixobj_base.specs.Actor.{IsTimeOrDefault, trimmed}
-use Rattle.gixobj_base.specs.HeaderReading.{IsActor}
+use Rattle.gixobj_base.specs.Hash.{Spells}
+use Rattle.gixobj_base.specs.HeaderReading.{IsActor, IsNoActor}
+use Rattle.gixobj_base.specs.declared.actor.Signature.{Signature}
 use Rattle.gixobj_base.specs.declared.actor.SignatureRef.{SignatureRef}
 use Rattle.gixobj_base.specs.declared.date.Time.{Time}
+use Rattle.gixobj_base.specs.declared.decode.Error.{Error}
+use Rattle.gixobj_base.specs.declared.decode.Error.TheVariants.{Malformed, OutOfMemory}
 use Rattle.gixobj_base.specs.declared.hash.kind.Kind.{Kind}
 use Rattle.gixobj_base.specs.declared.hash.kind.Kind.TheVariants as hash
+use Rattle.gixobj_codec.specs.Commit.{CommitLines, NamesActor}
+use Rattle.gixobj_codec.specs.CommitViews.{owned_bytes_if_some, owned_header_of}
+use Rattle.gixobj_codec.specs.declared.commit.Commit.{Commit}
 
 -- the name of the header with a commit's signature
 abbrev pub signature_field : Kind → List ℕ
@@ -30,3 +39,24 @@ pub record IsTimeOfLine (line : List ℕ) (it : Time) : Type 0 where
   pub time : List ℕ
   pub read : IsActor line name email time
   pub said : IsTimeOrDefault time it
+
+-- the actor of the line, as it stands, with the time that it says
+pub record IsOwnedActor (line : List ℕ) (actor : Signature) : Type 0 where
+  pub time : List ℕ
+  pub read : IsActor line (bstring_bytes actor.name) (bstring_bytes actor.email) time
+  pub said : IsTimeOrDefault time actor.time
+
+-- the commit with these lines, with parts of its own
+pub record IsOwnedForm (lines : CommitLines) (commit : Commit) : Type 0 where
+  pub tree : Spells lines.tree commit.tree
+  pub parents : AllZip Spells lines.parents commit.parents.items
+  pub author : IsOwnedActor lines.author commit.author
+  pub committer : IsOwnedActor lines.committer commit.committer
+  pub encoding : owned_bytes_if_some commit.encoding ≡ lines.encoding
+  pub message : bstring_bytes commit.message ≡ lines.message
+  pub extra_headers : map owned_header_of commit.extra_headers.items ≡ lines.extra_headers
+
+-- why a commit gets no parts of its own: a line of an actor is none, or memory was wanting
+abbrev pub RefusesOwning : CommitLines → Error → Type 0
+RefusesOwning lines Malformed = IsNoActor lines.author ⊎ IsNoActor lines.committer
+RefusesOwning lines OutOfMemory = NamesActor lines.author × NamesActor lines.committer

@@ -1,11 +1,15 @@
 pub mod Commit
+pub mod CommitIds
 pub mod CommitOwned
 pub mod CommitReading
 pub mod CommitRuns
 pub mod CommitTokens
 pub mod CommitViews
 pub mod CommitWriting
+pub mod ExtraHeaders
 pub mod FieldWriting
+pub mod HeadersLeft
+pub mod HexIds
 pub mod Readers
 pub mod TokenGiving
 pub mod TokenReading

@@ -1,26 +1,35 @@
 //! Commits (gitdatamodel, "commits").
-ghost use Rattle.std.specs.Prelude.{◌≡◌, ℕ, List, IfErr, IfOk};
+ghost use Rattle.std.specs.Prelude.{◌≡◌, ℕ, List, All, IfErr, IfOk, map};
 ghost use Rattle.bstr.specs.BStr.{bstr_bytes};
 ghost use Rattle.gixobj_base.specs.Actor.{IsTimeOrDefault, trimmed};
-ghost use Rattle.gixobj_base.specs.Hash.{IsHexOfAnId, Spells};
-ghost use Rattle.gixobj_base.specs.HeaderReading.{IsActor, IsNoActor};
+ghost use Rattle.gixobj_base.specs.Hash.{IsHexOfAnId, Spells, id_kind};
+ghost use Rattle.gixobj_base.specs.HeaderReading.{IsActor, IsHexOf, IsNoActor};
 ghost use Rattle.gixobj_base.specs.declared.decode.Error.TheVariants.{Malformed};
-ghost use Rattle.gixobj_codec.specs.CommitOwned.{IsTimeOfLine, IsTrimmedActor, signature_field};
-ghost use Rattle.gixobj_codec.specs.CommitViews.{commit_lines};
+ghost use Rattle.gixobj_codec.specs.CommitIds.{parents_left};
+ghost use Rattle.gixobj_codec.specs.CommitOwned.{IsOwnedForm, IsTimeOfLine, IsTrimmedActor, RefusesOwning, signature_field};
+ghost use Rattle.gixobj_codec.specs.CommitViews.{commit_lines, owned_header_of};
+ghost use Rattle.gixobj_codec.specs.CommitWriting.{HasIds};
+ghost use Rattle.gixobj_codec.specs.HeadersLeft.{headers_left, owned_headers_left};
+ghost use Rattle.gixobj_codec.specs.HexIds.{spelled_id};
 
 mod decode;
 mod extra_headers;
+mod owned;
+mod parents;
 pub mod ref_iter;
 mod write;
 
 use bstr::{BStr, BString};
+pub use extra_headers::{BorrowedHeaders, ExtraHeaders, FindAll, OwnedHeaders};
 use gixobj_base::actor::{Signature, SignatureRef};
 use gixobj_base::date::Time;
 use gixobj_base::decode::Error;
 use gixobj_base::hash::{self, ObjectId};
 use gixobj_base::parse;
+pub use parents::Parents;
 pub use ref_iter::CommitRefIter;
 use smallvec::SmallVec;
+use std::alloc::Global;
 use std::borrow::CowSlice;
 
 /// The name of the header with the signature of a commit whose ids are of SHA-1.
@@ -88,6 +97,24 @@ impl<'a> CommitRef<'a> {
         id_of_hex(self.tree)
     }
 
+    /// The ids of the parents, in order. It takes no memory.
+    pub fn parents(&self) -> Parents<'_>
+        requires { All IsHexOfAnId (commit_lines self.now).parents }
+        ensures { parents_left result ≡ map spelled_id (commit_lines self.now).parents }
+    {
+        Parents::new(self.parents.as_slice())
+    }
+
+    /// The headers behind the author, the committer and the encoding. It takes no memory.
+    pub fn extra_headers(&self) -> ExtraHeaders<BorrowedHeaders<'_, 'a>>
+        requires { IsHexOfAnId (commit_lines self.now).tree }
+        ensures headers { headers_left result.inner ≡ (commit_lines self.now).extra_headers }
+        ensures hash_kind { IsHexOf result.hash_kind (commit_lines self.now).tree }
+    {
+        let hash_kind = self.tree().kind();
+        ExtraHeaders::new(BorrowedHeaders::new(&self.extra_headers), hash_kind)
+    }
+
     /// The author, without white space at the ends of name, email and time.
     ///
     /// `Malformed` where the line is no actor's. It takes no memory.
@@ -124,10 +151,58 @@ impl<'a> CommitRef<'a> {
     }
 }
 
+/// Conversion
+impl CommitRef<'_> {
+    /// The same commit, with parts of its own: ids, actors as they stand, their times, and copies of
+    /// the rest. A time is the start of 1970 in UTC where its text says none.
+    ///
+    /// `Malformed` where the line of the author or of the committer is no actor's, and else
+    /// `OutOfMemory` where memory is wanting.
+    pub fn into_owned(self, alloc: Global) -> Result<Commit, Error>
+        requires { HasIds (commit_lines self) }
+        ensures owned { IfOk result (IsOwnedForm (commit_lines self.entry)) }
+        ensures refusal { IfErr result (RefusesOwning (commit_lines self.entry)) }
+    {
+        let author = actor_of_line(self.author)?;
+        let committer = actor_of_line(self.committer)?;
+        Ok(Commit {
+            tree: self.tree(),
+            parents: owned::ids(alloc, self.parents.as_slice())?,
+            author: author.to_owned(alloc)?,
+            committer: committer.to_owned(alloc)?,
+            encoding: owned::encoding(alloc, self.encoding)?,
+            message: BString::from_slice(alloc, self.message.as_bytes())?,
+            extra_headers: owned::headers(alloc, &self.extra_headers)?,
+        })
+    }
+
+    /// What [`CommitRef::into_owned`] gives.
+    pub fn to_owned(self, alloc: Global) -> Result<Commit, Error>
+        requires { HasIds (commit_lines self) }
+        ensures owned { IfOk result (IsOwnedForm (commit_lines self.entry)) }
+        ensures refusal { IfErr result (RefusesOwning (commit_lines self.entry)) }
+    {
+        self.into_owned(alloc)
+    }
+}
+
+/// Access
+impl Commit {
+    /// The headers behind the author, the committer and the encoding. It takes no memory.
+    pub fn extra_headers(&self) -> ExtraHeaders<OwnedHeaders<'_>>
+        ensures headers { owned_headers_left result.inner ≡ map owned_header_of self.now.extra_headers.items }
+        ensures hash_kind { result.hash_kind ≡ id_kind self.now.tree }
+    {
+        ExtraHeaders::new(OwnedHeaders::new(&self.extra_headers), self.tree.kind())
+    }
+}
+
 /// The id that a hex text spells.
+#[tactic(auto, using(crate::proofs::HexIds::one_id))]
 fn id_of_hex(hex: BStr<'_>) -> ObjectId
     requires { IsHexOfAnId (bstr_bytes hex) }
-    ensures { Spells (bstr_bytes hex.entry) result }
+    ensures spelled { Spells (bstr_bytes hex.entry) result }
+    ensures value { result ≡ spelled_id (bstr_bytes hex.entry) }
 {
     match ObjectId::from_hex(hex.as_bytes()) {
         Some(id) => id,
