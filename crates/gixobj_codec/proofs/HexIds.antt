@@ -1,5 +1,5 @@
 -- A hex text spells one id.
-use Rattle.std.proofs.Common.{◌≡◌, ℕ, zero, suc, get_or, ◌*◌, ◌-◌, ◌<◌, ◌≤◌, ◌==◌, All, List, [], ◌∷◌, map, take, drop, inl, inr, length, if◌then◌else◌, Ok, Result, refl, subst, sym, arith}
+use Rattle.std.proofs.Common.{◌≡◌, ℕ, zero, suc, get_or, ◌-◌, ◌<◌, ◌≤◌, ◌==◌, All, List, [], ◌∷◌, map, take, drop, inl, inr, length, if◌then◌else◌, Ok, Result, refl, subst, sym, arith}
 use Rattle.std.proofs.lemmas.List.Elements.{All-head, All-tail, All-weaker}
 use Rattle.std.proofs.lemmas.List.{take_all}
 use Rattle.std.specs.List.{AllZip}
@@ -10,6 +10,7 @@ use Rattle.hex.proofs.HexLemmas.{decode_of-digits}
 use Rattle.hex.specs.Hex.{decode_of}
 use Rattle.hex.specs.declared.error.FromHexError.{FromHexError}
 use Rattle.gixobj_base.specs.Hash.{IsHexOfAnId, Spells, id_from}
+use Rattle.gixobj_base.specs.HeaderReading.{IsHexOf}
 use Rattle.gixobj_base.specs.declared.hash.kind.Kind.{Kind}
 use Rattle.gixobj_base.specs.declared.hash.kind.Kind.TheVariants as hash
 use Rattle.gixobj_base.specs.declared.hash.object_id.ObjectId.{ObjectId}
@@ -65,3 +66,7 @@ all_spelled [] ids all same = subst (AllZip Spells []) (sym same) tt
 all_spelled (text ∷ texts) ids all same =
     let rest = all_spelled texts (map spelled_id texts) (All-tail IsHexOfAnId text texts all) refl in
     subst (AllZip Spells (text ∷ texts)) (sym same) (spelled text (All-head IsHexOfAnId text texts all), rest)
+
+pub kind_spelled : (kind : Kind) (text : List ℕ) → IsHexOf kind text → kind ≡ kind_of_hex text
+kind_spelled hash.Sha1 text (len, digits) = rw len refl
+kind_spelled hash.Sha256 text (len, digits) = rw len refl

@@ -4,6 +4,7 @@ pub mod CommitParts
 pub mod CommitsTold
 pub mod FieldWrites
 mod HeaderSearches
+mod HeadersFound
 pub mod HexCase
 mod HexIds
 mod TokenCases

@@ -1,6 +1,8 @@
 -- Headers of commits, found by their names.
 use Rattle.std.specs.Prelude.{◌≡◌, ◌≢◌, ℕ, List, ◌∷◌, ◌++◌, All, Option, None, Some, IsSome, IsNone, MatchOption, length, map}
 use Rattle.std.specs.Iterator.{YieldsThen}
+use Rattle.std.specs.List.{filter}
+use Rattle.std.specs.Str.{bytes_eq}
 use Rattle.bstr.specs.BStr.{bstr_bytes}
 use Rattle.bstr.specs.declared.bstr.BStr.{BStr}
 use Rattle.gixobj_base.specs.HeaderText.{Header}
@@ -21,6 +23,16 @@ LacksHeader name headers = All (λ it. it.name ≢ name) headers
 abbrev pub IsFirstValue : List ℕ → List Header → Option BStr → Type 0
 IsFirstValue name headers result = MatchOption result (LacksHeader name headers)
     (λ value. (before after : List Header) × (headers ≡ before ++ header_at name value ∷ after) × LacksHeader name before)
+
+-- the place from 0 of the first header of this name, or none where no header has it
+abbrev pub IsFirstPlace : List ℕ → List Header → Option ℕ → Type 0
+IsFirstPlace name headers result = MatchOption result (LacksHeader name headers)
+    (λ place. (before after : List Header) × (value : List ℕ) × (headers ≡ before ++ record { name = name; value = value } ∷ after) × LacksHeader name before
+    × (place ≡ length before))
+
+-- the values of all headers of this name, in order
+abbrev pub values_named : List ℕ → List Header → List (List ℕ)
+values_named name headers = map (λ it. it.value) (filter (λ it. bytes_eq it.name name) headers)
 
 module _ {S : Type 0} (steps : S → Option (BStr × BStr) → S → Type 0) (name : List ℕ) where
   -- calls from one state to another gave headers of other names, and then a value of this name, or nothing more

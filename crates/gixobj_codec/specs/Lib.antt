@@ -6,6 +6,7 @@ pub mod CommitRuns
 pub mod CommitTokens
 pub mod CommitViews
 pub mod CommitWriting
+pub mod DataReading
 pub mod ExtraHeaders
 pub mod FieldWriting
 pub mod HeadersLeft

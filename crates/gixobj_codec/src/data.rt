@@ -1,7 +1,11 @@
 //! Objects whose content is not yet read.
-ghost use Rattle.std.specs.Prelude.{◌≡◌};
+ghost use Rattle.std.specs.Prelude.{◌≡◌, ◌↔◌, IfSome, IsSome};
+ghost use Rattle.gixobj_base.specs.declared.kind.Kind.TheVariants as object;
+ghost use Rattle.gixobj_codec.specs.DataReading.{IsAtStart};
 
+use crate::CommitRefIter;
 use gixobj_base::{Kind, hash};
+use std::alloc::Global;
 
 /// The content of an object, borrowed, with its kind and the kind of its ids.
 #[derive(Clone, Copy, Debug, PartialEq, Eq, PartialOrd, Ord, Hash)]
@@ -26,6 +30,21 @@ impl<'a> Data<'a> {
             kind,
             object_hash,
             bytes,
+        }
+    }
+}
+
+/// Conversion
+impl<'a> Data<'a> {
+    /// A reader that tells the commit token by token, or none where the object is of another kind.
+    /// It takes no memory.
+    pub fn try_into_commit_iter(self, alloc: Global) -> Option<CommitRefIter<'a>>
+        ensures accepts { IsSome result ↔ (self.entry.kind ≡ object.Commit) }
+        ensures reader { IfSome result (IsAtStart self.entry.object_hash self.entry.bytes.now) }
+    {
+        match self.kind {
+            Kind::Commit => Some(CommitRefIter::from_bytes(alloc, self.bytes, self.object_hash)),
+            _ => None,
         }
     }
 }
