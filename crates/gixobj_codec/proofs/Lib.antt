@@ -7,6 +7,7 @@ mod HeaderSearches
 mod HeadersFound
 pub mod HexCase
 mod HexIds
+pub mod Joins
 mod TokenCases
 mod TokenRefusals
 pub mod ToldCommits

@@ -1,11 +1,9 @@
 //! Header fields, written (gitdatamodel, "commits"; gitformat-signature, "Commit signatures").
-ghost use Rattle.std.specs.Prelude.{◌≡◌, ◌<◌, ◌+◌, ◌*◌, ◌^◌, ◌++◌, ◌∷◌, [], List, ℕ, Some, length, IfErr, MatchOption, OnErr, OnOk};
+ghost use Rattle.std.specs.Prelude.{◌≡◌, ◌<◌, ◌+◌, ◌^◌, ◌++◌, ◌∷◌, [], Some, length, IfErr, MatchOption, OnErr, OnOk};
 ghost use Rattle.std.specs.Io.KnownBytes.{Appends};
 ghost use Rattle.std.specs.Option.{SomeIff};
-ghost use Rattle.std.specs.Str.{str_to_ascii_lowercase};
-ghost use Rattle.bstr.specs.Owned.{bstring_bytes};
 ghost use Rattle.gixobj_base.specs.ActorWriting.{owned_text};
-ghost use Rattle.gixobj_base.specs.Hash.{IsHexOfAnId, Spells, hex_text};
+ghost use Rattle.gixobj_base.specs.Hash.{hex_text};
 ghost use Rattle.gixobj_base.specs.HeaderText.{field_text};
 ghost use Rattle.gixobj_base.specs.Writing.{Lasts, MayRefuse, RefusesNothing, SaysWhy};
 ghost use Rattle.gixobj_codec.specs.CommitWriting.{IsLegal, folded};
@@ -46,29 +44,6 @@ pub(crate) fn trusted_header_id<S: Sink>(name: &[u8], id: &ObjectId, sink: &mut 
 {
     let mut buffer = [0; 64];
     trusted_header_field(name, id.hex_to_buf(&mut buffer).as_bytes(), sink)
-}
-
-/// Puts the field of an id of this hex text, in lower case.
-#[tactic(auto, using(crate::proofs::HexCase::hex_in_lower_case))]
-pub(crate) fn trusted_header_hex<S: Sink>(name: &[u8], hex: &[u8], sink: &mut S) -> io::Result<()>
-    requires { IsHexOfAnId hex.now }
-    ensures written { OnOk result (Appends (S.held sink.old) (S.held sink.new) (field_text name.now (str_to_ascii_lowercase hex.now))) }
-    ensures err { OnErr result (MayRefuse (S.may_refuse sink.old) (field_text name.now (str_to_ascii_lowercase hex.now))) }
-    ensures lasting { OnOk result (Lasts (S.may_refuse sink.old) (S.may_refuse sink.new) (field_text name.now (str_to_ascii_lowercase hex.now))) }
-    ensures same_loan { S.loan sink.new ≡ S.loan sink.old }
-{
-    trusted_header_id(name, &id_of_hex(hex), sink)
-}
-
-/// The id of a hex text.
-fn id_of_hex(hex: &[u8]) -> ObjectId
-    requires { IsHexOfAnId hex.now }
-    ensures { Spells hex.now result }
-{
-    match ObjectId::from_hex(hex) {
-        Some(id) => id,
-        None => unreachable!(),
-    }
 }
 
 /// Puts the field of an actor, which is refused behind the name and a space where it is illegal.
