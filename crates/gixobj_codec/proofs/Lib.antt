@@ -1,6 +1,7 @@
 pub mod CommitChains
 pub mod CommitHeaders
 pub mod CommitParts
+pub mod CommitWrites
 pub mod CommitsTold
 pub mod FieldWrites
 mod HeaderSearches
@@ -8,6 +9,7 @@ mod HeadersFound
 pub mod HexCase
 mod HexIds
 pub mod Joins
+pub mod Steps
 mod TokenCases
 mod TokenRefusals
 pub mod ToldCommits

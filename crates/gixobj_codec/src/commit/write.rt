@@ -1,8 +1,10 @@
 //! Commits, written (gitdatamodel, "commits").
-ghost use Rattle.std.specs.Prelude.{◌≡◌, ◌<◌, ◌+◌, ◌^◌, ◌++◌, ◌∷◌, All, length, map, IfErr, OnErr, OnOk};
+ghost use Rattle.std.specs.Prelude.{◌≡◌, ◌<◌, ◌+◌, ◌^◌, ◌++◌, ◌∷◌, All, codes, length, IfErr, OnErr, OnOk};
 ghost use Rattle.std.specs.Io.KnownBytes.{Appends};
 ghost use Rattle.std.specs.List.{flat_map};
 ghost use Rattle.std.specs.Option.{SomeIff};
+ghost use Rattle.gixobj_base.specs.Hash.{hex_text};
+ghost use Rattle.gixobj_base.specs.HeaderText.{field_text};
 ghost use Rattle.gixobj_base.specs.Writing.{Lasts, MayRefuse, RefusesNothing, SaysWhy};
 ghost use Rattle.gixobj_codec.specs.Commit.{encoding_text};
 ghost use Rattle.gixobj_codec.specs.CommitViews.{bytes_if_some, owned_bytes_if_some};
@@ -21,6 +23,70 @@ use gixobj_base::{Kind, WriteTo};
 use std::alloc::Global;
 use std::borrow::CowSlice;
 use std::io;
+
+/// A commit is written with its hex in lower case, and with the lines of its actors as they stand.
+///
+/// An empty encoding is refused as `EmptyValue`, and one with a newline as `NewlineInHeaderValue`,
+/// before any byte of its line.
+impl WriteTo for CommitRef<'_> {
+    ghost use Rattle.gixobj_base.specs.declared.kind.Kind.TheVariants as kind;
+    ghost use Rattle.gixobj_codec.specs.CommitViews.{commit_lines};
+    ghost use Rattle.gixobj_codec.specs.CommitWriting.{HasIds, RefusesLines, commit_text, in_lower_case};
+
+    ghost can_write = { λ commit. HasIds (commit_lines commit) };
+
+    ghost object_kind = { λ _. kind.Commit };
+
+    ghost text = { λ commit. commit_text (in_lower_case (commit_lines commit)) };
+
+    ghost refuses = { λ commit. RefusesLines (in_lower_case (commit_lines commit)) };
+
+    fn write_into<S: Sink>(&self, alloc: Global, sink: &mut S) -> Result<(), Error> {
+        let (tree, parents) = (id_of_hex(self.tree), self.parents.as_slice());
+        let (author, committer) = (self.author.as_bytes(), self.committer.as_bytes());
+        let (headers, message) = (self.extra_headers.as_slice(), self.message.as_bytes());
+        put_ids(&tree, parents, sink)?;
+        trusted_header_field(b"author", author, sink)?;
+        trusted_header_field(b"committer", committer, sink)?;
+        put_rest(alloc, self.encoding, headers, message, sink)?;
+        Ok(())
+    }
+
+    fn kind(&self) -> Kind {
+        Kind::Commit
+    }
+
+    fn size(&self) -> Option<u64> {
+        let (tree, parents) = (id_of_hex(self.tree), self.parents.as_slice());
+        let (author, committer) = (self.author.as_bytes(), self.committer.as_bytes());
+        let (headers, message) = (self.extra_headers.as_slice(), self.message.as_bytes());
+        let ids = ids_size(&tree, parents)?;
+        let with_author = size_with_field(ids, b"author", author)?;
+        let lines = size_with_field(with_author, b"committer", committer)?;
+        let all = size_with_rest(lines, self.encoding, headers, message)?;
+        Some(all)
+    }
+}
+
+/// Puts the lines of the tree and of the parents.
+fn put_ids<T: Field, S: Sink>(tree: &ObjectId, parents: &[T], sink: &mut S) -> io::Result<()>
+    requires { All T.can_put parents.now }
+    ensures ok { OnOk result (Appends (S.held sink.old) (S.held sink.new) (field_text (codes "tree") (hex_text tree.now) ++ flat_map T.written parents.now)) }
+    ensures err { OnErr result (MayRefuse (S.may_refuse sink.old) (field_text (codes "tree") (hex_text tree.now) ++ flat_map T.written parents.now)) }
+    ensures lasting { OnOk result (Lasts (S.may_refuse sink.old) (S.may_refuse sink.new) (field_text (codes "tree") (hex_text tree.now) ++ flat_map T.written parents.now)) }
+    ensures same_loan { S.loan sink.new ≡ S.loan sink.old }
+{
+    trusted_header_id(b"tree", tree, sink)?;
+    put_all(parents, sink)
+}
+
+/// How many bytes the lines of the tree and of the parents take, or none past 64 bits.
+fn ids_size<T: Field>(tree: &ObjectId, parents: &[T]) -> Option<u64>
+    ensures { SomeIff result (length (field_text (codes "tree") (hex_text tree.now) ++ flat_map T.written parents.now) < 2 ^ 64)
+        (length (field_text (codes "tree") (hex_text tree.now) ++ flat_map T.written parents.now)) }
+{
+    size_with_all(size_with_id(0, b"tree", tree)?, parents)
+}
 
 /// A field that a commit may have more than once: a parent or an extra header.
 trait Field {
