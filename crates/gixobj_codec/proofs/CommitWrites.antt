@@ -1,26 +1,32 @@
 -- The text of a commit, in the parts in which it is written.
-use Rattle.std.proofs.Common.{◌≡◌, ℕ, suc, List, [], ◌∷◌, ◌++◌, All, Option, arith, length, map, refl, ap, sym, ◌∙◌, append_assoc, codes}
+use Rattle.std.proofs.Common.{◌≡◌, ◌⊎◌, ℕ, suc, List, [], ◌∷◌, ◌++◌, All, Option, arith, length, map, refl, ap, sym, subst, ◌∙◌, append_assoc, codes, inl, inr}
+use Rattle.std.specs.Prelude.{Contains}
 use Rattle.std.specs.List.{flat_map}
 use Rattle.std.specs.Str.{str_to_ascii_lowercase}
 use Rattle.std.specs.declared.alloc.Global.{Global}
 use Rattle.std.specs.declared.borrow.CowSlice.{CowSlice}
 use Rattle.std.proofs.lemmas.List.{append-nil}
-use Rattle.std.proofs.lemmas.List.Elements.{All-cons, All-head, All-nil, All-tail}
+use Rattle.std.proofs.lemmas.List.Elements.{All-cons, All-contains, All-head, All-nil, All-tail}
 use Rattle.std.proofs.lemmas.List.Folds.{flat_map-map}
 use Rattle.bstr.specs.BStr.{bstr_bytes}
 use Rattle.bstr.specs.declared.bstr.BStr.{BStr}
 use Rattle.bstr.specs.declared.bstring.BString.{BString}
+use Rattle.bstr.specs.Owned.{bstring_bytes}
+use Rattle.gixobj_base.specs.Actor.{HasIllegalByte, IsWritable}
+use Rattle.gixobj_base.specs.ActorWriting.{owned_text}
+use Rattle.gixobj_base.specs.Parse.{IsFree}
+use Rattle.gixobj_base.specs.declared.actor.Signature.{Signature}
 use Rattle.gixobj_base.specs.Hash.{IsHexOfAnId, Spells, hex_text}
 use Rattle.gixobj_base.specs.HeaderReading.{header_of}
 use Rattle.gixobj_base.specs.HeaderText.{field_text}
-use Rattle.gixobj_base.specs.Writing.{Refused}
+use Rattle.gixobj_base.specs.Writing.{Refused, RefusesNothing}
 use Rattle.gixobj_base.specs.declared.hash.object_id.ObjectId.{ObjectId}
 use Rattle.gixobj_codec.proofs.HexCase.{hex_in_lower_case}
 use Rattle.gixobj_codec.proofs.Steps.{IsInParts, in_parts}
 use Rattle.gixobj_codec.specs.Commit.{CommitLines, encoding_text, parent_text}
 use Rattle.gixobj_codec.specs.CommitViews.{bytes_if_some, commit_lines, owned_bytes_if_some, owned_header_of, owned_lines}
-use Rattle.gixobj_codec.specs.CommitWriting.{RefusesLines, before_encoding, commit_text, header_text, ids_text, in_lower_case}
-use Rattle.gixobj_codec.specs.FieldWriting.{RefusesLine}
+use Rattle.gixobj_codec.specs.CommitWriting.{IsIllegal, IsLegal, RefusesEncoding, RefusesLines, RefusesOwned, before_encoding, commit_text, header_text, ids_text, in_lower_case}
+use Rattle.gixobj_codec.specs.FieldWriting.{RefusesLine, RefusesSignature}
 use Rattle.gixobj_codec.specs.declared.commit.Commit.{Commit}
 use Rattle.gixobj_codec.specs.declared.commit.CommitRef.{CommitRef}
 
@@ -103,3 +109,90 @@ pub borrowed_refused : (commit : CommitRef) (id : ObjectId) (parents : List BStr
     → RefusesLines (in_lower_case (commit_lines commit)) value (((ids_put id hex_parent parents ++ field_text (codes "author") author) ++ field_text (codes "committer") committer) ++ parts)
 borrowed_refused commit id parents author committer value parts spells one two three (refused, nothing) =
     (refused, rw (nothing, one, two, three) (append-nil _ ∙ sym (borrowed_front commit id spells)))
+
+-- ---- owned commits
+
+owned_ids : (commit : Commit) → ids_text (owned_lines commit) ≡ ids_put commit.tree owned_parent commit.parents.items
+owned_ids commit = ap (λ (it : List ℕ). field_text (codes "tree") (hex_text commit.tree) ++ it) (flat_map-map parent_text hex_text commit.parents.items)
+
+-- the text of an owned commit, in parts
+owned_parts : (commit : Commit) → commit_text (owned_lines commit)
+    ≡ in_parts (ids_put commit.tree owned_parent commit.parents.items) (field_text (codes "author") (owned_text commit.author)) (field_text (codes "committer") (owned_text commit.committer))
+    ((encoding_text (owned_bytes_if_some commit.encoding) ++ flat_map owned_header commit.extra_headers.items) ++ 10 ∷ bstring_bytes commit.message)
+owned_parts commit =
+    let author = field_text (codes "author") (owned_text commit.author) in
+    let committer = field_text (codes "committer") (owned_text commit.committer) in
+    let encoding = encoding_text (owned_bytes_if_some commit.encoding) in
+    let message : List ℕ = 10 ∷ bstring_bytes commit.message in
+    let written = flat_map header_text (map owned_header_of commit.extra_headers.items) in
+    regrouped ((ids_text (owned_lines commit) ++ author) ++ committer) encoding written message
+    ∙ ap (λ (it : List ℕ). in_parts it author committer ((encoding ++ written) ++ message)) (owned_ids commit)
+    ∙ ap (λ (it : List ℕ). in_parts (ids_put commit.tree owned_parent commit.parents.items) author committer ((encoding ++ it) ++ message)) (flat_map-map header_text owned_header_of commit.extra_headers.items)
+
+pub owned_as_put : (commit : Commit) (parents : List ObjectId) (encoding : Option BStr) (headers : List (BString × BString)) (message : List ℕ)
+    → parents ≡ commit.parents.items → bytes_if_some encoding ≡ owned_bytes_if_some commit.encoding → headers ≡ commit.extra_headers.items → message ≡ bstring_bytes commit.message
+    → IsInParts (commit_text (owned_lines commit)) (ids_put commit.tree owned_parent parents) (field_text (codes "author") (owned_text commit.author))
+    (field_text (codes "committer") (owned_text commit.committer)) (rest_put encoding owned_header headers message)
+owned_as_put commit parents encoding headers message one two three four =
+    record { joined = rw (one, two, three, four) (owned_parts commit) }
+
+-- an author that is refused behind the ids
+pub owned_author_refused : (commit : Commit) (parents : List ObjectId) (value : Refused) (parts : List ℕ) → parents ≡ commit.parents.items
+    → RefusesSignature (codes "author") commit.author value parts → RefusesOwned commit value (ids_put commit.tree owned_parent parents ++ parts)
+owned_author_refused commit parents value parts one (illegal, is, name) =
+    inl (
+      illegal,
+      is,
+      rw (name, one) (sym (append_assoc (ids_put commit.tree owned_parent commit.parents.items) (codes "author") (32 ∷ [])) ∙ ap (λ (it : List ℕ). (it ++ codes "author") ++ 32 ∷ []) (sym (owned_ids commit))),
+    )
+
+-- a committer that is refused behind the author
+pub owned_committer_refused : (commit : Commit) (parents : List ObjectId) (value : Refused) (parts : List ℕ) → parents ≡ commit.parents.items → IsLegal commit.author
+    → RefusesSignature (codes "committer") commit.committer value parts
+    → RefusesOwned commit value ((ids_put commit.tree owned_parent parents ++ field_text (codes "author") (owned_text commit.author)) ++ parts)
+owned_committer_refused commit parents value parts one legal (illegal, is, name) =
+    let author = field_text (codes "author") (owned_text commit.author) in
+    inr (
+    inl (
+      legal,
+      illegal,
+      is,
+      rw (name, one) (sym (append_assoc (ids_put commit.tree owned_parent commit.parents.items ++ author) (codes "committer") (32 ∷ [])) ∙ ap (λ (it : List ℕ). ((it ++ author) ++ codes "committer") ++ 32 ∷ []) (sym (owned_ids commit))),
+    )
+    )
+
+-- an encoding that is refused behind the committer
+pub owned_encoding_refused : (commit : Commit) (parents : List ObjectId) (encoding : Option BStr) (value : Refused) (parts : List ℕ) → parents ≡ commit.parents.items
+    → bytes_if_some encoding ≡ owned_bytes_if_some commit.encoding → IsLegal commit.author → IsLegal commit.committer → RefusesLine (bytes_if_some encoding) value parts
+    → RefusesOwned commit value (((ids_put commit.tree owned_parent parents ++ field_text (codes "author") (owned_text commit.author)) ++ field_text (codes "committer") (owned_text commit.committer)) ++ parts)
+owned_encoding_refused commit parents encoding value parts one two author committer (refused, nothing) =
+    let front : List ℕ → List ℕ = λ it. (it ++ field_text (codes "author") (owned_text commit.author)) ++ field_text (codes "committer") (owned_text commit.committer) in
+    inr (
+    inr (
+      author,
+      committer,
+      (
+        subst (λ (it : Option (List ℕ)). RefusesEncoding it value) two refused,
+        rw (nothing, one) (append-nil (front (ids_put commit.tree owned_parent commit.parents.items)) ∙ ap front (sym (owned_ids commit))),
+      ),
+    )
+    )
+
+holds_none : (byte : ℕ) (text : List ℕ) → IsFree byte text → Contains text byte → ⊥
+holds_none byte text free has = All-contains (λ (it : ℕ). it ≡ byte → ⊥) text byte free has refl
+
+writable_is_legal : (text : List ℕ) → IsWritable text → HasIllegalByte text → ⊥
+writable_is_legal text (opening, closing, newline) (inl has) = holds_none 60 text opening has
+writable_is_legal text (opening, closing, newline) (inr (inl has)) = holds_none 62 text closing has
+writable_is_legal text (opening, closing, newline) (inr (inr has)) = holds_none 10 text newline has
+
+legal_or_not : (actor : Signature) → IsLegal actor → IsIllegal actor → ⊥
+legal_or_not actor (name, email) (inl bad) = writable_is_legal (bstring_bytes actor.name) name bad
+legal_or_not actor (name, email) (inr bad) = writable_is_legal (bstring_bytes actor.email) email bad
+
+pub owned_not_refused : (commit : Commit) (encoding : Option BStr) → bytes_if_some encoding ≡ owned_bytes_if_some commit.encoding → IsLegal commit.author → IsLegal commit.committer
+    → RefusesNothing (RefusesLine (bytes_if_some encoding)) → RefusesNothing (RefusesOwned commit)
+owned_not_refused commit encoding two author committer none value parts (inl it) = legal_or_not commit.author author it.0
+owned_not_refused commit encoding two author committer none value parts (inr (inl it)) = legal_or_not commit.committer committer it.1
+owned_not_refused commit encoding two author committer none value parts (inr (inr it)) =
+    none value [] (subst (λ (it : Option (List ℕ)). RefusesEncoding it value) (sym two) it.2.0, refl)

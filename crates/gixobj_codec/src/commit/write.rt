@@ -68,6 +68,47 @@ impl WriteTo for CommitRef<'_> {
     }
 }
 
+/// A commit is written with its actors and their times as these are written.
+///
+/// An author whose name or email has a `<`, a `>` or a newline is refused as `IllegalActor` behind
+/// `author` and a space, and so is a committer behind `committer` and a space. An empty encoding is
+/// refused as `EmptyValue`, and one with a newline as `NewlineInHeaderValue`, before any byte of its line.
+impl WriteTo for Commit {
+    ghost use Rattle.gixobj_base.specs.declared.kind.Kind.TheVariants as kind;
+    ghost use Rattle.gixobj_codec.specs.CommitViews.{owned_lines};
+    ghost use Rattle.gixobj_codec.specs.CommitWriting.{RefusesOwned, commit_text};
+
+    ghost object_kind = { λ _. kind.Commit };
+
+    ghost text = { λ commit. commit_text (owned_lines commit) };
+
+    ghost refuses = { RefusesOwned };
+
+    fn write_into<S: Sink>(&self, alloc: Global, sink: &mut S) -> Result<(), Error> {
+        let (parents, encoding) = (self.parents.as_slice(), borrowed(&self.encoding));
+        let (headers, message) = (self.extra_headers.as_slice(), self.message.as_bytes());
+        put_ids(&self.tree, parents, sink)?;
+        trusted_header_signature(b"author", &self.author, sink)?;
+        trusted_header_signature(b"committer", &self.committer, sink)?;
+        put_rest(alloc, encoding, headers, message, sink)?;
+        Ok(())
+    }
+
+    fn kind(&self) -> Kind {
+        Kind::Commit
+    }
+
+    fn size(&self) -> Option<u64> {
+        let (parents, encoding) = (self.parents.as_slice(), borrowed(&self.encoding));
+        let (headers, message) = (self.extra_headers.as_slice(), self.message.as_bytes());
+        let ids = ids_size(&self.tree, parents)?;
+        let with_author = size_with_signature(ids, b"author", &self.author)?;
+        let lines = size_with_signature(with_author, b"committer", &self.committer)?;
+        let all = size_with_rest(lines, encoding, headers, message)?;
+        Some(all)
+    }
+}
+
 /// Puts the lines of the tree and of the parents.
 fn put_ids<T: Field, S: Sink>(tree: &ObjectId, parents: &[T], sink: &mut S) -> io::Result<()>
     requires { All T.can_put parents.now }
