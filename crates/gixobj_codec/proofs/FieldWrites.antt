@@ -21,7 +21,7 @@ pub appends_nothing : (held : Option (List ℕ)) → Appends held held []
 appends_nothing None = tt
 appends_nothing (Some bytes) = sym (append-nil bytes)
 
-free_has_none : (value : List ℕ) → IsFree 10 value → Contains value 10 → ⊥
+pub free_has_none : (value : List ℕ) → IsFree 10 value → Contains value 10 → ⊥
 free_has_none value free has = All-contains (λ (it : ℕ). it ≡ 10 → ⊥) value 10 free has refl
 
 -- a value that is neither empty nor has a newline
@@ -43,7 +43,7 @@ folded_without_newline (byte ∷ []) free = rw (other-head byte [] free) refl
 folded_without_newline (byte ∷ next ∷ rest) free =
     rw (other-head byte (next ∷ rest) free) (ap (λ (it : List ℕ). byte ∷ it) (folded_without_newline (next ∷ rest) (free-tail byte (next ∷ rest) free)))
 
-folded_line : (line : List ℕ) → IsFree 10 line → folded (line ++ 10 ∷ []) ≡ line ++ 10 ∷ []
+pub folded_line : (line : List ℕ) → IsFree 10 line → folded (line ++ 10 ∷ []) ≡ line ++ 10 ∷ []
 folded_line [] free = refl
 folded_line (byte ∷ []) free = rw (other-head byte [] free) refl
 folded_line (byte ∷ next ∷ rest) free =
@@ -59,7 +59,7 @@ folded_lines (first ∷ []) byte after free = rw (other-head first [] free) refl
 folded_lines (first ∷ next ∷ rest) byte after free =
     rw (other-head first (next ∷ rest) free) (ap (λ (it : List ℕ). first ∷ it) (folded_lines (next ∷ rest) byte after (free-tail first (next ∷ rest) free)))
 
-lines_again : (line after : List ℕ) → IsFree 10 line → (length after == 0) ≡ false → folded (line ++ 10 ∷ after) ≡ line ++ 10 ∷ 32 ∷ folded after
+pub lines_again : (line after : List ℕ) → IsFree 10 line → (length after == 0) ≡ false → folded (line ++ 10 ∷ after) ≡ line ++ 10 ∷ 32 ∷ folded after
 lines_again line [] free some = absurd (true≢false some)
 lines_again line (byte ∷ after) free some = folded_lines line byte after free
 

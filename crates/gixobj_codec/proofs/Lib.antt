@@ -13,3 +13,4 @@ pub mod Steps
 mod TokenCases
 mod TokenRefusals
 pub mod ToldCommits
+pub mod WrittenBack

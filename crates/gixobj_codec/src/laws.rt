@@ -1,10 +1,14 @@
 //! Laws that tie the readers of commits to each other and to the writers. Some make the calls, and
 //! their contracts say what the calls answer; the others do nothing, and their contract is the law.
-ghost use Rattle.std.specs.Prelude.{◌≡◌, ℕ, List};
-ghost use Rattle.gixobj_base.specs.Hash.{IsHexOfAnId, Spells};
+ghost use Rattle.std.specs.Prelude.{◌≡◌, ◌≢◌, ℕ, All, List, [], Some};
+ghost use Rattle.std.specs.List.{AllPass};
+ghost use Rattle.gixobj_base.specs.Hash.{IsHexOfAnId, Spells, is_lower_hex_digit};
+ghost use Rattle.gixobj_base.specs.HeaderText.{Header, IsHeaderText};
+ghost use Rattle.gixobj_base.specs.Writing.{RefusesNothing};
 ghost use Rattle.gixobj_base.specs.declared.hash.kind.Kind.{Kind};
 ghost use Rattle.gixobj_base.specs.declared.hash.object_id.ObjectId.{ObjectId};
 ghost use Rattle.gixobj_codec.specs.Commit.{CommitLines, IsCommitText};
+ghost use Rattle.gixobj_codec.specs.CommitWriting.{RefusesLines, commit_text, header_text, in_lower_case};
 ghost use Rattle.gixobj_codec.specs.HexIds.{spelled_id};
 
 pub mod extra_headers;
@@ -19,4 +23,18 @@ pub fn commit_has_one_reading()
 pub fn hex_spells_one_id()
     ensures spelled { (text : List ℕ) → IsHexOfAnId text → Spells text (spelled_id text) }
     ensures no_other { (text : List ℕ) (id : ObjectId) → Spells text id → id ≡ spelled_id text }
+{}
+
+/// A header that was read, of one line or of several, is written as it was.
+pub fn header_reads_back()
+    ensures { (text : List ℕ) (header : Header) → IsHeaderText text header → header_text header ≡ text }
+{}
+
+/// A commit that was read, with its ids in lower case, is written as it was. Of a commit that was read
+/// nothing is refused but an empty encoding.
+pub fn commit_writes_back()
+    ensures same_text { (kind : Kind) (text : List ℕ) (commit : CommitLines) → IsCommitText kind text commit →
+        AllPass is_lower_hex_digit commit.tree → All (λ hex. AllPass is_lower_hex_digit hex) commit.parents → commit_text (in_lower_case commit) ≡ text }
+    ensures not_refused { (kind : Kind) (text : List ℕ) (commit : CommitLines) → IsCommitText kind text commit →
+        commit.encoding ≢ Some [] → RefusesNothing (RefusesLines (in_lower_case commit)) }
 {}
