@@ -3,6 +3,8 @@ use Rattle.std.specs.Prelude.{◌≡◌, ◌⊎◌, ℕ, List, [], ◌∷◌, �
 use Rattle.gixobj_base.specs.Parse.{IsFree}
 use Rattle.gixobj_base.specs.Writing.{Refused, illegal_actor}
 use Rattle.gixobj_base.specs.declared.actor.Signature.{Signature}
+use Rattle.gixobj_base.specs.declared.encode.Error.{Error}
+use Rattle.gixobj_base.specs.declared.encode.Error.TheVariants as error
 use Rattle.gixobj_codec.specs.CommitWriting.{IsIllegal, RefusesEncoding}
 
 -- an encoding is refused before any byte of its line
@@ -16,3 +18,8 @@ RefusesSignature name actor value parts = IsIllegal actor × (value ≡ illegal_
 -- no byte of the value follows a newline
 abbrev pub IsLastLine : List ℕ → Type 0
 IsLastLine value = IsFree 10 value ⊎ ((line : List ℕ) × (value ≡ line ++ 10 ∷ []) × IsFree 10 line)
+
+-- the error is the writer's, and comes only where this holds
+abbrev pub FailsOnlyWhere : Type 0 → Error → Type 0
+FailsOnlyWhere may_fail (error.Writer cause) = may_fail
+FailsOnlyWhere may_fail other = ⊥
