@@ -9,8 +9,11 @@ mod HeadersFound
 pub mod HexCase
 mod HexIds
 pub mod Joins
+pub mod OneToken
 pub mod Steps
-mod TokenCases
-mod TokenRefusals
+pub mod TokenCases
+pub mod TokenFilterSteps
+pub mod TokenRefusals
+pub mod TokenRuns
 pub mod ToldCommits
 pub mod WrittenBack

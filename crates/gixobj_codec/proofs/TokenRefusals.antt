@@ -49,7 +49,7 @@ header_tail input header rest it = it.written.first ++ 10 ∷ (flat_map followin
 pub behind_header : (input : List ℕ) (header : Header) (rest : List ℕ) (it : HasHeader input header rest) → input ≡ header.name ++ 32 ∷ header_tail input header rest it
 behind_header input header rest it = it.joined ∙ ap (λ text. text ++ rest) it.written.joined ∙ flat_header header.name it.written.first rest it.written.more
 
-first_bytes : (a b : ℕ) (x y : List ℕ) → a ∷ x ≡ b ∷ y → a ≡ b
+pub first_bytes : (a b : ℕ) (x y : List ℕ) → a ∷ x ≡ b ∷ y → a ≡ b
 first_bytes a b x y same = cc same
 
 -- ---- tokens
@@ -79,7 +79,7 @@ space_free : IsFree 32 (codes "encoding")
 space_free = free_by_test 32 (codes "encoding") refl
 
 -- an input that begins with the name of an encoding begins with no other header
-named_encoding : (input after : List ℕ) (header : Header) (rest : List ℕ) → input ≡ codes "encoding" ++ 32 ∷ after → HasHeader input header rest → header.name ≡ codes "encoding"
+pub named_encoding : (input after : List ℕ) (header : Header) (rest : List ℕ) → input ≡ codes "encoding" ++ 32 ∷ after → HasHeader input header rest → header.name ≡ codes "encoding"
 named_encoding input after header rest named it =
     (one_cut 32 header.name _ (codes "encoding") after it.written.named.no_space space_free (sym (behind_header input header rest it) ∙ named)).0
 

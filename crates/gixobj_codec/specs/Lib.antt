@@ -12,5 +12,7 @@ pub mod FieldWriting
 pub mod HeadersLeft
 pub mod HexIds
 pub mod Readers
+pub mod TokenFilters
 pub mod TokenGiving
+pub mod TokenPassing
 pub mod TokenReading

@@ -14,6 +14,7 @@ ghost use Rattle.gixobj_codec.specs.FieldWriting.{FailsOnlyWhere};
 ghost use Rattle.gixobj_codec.specs.HexIds.{spelled_id};
 
 pub mod extra_headers;
+pub mod tokens;
 
 use crate::CommitRef;
 use gixobj_base::WriteTo;

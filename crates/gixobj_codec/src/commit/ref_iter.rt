@@ -5,9 +5,13 @@ ghost use Rattle.gixobj_codec.specs.TokenGiving.{GivesToken, reader_bytes, reade
 ghost use Rattle.gixobj_codec.specs.CommitTokens.{token_view};
 ghost use Rattle.gixobj_codec.specs.declared.commit.ref_iter.State.TheVariants as state;
 
+mod access;
+mod filters;
+mod parts;
 mod tokens;
 
 use bstr::BStr;
+pub use filters::{ParentIds, Signatures};
 use gixobj_base::actor::SignatureRef;
 use gixobj_base::decode::Error;
 use gixobj_base::hash::{Kind, ObjectId, oid};
