@@ -1,12 +1,12 @@
 -- The text of a commit, in the parts in which it is written.
-use Rattle.std.proofs.Common.{◌≡◌, ◌⊎◌, ℕ, suc, List, [], ◌∷◌, ◌++◌, All, Option, arith, length, map, refl, ap, sym, subst, ◌∙◌, append_assoc, codes, inl, inr}
+use Rattle.std.proofs.Common.{◌≡◌, ℕ, List, [], ◌∷◌, ◌++◌, All, Option, map, refl, ap, sym, subst, ◌∙◌, append_assoc, codes, inl, inr}
 use Rattle.std.specs.Prelude.{Contains}
 use Rattle.std.specs.List.{flat_map}
 use Rattle.std.specs.Str.{str_to_ascii_lowercase}
 use Rattle.std.specs.declared.alloc.Global.{Global}
 use Rattle.std.specs.declared.borrow.CowSlice.{CowSlice}
 use Rattle.std.proofs.lemmas.List.{append-nil}
-use Rattle.std.proofs.lemmas.List.Elements.{All-cons, All-contains, All-head, All-nil, All-tail}
+use Rattle.std.proofs.lemmas.List.Elements.{All-cons, All-head, All-nil, All-tail}
 use Rattle.std.proofs.lemmas.List.Folds.{flat_map-map}
 use Rattle.bstr.specs.BStr.{bstr_bytes}
 use Rattle.bstr.specs.declared.bstr.BStr.{BStr}
@@ -16,14 +16,15 @@ use Rattle.gixobj_base.specs.Actor.{HasIllegalByte, IsWritable}
 use Rattle.gixobj_base.specs.ActorWriting.{owned_text}
 use Rattle.gixobj_base.specs.Parse.{IsFree}
 use Rattle.gixobj_base.specs.declared.actor.Signature.{Signature}
-use Rattle.gixobj_base.specs.Hash.{IsHexOfAnId, Spells, hex_text}
+use Rattle.gixobj_base.specs.Hash.{Spells, hex_text}
 use Rattle.gixobj_base.specs.HeaderReading.{header_of}
 use Rattle.gixobj_base.specs.HeaderText.{field_text}
 use Rattle.gixobj_base.specs.Writing.{Refused, RefusesNothing}
 use Rattle.gixobj_base.specs.declared.hash.object_id.ObjectId.{ObjectId}
+use Rattle.gixobj_codec.proofs.FieldWrites.{holds_none}
 use Rattle.gixobj_codec.proofs.HexCase.{hex_in_lower_case}
 use Rattle.gixobj_codec.proofs.Steps.{IsInParts, in_parts}
-use Rattle.gixobj_codec.specs.Commit.{CommitLines, encoding_text, parent_text}
+use Rattle.gixobj_codec.specs.Commit.{encoding_text, parent_text}
 use Rattle.gixobj_codec.specs.CommitViews.{bytes_if_some, commit_lines, owned_bytes_if_some, owned_header_of, owned_lines}
 use Rattle.gixobj_codec.specs.CommitWriting.{IsIllegal, IsLegal, RefusesEncoding, RefusesLines, RefusesOwned, before_encoding, commit_text, header_text, ids_text, in_lower_case}
 use Rattle.gixobj_codec.specs.FieldWriting.{RefusesLine, RefusesSignature}
@@ -177,9 +178,6 @@ owned_encoding_refused commit parents encoding value parts one two author commit
       ),
     )
     )
-
-holds_none : (byte : ℕ) (text : List ℕ) → IsFree byte text → Contains text byte → ⊥
-holds_none byte text free has = All-contains (λ (it : ℕ). it ≡ byte → ⊥) text byte free has refl
 
 writable_is_legal : (text : List ℕ) → IsWritable text → HasIllegalByte text → ⊥
 writable_is_legal text (opening, closing, newline) (inl has) = holds_none 60 text opening has

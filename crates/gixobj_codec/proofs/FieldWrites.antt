@@ -1,5 +1,5 @@
 -- Fields as they are written.
-use Rattle.std.proofs.Common.{◌≡◌, ◌≢◌, ◌+◌, ◌<◌, ◌*◌, ℕ, suc, List, [], ◌∷◌, ◌++◌, All, Bool, true, false, Option, Some, None, length, arith, refl, sym, ap, ◌∙◌, inl, inr, append_assoc, length-append}
+use Rattle.std.proofs.Common.{◌≡◌, ◌≢◌, ◌+◌, ◌<◌, ◌*◌, ℕ, suc, List, [], ◌∷◌, ◌++◌, true, false, Option, Some, None, length, arith, refl, sym, ap, ◌∙◌, inl, inr, append_assoc, length-append}
 use Rattle.std.specs.Prelude.{Contains, ◌==◌}
 use Rattle.std.specs.Io.KnownBytes.{Appends}
 use Rattle.std.proofs.lemmas.Bool.{eqb-true, true≢false}
@@ -8,12 +8,11 @@ use Rattle.std.proofs.lemmas.List.Elements.{All-contains, All-head, All-tail}
 use Rattle.hex.proofs.HexLemmas.{length-encode_with}
 use Rattle.hex.specs.Hex.{lower_digits}
 use Rattle.gixobj_base.proofs.Refusals.{refused_behind}
-use Rattle.gixobj_base.proofs.Splits.{free_of_cut}
 use Rattle.gixobj_base.specs.Hash.{hex_text, id_bytes}
 use Rattle.gixobj_base.specs.declared.hash.object_id.ObjectId.{ObjectId}
 use Rattle.gixobj_base.specs.HeaderText.{field_text, line_text}
 use Rattle.gixobj_base.specs.Parse.{IsFree, SplitsAt}
-use Rattle.gixobj_base.specs.Writing.{Lasts, MayRefuse, Refused, RefusesNothing}
+use Rattle.gixobj_base.specs.Writing.{Lasts, MayRefuse, RefusesNothing}
 use Rattle.gixobj_codec.specs.CommitWriting.{folded}
 use Rattle.gixobj_codec.specs.FieldWriting.{IsLastLine, RefusesLine}
 
@@ -21,13 +20,14 @@ pub appends_nothing : (held : Option (List ℕ)) → Appends held held []
 appends_nothing None = tt
 appends_nothing (Some bytes) = sym (append-nil bytes)
 
-pub free_has_none : (value : List ℕ) → IsFree 10 value → Contains value 10 → ⊥
-free_has_none value free has = All-contains (λ (it : ℕ). it ≡ 10 → ⊥) value 10 free has refl
+-- a text without the byte does not hold it
+pub holds_none : (byte : ℕ) (text : List ℕ) → IsFree byte text → Contains text byte → ⊥
+holds_none byte text free has = All-contains (λ (it : ℕ). it ≡ byte → ⊥) text byte free has refl
 
 -- a value that is neither empty nor has a newline
 pub not_refused : (value : List ℕ) → (length value == 0) ≡ false → IsFree 10 value → RefusesNothing (RefusesLine (Some value))
 not_refused value some free refused parts (inl (none, is), nothing) = absurd (grind (arith, some, none))
-not_refused value some free refused parts (inr (has, is), nothing) = free_has_none value free has
+not_refused value some free refused parts (inr (has, is), nothing) = holds_none 10 value free has
 
 -- ---- lines of a value
 
@@ -50,7 +50,7 @@ folded_line (byte ∷ next ∷ rest) free =
     rw (other-head byte (next ∷ rest) free) (ap (λ (it : List ℕ). byte ∷ it) (folded_line (next ∷ rest) (free-tail byte (next ∷ rest) free)))
 
 pub folded_with_newline : (value : List ℕ) → IsLastLine value → Contains value 10 → folded value ≡ value ++ []
-folded_with_newline value (inl free) has = absurd (free_has_none value free has)
+folded_with_newline value (inl free) has = absurd (holds_none 10 value free has)
 folded_with_newline value (inr (line, is, free)) has = rw is (folded_line line free ∙ sym (append-nil (line ++ 10 ∷ [])))
 
 folded_lines : (line : List ℕ) (byte : ℕ) (after : List ℕ) → IsFree 10 line → folded (line ++ 10 ∷ byte ∷ after) ≡ line ++ 10 ∷ 32 ∷ folded (byte ∷ after)

@@ -1,5 +1,5 @@
 -- The hex text of an id that was read is what was read, in lower case.
-use Rattle.std.proofs.Common.{◌≡◌, ◌<◌, ◌+◌, ◌*◌, ◌/◌, ◌%◌, ◌==◌, ◌||◌, ◌&&◌, ℕ, zero, suc, Bool, true, false, not, List, [], ◌∷◌, map, slice_index, unwrap_or, inl, inr, Option, Some, None, is_some, Result, Ok, Err, arith, refl, ap, sym, ◌∙◌}
+use Rattle.std.proofs.Common.{◌≡◌, ◌<◌, ◌+◌, ◌*◌, ◌/◌, ◌%◌, ◌==◌, ◌||◌, ◌&&◌, ℕ, zero, suc, Bool, true, false, not, List, [], ◌∷◌, slice_index, unwrap_or, inl, inr, Option, Some, None, is_some, Result, Ok, Err, arith, refl, ap, sym, ◌∙◌}
 use Rattle.std.proofs.lemmas.Bool.{and_parts, cases_lt, eqb-true}
 use Rattle.std.proofs.lemmas.List.Elements.{All-head, All-tail}
 use Rattle.std.specs.Char.{to_ascii_lowercase}

@@ -1,5 +1,5 @@
 -- Texts that are written, or counted, in several steps.
-use Rattle.std.proofs.Common.{◌≡◌, ◌+◌, ◌<◌, ◌^◌, ℕ, List, ◌++◌, Option, arith, length, ap, subst, sym, ◌∙◌, append_assoc, length-append}
+use Rattle.std.proofs.Common.{◌≡◌, ◌+◌, ◌<◌, ℕ, List, ◌++◌, Option, arith, length, ap, append_assoc, length-append}
 use Rattle.std.specs.Io.KnownBytes.{Appends}
 use Rattle.gixobj_base.proofs.Refusals.{appends_more, lasts_more}
 use Rattle.gixobj_base.specs.Writing.{Lasts, MayRefuse}

@@ -1,5 +1,5 @@
 -- What was read is written back as it was.
-use Rattle.std.proofs.Common.{◌≡◌, ◌≢◌, ◌<◌, ◌+◌, ℕ, List, [], ◌∷◌, ◌++◌, All, Option, Some, None, Bool, false, arith, length, map, refl, ap, sym, ◌∙◌, append_assoc, length-append, inl, inr, codes}
+use Rattle.std.proofs.Common.{◌≡◌, ◌≢◌, ◌<◌, ℕ, List, [], ◌∷◌, ◌++◌, All, Option, Some, None, false, arith, length, map, refl, ap, sym, ◌∙◌, append_assoc, length-append, inl, inr, codes}
 use Rattle.std.specs.Prelude.{◌==◌}
 use Rattle.std.specs.List.{AllPass, flat_map}
 use Rattle.std.specs.Str.{str_to_ascii_lowercase}
@@ -14,7 +14,7 @@ use Rattle.gixobj_base.specs.declared.encode.Error.{Error}
 use Rattle.gixobj_base.specs.declared.encode.Error.TheVariants as error
 use Rattle.gixobj_codec.specs.FieldWriting.{FailsOnlyWhere}
 use Rattle.gixobj_base.specs.declared.hash.kind.Kind.{Kind}
-use Rattle.gixobj_codec.proofs.FieldWrites.{folded_line, folded_without_newline, free_has_none, lines_again}
+use Rattle.gixobj_codec.proofs.FieldWrites.{folded_line, folded_without_newline, holds_none, lines_again}
 use Rattle.gixobj_codec.proofs.HexCase.{lower_case_stays}
 use Rattle.gixobj_codec.specs.Commit.{AreHeaderTexts, CommitLines, IsCommitText, IsEncoding, encoding_text, parent_text}
 use Rattle.gixobj_codec.specs.CommitWriting.{RefusesEncoding, RefusesLines, commit_text, folded, header_text, in_lower_case}
@@ -86,7 +86,7 @@ commit_writes_back kind text commit it tree parents =
 encoding_not_refused : (encoding : Option (List ℕ)) (headers : List Header) → IsEncoding encoding headers → encoding ≢ Some [] → (value : Refused) → RefusesEncoding encoding value → ⊥
 encoding_not_refused None headers is some value refused = refused
 encoding_not_refused (Some encoding) headers is some value (inl (none, same)) = some (ap Some none)
-encoding_not_refused (Some encoding) headers is some value (inr (has, same)) = free_has_none encoding is has
+encoding_not_refused (Some encoding) headers is some value (inr (has, same)) = holds_none 10 encoding is has
 
 -- and nothing of it is refused but an empty encoding
 pub read_commit_not_refused : (kind : Kind) (text : List ℕ) (commit : CommitLines) → IsCommitText kind text commit → commit.encoding ≢ Some []

@@ -1,5 +1,5 @@
 -- There was no memory for the value, which has a newline.
-use Rattle.std.proofs.Common.{◌≡◌, [], refl, rules, inl, inr}
+use Rattle.std.proofs.Common.{[], refl, rules, inl, inr}
 use Rattle.std.specs.Prelude.{Contains}
 use Rattle.std.proofs.lemmas.Result.{err_from_is_err_and}
 use Rattle.gixobj_codec.proofs.FieldWrites.{appends_nothing}
