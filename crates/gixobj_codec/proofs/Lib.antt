@@ -10,10 +10,12 @@ pub mod HexCase
 mod HexIds
 pub mod Joins
 pub mod OneToken
+mod ReadersAgree
 pub mod Steps
 pub mod TokenCases
 pub mod TokenFilterSteps
 pub mod TokenRefusals
 pub mod TokenRuns
 pub mod ToldCommits
+mod WritingBack
 pub mod WrittenBack

@@ -2,7 +2,7 @@
 use Rattle.std.proofs.Common.{◌≡◌, ◌≢◌, ◌+◌, ◌*◌, ◌%◌, ℕ, List, [], ◌∷◌, ◌++◌, All, Option, Some, None, length, arith, refl, sym, ap, subst, ◌∙◌, append_assoc}
 use Rattle.std.proofs.lemmas.List.{append-nil}
 use Rattle.std.proofs.lemmas.List.Elements.{All-head, All-tail}
-use Rattle.std.specs.List.{flat_map}
+use Rattle.std.specs.List.{AllZip, flat_map}
 use Rattle.std.specs.Prelude.{Ok, codes, map}
 use Rattle.hex.proofs.HexLemmas.{decode_of-digits, decode_of-ok}
 use Rattle.hex.specs.Hex.{decode_of}
@@ -16,7 +16,7 @@ use Rattle.gixobj_base.specs.declared.hash.object_id.ObjectId.{ObjectId}
 use Rattle.gixobj_codec.specs.Commit.{AreHeaderTexts, CommitLines, IsCommitText, IsEncoding, NamesActor, encoding_text, parent_text}
 use Rattle.gixobj_codec.specs.CommitRuns.{Tells, complete, tells_end, tells_token}
 use Rattle.gixobj_codec.specs.CommitTokens.{HasToken, IsActorText, IsIdText, MayComeHeader, TokenView, author_token, committer_token, encoding_token, header_token, message_token, parent_token, tree_token}
-use Rattle.gixobj_codec.specs.Readers.{ActorParts, AreSpelled, AreTokensOf, encoding_tokens}
+use Rattle.gixobj_codec.specs.Readers.{ActorParts, AreTokensOf, encoding_tokens}
 use Rattle.gixobj_codec.specs.declared.commit.ref_iter.State.{State}
 use Rattle.gixobj_codec.specs.declared.commit.ref_iter.State.TheVariants as state
 
@@ -124,7 +124,7 @@ parent_told kind hex rest id tokens spells of_kind told =
 -- the ids of the parents, and how they are told
 pub record ToldParents (kind : Kind) (hexes : List (List ℕ)) (rest : List ℕ) (tokens : List TokenView) : Type 0 where
   pub ids : List ObjectId
-  pub spelled : AreSpelled hexes ids
+  pub spelled : AllZip Spells hexes ids
   pub told : Tells kind state.Parents (flat_map parent_text hexes ++ rest) (map parent_token ids ++ tokens) complete
 
 parents_told : (kind : Kind) (hexes : List (List ℕ)) (rest : List ℕ) (tokens : List TokenView) → All (IsHexOf kind) hexes → Tells kind state.Parents rest tokens complete → ToldParents kind hexes rest tokens

@@ -12,6 +12,7 @@ pub mod FieldWriting
 pub mod HeadersLeft
 pub mod HexIds
 pub mod Readers
+pub mod Rewriting
 pub mod TokenFilters
 pub mod TokenGiving
 pub mod TokenPassing

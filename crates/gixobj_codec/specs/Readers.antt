@@ -1,10 +1,17 @@
 -- A commit and its tokens.
-use Rattle.std.specs.Prelude.{◌≡◌, ℕ, List, [], ◌∷◌, ◌++◌, Option, Some, None, map, ⊤}
-use Rattle.gixobj_base.specs.Hash.{Spells, id_kind}
+use Rattle.std.specs.Prelude.{◌≡◌, ℕ, List, [], ◌∷◌, ◌++◌, Option, Some, None, Result, Ok, Err, map, ⊤}
+use Rattle.std.specs.List.{AllZip}
+use Rattle.gixobj_base.specs.Hash.{Spells}
 use Rattle.gixobj_base.specs.HeaderReading.{IsActor}
+use Rattle.gixobj_base.specs.declared.decode.Error.{Error}
+use Rattle.gixobj_base.specs.declared.decode.Error.TheVariants.{Malformed, OutOfMemory}
 use Rattle.gixobj_base.specs.declared.hash.kind.Kind.{Kind}
 use Rattle.gixobj_base.specs.declared.hash.object_id.ObjectId.{ObjectId}
 use Rattle.gixobj_codec.specs.Commit.{CommitLines}
+use Rattle.gixobj_codec.specs.CommitRuns.{Tells, broken, complete}
+use Rattle.gixobj_codec.specs.CommitViews.{commit_lines}
+use Rattle.gixobj_codec.specs.declared.commit.CommitRef.{CommitRef}
+use Rattle.gixobj_codec.specs.declared.commit.ref_iter.State.{State}
 use Rattle.gixobj_codec.specs.CommitTokens.{TokenView, author_token, committer_token, encoding_token, header_token, message_token, parent_token, tree_token}
 
 -- the last token is a message
@@ -14,12 +21,7 @@ EndsInMessage (message_token message ∷ []) = ⊤
 EndsInMessage (token ∷ []) = ⊥
 EndsInMessage (token ∷ next ∷ tokens) = EndsInMessage (next ∷ tokens)
 
--- the texts spell these ids, each its own
-abbrev pub AreSpelled : List (List ℕ) → List ObjectId → Type 0
-AreSpelled [] [] = ⊤
-AreSpelled (text ∷ texts) (id ∷ ids) = Spells text id × AreSpelled texts ids
-AreSpelled texts ids = ⊥
-
+-- the token of an encoding, or none
 abbrev pub encoding_tokens : Option (List ℕ) → List TokenView
 encoding_tokens None = []
 encoding_tokens (Some encoding) = encoding_token encoding ∷ []
@@ -40,6 +42,20 @@ pub record AreTokensOf (commit : CommitLines) (tokens : List TokenView) : Type 0
       ++ author_token author.name author.email author.time ∷ committer_token committer.name committer.email committer.time
       ∷ encoding_tokens commit.encoding ++ map header_token commit.extra_headers ++ message_token commit.message ∷ []
   pub tree_spelled : Spells commit.tree tree
-  pub parents_spelled : AreSpelled commit.parents parents
+  pub parents_spelled : AllZip Spells commit.parents parents
   pub is_author : IsActor commit.author author.name author.email author.time
   pub is_committer : IsActor commit.committer committer.name committer.email committer.time
+
+-- the run of a reader from this state: what it told, and the error at which it stopped
+abbrev pub IsRun : Kind → State → List ℕ → List TokenView → Option Error → Type 0
+IsRun kind before text tokens None = Tells kind before text tokens complete
+IsRun kind before text tokens (Some Malformed) = Tells kind before text tokens broken
+IsRun kind before text tokens (Some OutOfMemory) = Unit {0}
+
+-- two readers of one text agree: where both end well the tokens are what the commit holds, one does not refuse what the other
+-- reads, and where no commit is read the tokens do not end in a message. Want of memory says nothing
+abbrev pub Agree : Result CommitRef Error → List TokenView → Option Error → Type 0
+Agree (Ok commit) tokens None = EndsInMessage tokens × AreTokensOf (commit_lines commit) tokens
+Agree (Ok commit) tokens (Some Malformed) = ⊥
+Agree (Err Malformed) tokens None = EndsInMessage tokens → ⊥
+Agree whole tokens error = Unit {0}

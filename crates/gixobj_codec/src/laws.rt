@@ -14,6 +14,8 @@ ghost use Rattle.gixobj_codec.specs.FieldWriting.{FailsOnlyWhere};
 ghost use Rattle.gixobj_codec.specs.HexIds.{spelled_id};
 
 pub mod extra_headers;
+pub mod readers;
+pub mod rewriting;
 pub mod tokens;
 
 use crate::CommitRef;
