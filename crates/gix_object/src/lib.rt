@@ -1,7 +1,7 @@
 //! Git's objects as plain bytes, and an editor of trees.
 //!
-//! It hands on what `gixobj_base` has for users: ids, kinds, loose headers, actors and times, trees and
-//! blobs, and how they are written. Its own is [`tree::editor`].
+//! It hands on what `gixobj_base` and `gixobj_codec` have for users: ids, kinds, loose headers, actors
+//! and times, trees, blobs and commits, and how they are read and written. Its own is [`tree::editor`].
 #![tactic(auto)]
 
 pub mod laws;
@@ -11,3 +11,4 @@ pub use gixobj_base::{
     Blob, BlobRef, Header, Kind, Tree, WriteTo, actor, compute_hash, date, decode, encode, hash,
     kind,
 };
+pub use gixobj_codec::{Commit, CommitRef, CommitRefIter, Data, commit};
