@@ -12,69 +12,69 @@ use bstr::BStr;
 use std::alloc::{AllocError, Global};
 
 /// `find`: the value of the first header of the name.
-pub fn header_of_borrowed<'a>(commit: &'a CommitRef<'_>, name: &str) -> Option<BStr<'a>>
-    requires { IsHexOfAnId (commit_lines commit.now).tree }
-    ensures { IsFirstValue name.now (commit_lines commit.now).extra_headers result }
+pub fn header_of_borrowed<'a>(borrowed: &'a CommitRef<'_>, name: &str) -> Option<BStr<'a>>
+    requires { IsHexOfAnId (commit_lines borrowed.now).tree }
+    ensures { IsFirstValue name.now (commit_lines borrowed.now).extra_headers result }
 {
-    commit.extra_headers().find(name)
+    borrowed.extra_headers().find(name)
 }
 
 /// `find`: the value of the first header of the name.
-pub fn header_of_owned<'a>(commit: &'a Commit, name: &str) -> Option<BStr<'a>>
-    ensures { IsFirstValue name.now (owned_lines commit.now).extra_headers result }
+pub fn header_of_owned<'a>(owned: &'a Commit, name: &str) -> Option<BStr<'a>>
+    ensures { IsFirstValue name.now (owned_lines owned.now).extra_headers result }
 {
-    commit.extra_headers().find(name)
+    owned.extra_headers().find(name)
 }
 
 /// `find_pos`: the place of the first header of the name.
-pub fn place_in_borrowed(commit: &CommitRef<'_>, name: &str) -> Option<usize>
-    requires { IsHexOfAnId (commit_lines commit.now).tree }
-    ensures { IsFirstPlace name.now (commit_lines commit.now).extra_headers result }
+pub fn place_in_borrowed(borrowed: &CommitRef<'_>, name: &str) -> Option<usize>
+    requires { IsHexOfAnId (commit_lines borrowed.now).tree }
+    ensures { IsFirstPlace name.now (commit_lines borrowed.now).extra_headers result }
 {
-    commit.extra_headers().find_pos(name)
+    borrowed.extra_headers().find_pos(name)
 }
 
 /// `find_pos`: the place of the first header of the name.
-pub fn place_in_owned(commit: &Commit, name: &str) -> Option<usize>
-    ensures { IsFirstPlace name.now (owned_lines commit.now).extra_headers result }
+pub fn place_in_owned(owned: &Commit, name: &str) -> Option<usize>
+    ensures { IsFirstPlace name.now (owned_lines owned.now).extra_headers result }
 {
-    commit.extra_headers().find_pos(name)
+    owned.extra_headers().find_pos(name)
 }
 
 /// `pgp_signature`: the value of the first header that is named after the kind of the tree's id.
-pub fn signature_of_borrowed<'a>(commit: &'a CommitRef<'_>) -> Option<BStr<'a>>
-    requires { IsHexOfAnId (commit_lines commit.now).tree }
-    ensures { IsFirstValue (signature_field (kind_of_hex (commit_lines commit.now).tree)) (commit_lines commit.now).extra_headers result }
+pub fn signature_of_borrowed<'a>(borrowed: &'a CommitRef<'_>) -> Option<BStr<'a>>
+    requires { IsHexOfAnId (commit_lines borrowed.now).tree }
+    ensures { IsFirstValue (signature_field (kind_of_hex (commit_lines borrowed.now).tree)) (commit_lines borrowed.now).extra_headers result }
 {
-    commit.extra_headers().pgp_signature()
+    borrowed.extra_headers().pgp_signature()
 }
 
 /// `pgp_signature`: the value of the first header that is named after the kind of the tree's id.
-pub fn signature_of_owned<'a>(commit: &'a Commit) -> Option<BStr<'a>>
-    ensures { IsFirstValue (signature_field (id_kind commit.now.tree)) (owned_lines commit.now).extra_headers result }
+pub fn signature_of_owned<'a>(owned: &'a Commit) -> Option<BStr<'a>>
+    ensures { IsFirstValue (signature_field (id_kind owned.now.tree)) (owned_lines owned.now).extra_headers result }
 {
-    commit.extra_headers().pgp_signature()
+    owned.extra_headers().pgp_signature()
 }
 
 /// `find_all`: the values of all headers of the name, in order.
 pub fn values_in_borrowed<'a>(
     alloc: Global,
-    commit: &'a CommitRef<'_>,
+    borrowed: &'a CommitRef<'_>,
     name: &'a str,
 ) -> Result<Vec<BStr<'a>>, AllocError>
-    requires { IsHexOfAnId (commit_lines commit.now).tree }
-    ensures { IfOk result (λ it. map bstr_bytes it.items ≡ values_named name.now (commit_lines commit.now).extra_headers) }
+    requires { IsHexOfAnId (commit_lines borrowed.now).tree }
+    ensures { IfOk result (λ it. map bstr_bytes it.items ≡ values_named name.now (commit_lines borrowed.now).extra_headers) }
 {
-    commit.extra_headers().find_all(name).collect(alloc)
+    borrowed.extra_headers().find_all(name).collect(alloc)
 }
 
 /// `find_all`: the values of all headers of the name, in order.
 pub fn values_in_owned<'a>(
     alloc: Global,
-    commit: &'a Commit,
+    owned: &'a Commit,
     name: &'a str,
 ) -> Result<Vec<BStr<'a>>, AllocError>
-    ensures { IfOk result (λ it. map bstr_bytes it.items ≡ values_named name.now (owned_lines commit.now).extra_headers) }
+    ensures { IfOk result (λ it. map bstr_bytes it.items ≡ values_named name.now (owned_lines owned.now).extra_headers) }
 {
-    commit.extra_headers().find_all(name).collect(alloc)
+    owned.extra_headers().find_all(name).collect(alloc)
 }

@@ -11,4 +11,4 @@ pub returns : goal.returns
 returns c =
     let name = signature_field c.extra_headers.result.hash_kind in
     let found = first_value headers_left name c.extra_headers.result.inner c.pgp_signature.result c.pgp_signature.ensures in
-    subst (λ it. IsFirstValue (signature_field it) (commit_lines c.args.commit.now).extra_headers c.pgp_signature.result) (kind_spelled c.extra_headers.result.hash_kind _ c.extra_headers.ensures.hash_kind) (subst (λ it. IsFirstValue name it c.pgp_signature.result) c.extra_headers.ensures.headers found)
+    subst (λ it. IsFirstValue (signature_field it) (commit_lines c.args.borrowed.now).extra_headers c.pgp_signature.result) (kind_spelled c.extra_headers.result.hash_kind _ c.extra_headers.ensures.hash_kind) (subst (λ it. IsFirstValue name it c.pgp_signature.result) c.extra_headers.ensures.headers found)

@@ -10,4 +10,4 @@ pub returns : goal.returns
 returns c =
     let name = signature_field c.extra_headers.result.hash_kind in
     let found = first_value owned_headers_left name c.extra_headers.result.inner c.pgp_signature.result c.pgp_signature.ensures in
-    subst (λ it. IsFirstValue (signature_field it) (owned_lines c.args.commit.now).extra_headers c.pgp_signature.result) c.extra_headers.ensures.hash_kind (subst (λ it. IsFirstValue name it c.pgp_signature.result) c.extra_headers.ensures.headers found)
+    subst (λ it. IsFirstValue (signature_field it) (owned_lines c.args.owned.now).extra_headers c.pgp_signature.result) c.extra_headers.ensures.hash_kind (subst (λ it. IsFirstValue name it c.pgp_signature.result) c.extra_headers.ensures.headers found)
