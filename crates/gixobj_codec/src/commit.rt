@@ -1,7 +1,7 @@
 //! Commits (gitdatamodel, "commits").
-ghost use Rattle.std.specs.Prelude.{◌≡◌, ℕ, List, All, IfErr, IfOk, map};
+ghost use Rattle.std.specs.Prelude.{◌≡◌, All, IfErr, IfOk, map};
 ghost use Rattle.bstr.specs.BStr.{bstr_bytes};
-ghost use Rattle.gixobj_base.specs.Actor.{IsTimeOrDefault, trimmed};
+ghost use Rattle.gixobj_base.specs.Actor.{trimmed};
 ghost use Rattle.gixobj_base.specs.Hash.{IsHexOfAnId, Spells, id_kind};
 ghost use Rattle.gixobj_base.specs.HeaderReading.{IsActor, IsHexOf, IsNoActor};
 ghost use Rattle.gixobj_base.specs.declared.decode.Error.TheVariants.{Malformed};

@@ -1,7 +1,6 @@
 //! Commits with parts of their own, copied from borrowed ones.
 ghost use Rattle.std.specs.Prelude.{◌≡◌, All, IfOk, map};
 ghost use Rattle.bstr.specs.BStr.{bstr_bytes};
-ghost use Rattle.bstr.specs.Owned.{bstring_bytes};
 ghost use Rattle.gixobj_base.specs.Hash.{IsHexOfAnId};
 ghost use Rattle.gixobj_base.specs.HeaderReading.{header_of};
 ghost use Rattle.gixobj_codec.specs.CommitViews.{bytes_if_some, owned_bytes_if_some, owned_header_of};
