@@ -1,6 +1,6 @@
 -- An input begins with one token at most in each state.
-use Rattle.std.proofs.Common.{◌≡◌, ◌⊎◌, inl, inr, ℕ, List, [], ◌∷◌, ◌++◌, Option, Some, None, refl, sym, ap, subst, ◌∙◌, arith}
-use Rattle.std.specs.Prelude.{codes, Result, Ok, Err}
+use Rattle.std.proofs.Common.{◌≡◌, ◌⊎◌, inl, inr, ℕ, List, [], ◌∷◌, refl, sym, ap, subst, ◌∙◌, arith}
+use Rattle.std.specs.Prelude.{codes}
 use Rattle.gixobj_base.proofs.ActorLines.{one_actor}
 use Rattle.gixobj_base.proofs.HeaderFields.{one_field, one_header}
 use Rattle.gixobj_base.specs.Hash.{id_bytes, id_from, id_kind}
@@ -9,7 +9,7 @@ use Rattle.gixobj_base.specs.declared.hash.kind.Kind.{Kind}
 use Rattle.gixobj_base.specs.declared.hash.object_id.ObjectId.{ObjectId}
 use Rattle.gixobj_base.specs.declared.hash.object_id.ObjectId.TheVariants as id
 use Rattle.gixobj_codec.proofs.TokenCases.{IsAuthor, IsCommitter, IsEncodingLine, IsExtraHeader, IsMessage, IsOtherHeader, IsParent, IsTree, committer_here, encoding_or_header_here, header_or_message_here, parent_or_author_here, tree_here}
-use Rattle.gixobj_codec.proofs.TokenRefusals.{behind_field, behind_header, first_bytes, named_encoding, no_header_at_newline}
+use Rattle.gixobj_codec.proofs.TokenRefusals.{behind_field, first_bytes, named_encoding, no_header_at_newline}
 use Rattle.gixobj_codec.specs.CommitTokens.{HasToken, TokenView, tree_token, parent_token, author_token, committer_token, encoding_token, header_token, message_token}
 use Rattle.gixobj_codec.specs.TokenReading.{SpellsOf, TellsActor, TellsId}
 use Rattle.gixobj_codec.specs.declared.commit.ref_iter.State.{State}

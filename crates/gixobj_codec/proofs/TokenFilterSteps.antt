@@ -1,5 +1,5 @@
 -- Readers that pass over tokens: how they find one that is looked for, and how they end.
-use Rattle.std.proofs.Common.{◌≡◌, ◌≢◌, ◌<◌, ◌≤◌, ℕ, List, [], ◌∷◌, ◌++◌, length, refl, sym, ap, subst, ◌∙◌, arith}
+use Rattle.std.proofs.Common.{◌≡◌, ◌<◌, ◌≤◌, length, refl, subst, ◌∙◌, arith}
 use Rattle.std.specs.Prelude.{Some, None, Result, Ok, Err}
 use Rattle.gixobj_base.specs.declared.decode.Error.{Error}
 use Rattle.gixobj_base.specs.declared.decode.Error.TheVariants.{Malformed}
@@ -7,7 +7,7 @@ use Rattle.gixobj_codec.proofs.TokenRuns.{Seeks, seeks_end, seeks_error, seeks_o
 use Rattle.gixobj_codec.specs.CommitRuns.{complete}
 use Rattle.gixobj_codec.specs.CommitTokens.{TokenView, token_view}
 use Rattle.gixobj_codec.specs.TokenFilters.{ReadsFirst, ReadsNone}
-use Rattle.gixobj_codec.specs.TokenGiving.{GivesToken, reader_bytes, reader_kind, reader_state}
+use Rattle.gixobj_codec.specs.TokenGiving.{GivesToken, reader_bytes, reader_state}
 use Rattle.gixobj_codec.specs.declared.commit.ref_iter.CommitRefIter.{CommitRefIter}
 use Rattle.gixobj_codec.specs.declared.commit.ref_iter.Token.{Token}
 

@@ -1,7 +1,6 @@
 -- Runs of tokens: passed one by one, made into whole runs, and joined of their tokens' texts.
 use Rattle.std.proofs.Common.{◌≡◌, ◌≢◌, ℕ, List, [], ◌∷◌, ◌++◌, refl, sym, ap, subst, ◌∙◌}
 use Rattle.std.proofs.lemmas.List.Elements.{All-nil, All-push}
-use Rattle.std.specs.List.{AllZip, concat}
 use Rattle.std.specs.Prelude.{Some, None, Result, Ok, Err}
 use Rattle.gixobj_base.specs.declared.decode.Error.{Error}
 use Rattle.gixobj_base.specs.declared.decode.Error.TheVariants.{Malformed, OutOfMemory}
@@ -9,7 +8,7 @@ use Rattle.gixobj_base.specs.declared.hash.kind.Kind.{Kind}
 use Rattle.gixobj_codec.proofs.CommitsTold.{no_token_of_nothing}
 use Rattle.gixobj_codec.proofs.OneToken.{one_token}
 use Rattle.gixobj_codec.specs.CommitRuns.{Ending, Tells, broken, complete, tells_end, tells_error, tells_token}
-use Rattle.gixobj_codec.specs.CommitTokens.{HasNoToken, HasToken, IsTokenText, RefusesToken, TokenView, token_view}
+use Rattle.gixobj_codec.specs.CommitTokens.{HasToken, RefusesToken, TokenView, token_view}
 use Rattle.gixobj_codec.specs.TokenGiving.{GivesToken, reader_bytes, reader_kind, reader_state}
 use Rattle.gixobj_codec.specs.TokenPassing.{AreTokenTexts, FindsFault, FindsNone, LacksAll, Passes, PassesNone}
 use Rattle.gixobj_codec.specs.declared.commit.ref_iter.CommitRefIter.{CommitRefIter}

@@ -1,6 +1,6 @@
 -- Readers that tell the parents of a commit alone, or its actors alone.
-use Rattle.std.specs.Prelude.{◌≡◌, ◌⊎◌, ℕ, List, [], Option, Some, None, length}
-use Rattle.std.specs.Iterator.{Count, at_most}
+use Rattle.std.specs.Prelude.{◌≡◌, ℕ, List, [], Option, Some, None}
+use Rattle.std.specs.Iterator.{Count}
 use Rattle.bstr.specs.BStr.{bstr_bytes}
 use Rattle.gixobj_base.specs.declared.actor.SignatureRef.{SignatureRef}
 use Rattle.gixobj_base.specs.declared.decode.Error.{Error}

@@ -5,7 +5,7 @@ use Rattle.gixobj_base.specs.declared.decode.Error.{Error}
 use Rattle.gixobj_base.specs.declared.decode.Error.TheVariants.{Malformed, OutOfMemory}
 use Rattle.gixobj_base.specs.declared.hash.kind.Kind.{Kind}
 use Rattle.gixobj_codec.specs.CommitRuns.{Ending, Tells, broken, complete}
-use Rattle.gixobj_codec.specs.CommitTokens.{HasToken, IsTokenText, RefusesToken, TokenView, author_token, committer_token, encoding_token, header_token, message_token, parent_token, tree_token}
+use Rattle.gixobj_codec.specs.CommitTokens.{HasToken, IsTokenText, RefusesToken, TokenView, author_token, committer_token, message_token, parent_token}
 use Rattle.gixobj_codec.specs.TokenGiving.{reader_bytes, reader_kind, reader_state}
 use Rattle.gixobj_codec.specs.declared.commit.ref_iter.CommitRefIter.{CommitRefIter}
 use Rattle.gixobj_codec.specs.declared.commit.ref_iter.State.{State}

@@ -62,13 +62,13 @@ impl<'a> CommitRefIter<'a> {
 
     /// The message, all bytes behind the empty line, or nothing where the bytes end before it.
     ///
-    /// The error that comes before it.
+    /// The error that comes before it. Headers of several lines that stand before it take memory.
     pub fn message(self) -> Result<BStr<'a>, Error>
         ensures found { IfOk result (λ it. FindsMessage self.entry (bstr_bytes it)) }
         ensures refusal { IfErr result (FindsFault IsMessageToken self.entry) }
     {
-        for item in self {
-            let token = item?;
+        for answer in self {
+            let token = answer?;
             if let Some(message) = token.as_message() {
                 return Ok(message);
             }
