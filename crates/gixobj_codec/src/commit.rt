@@ -17,6 +17,8 @@ mod extra_headers;
 mod owned;
 mod parents;
 pub mod ref_iter;
+#[cfg(test)]
+mod tests;
 mod write;
 
 use bstr::{BStr, BString};

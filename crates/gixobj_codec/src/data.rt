@@ -3,6 +3,9 @@ ghost use Rattle.std.specs.Prelude.{◌≡◌, ◌↔◌, IfSome, IsSome};
 ghost use Rattle.gixobj_base.specs.declared.kind.Kind.TheVariants as object;
 ghost use Rattle.gixobj_codec.specs.DataReading.{IsAtStart};
 
+#[cfg(test)]
+mod tests;
+
 use crate::CommitRefIter;
 use gixobj_base::{Kind, hash};
 use std::alloc::Global;

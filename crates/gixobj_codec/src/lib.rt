@@ -5,6 +5,8 @@ pub mod commit;
 mod data;
 mod encode;
 pub mod laws;
+#[cfg(test)]
+mod limited;
 
 pub use commit::{Commit, CommitRef, CommitRefIter};
 pub use data::Data;
