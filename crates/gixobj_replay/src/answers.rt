@@ -1,29 +1,11 @@
 //! Answers of the public calls, as the recorded ones are written.
-ghost use Rattle.std.specs.Prelude.{◌≡◌, IfOk};
 
+use crate::texts::{bytes_of, text_of};
 use bstr::ByteSlice;
 use gixobj_base::decode::{LooseHeaderDecodeError, ParseIntegerErrorKind, loose_header};
 use gixobj_base::tree::{EntryMode, name_order};
 use std::alloc::{AllocError, Global};
 use std::cmp::Ordering;
-
-/// The bytes of `x` and hex digits; none for another text.
-pub(crate) fn bytes_of(alloc: Global, field: &[u8]) -> Vec<u8> {
-    match field {
-        [b'x', digits @ ..] => match hex::decode(alloc, digits) {
-            Ok(bytes) => bytes,
-            Err(_) => Vec::new(alloc),
-        },
-        _ => Vec::new(alloc),
-    }
-}
-
-/// The bytes of a text.
-pub(crate) fn text_of(alloc: Global, text: &str) -> Result<Vec<u8>, AllocError>
-    ensures { IfOk result (λ answer. answer.items ≡ text.now) }
-{
-    Vec::from_slice(alloc, text.as_bytes())
-}
 
 /// What `EntryMode::from_bytes` reads.
 pub(crate) fn mode_answer(alloc: Global, question: &[u8]) -> Result<Vec<u8>, AllocError> {

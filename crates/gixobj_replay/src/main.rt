@@ -4,7 +4,9 @@
 
 mod actors;
 mod answers;
+mod commits;
 mod tables;
+mod texts;
 
 use std::io::{ErrorKind, Write};
 use std::process::ExitCode;

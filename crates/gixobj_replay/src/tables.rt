@@ -3,6 +3,7 @@ ghost use Rattle.std.specs.Prelude.{◌≡◌, ◌++◌, ◌∷◌, IfSome};
 
 use crate::actors::actor_answer;
 use crate::answers::{header_answer, mode_answer, number_answer, order_answer};
+use crate::commits::{commit_answer, size_answer, token_answer};
 use gixobj_base::parse::{split_at_byte, split_at_last_byte};
 use std::alloc::{AllocError, Global};
 use std::io::Write;
@@ -20,15 +21,24 @@ pub(crate) enum Table {
     LooseHeaders,
     /// Actors' lines read, and the actors written.
     Actors,
+    /// Commits read whole and written.
+    Commits,
+    /// Sizes of commits.
+    CommitSizes,
+    /// Commits told token by token.
+    CommitTokens,
 }
 
 /// All of them.
-pub(crate) const TABLES: [Table; 5] = [
+pub(crate) const TABLES: [Table; 8] = [
     Table::Modes,
     Table::ModeNumbers,
     Table::NameOrder,
     Table::LooseHeaders,
     Table::Actors,
+    Table::Commits,
+    Table::CommitSizes,
+    Table::CommitTokens,
 ];
 
 impl Table {
@@ -40,6 +50,9 @@ impl Table {
             Table::NameOrder => "name order",
             Table::LooseHeaders => "loose headers",
             Table::Actors => "actors",
+            Table::Commits => "commits",
+            Table::CommitSizes => "commit sizes",
+            Table::CommitTokens => "commit tokens",
         }
     }
 
@@ -51,6 +64,9 @@ impl Table {
             Table::NameOrder => "name-order.tsv",
             Table::LooseHeaders => "loose-headers.tsv",
             Table::Actors => "actors.tsv",
+            Table::Commits => "commits.tsv",
+            Table::CommitSizes => "commit-sizes.tsv",
+            Table::CommitTokens => "commit-tokens.tsv",
         }
     }
 
@@ -62,6 +78,9 @@ impl Table {
             Table::NameOrder => order_answer(alloc, question),
             Table::LooseHeaders => header_answer(alloc, question),
             Table::Actors => actor_answer(alloc, question),
+            Table::Commits => commit_answer(alloc, question),
+            Table::CommitSizes => size_answer(alloc, question),
+            Table::CommitTokens => token_answer(alloc, question),
         }
     }
 
@@ -73,8 +92,8 @@ impl Table {
             return None;
         }
         match self {
-            Table::Actors => split_at_byte(line, b'\t'),
-            _ => split_at_last_byte(line, b'\t'),
+            Table::NameOrder => split_at_last_byte(line, b'\t'),
+            _ => split_at_byte(line, b'\t'),
         }
     }
 }

@@ -1,0 +1,184 @@
+//! Answers about commits, as the recorded ones are written.
+ghost use Rattle.gixobj_codec.specs.CommitViews.{commit_lines};
+ghost use Rattle.gixobj_codec.specs.CommitWriting.{HasIds};
+
+mod told;
+
+use crate::actors::{borrowed_text, owned_text};
+use crate::texts::{Columns, bytes_of, hex_of, size_text, text_of, time_text, written_text};
+use bstr::BStr;
+use gixobj_base::actor::SignatureRef;
+use gixobj_base::hash::Kind::Sha1;
+use gixobj_base::{Kind, WriteTo, compute_hash, decode};
+use gixobj_codec::{Commit, CommitRef};
+use std::alloc::{AllocError, Global};
+pub(crate) use told::token_answer;
+
+/// What the public calls say of a commit that is read whole, written and made owned.
+pub(crate) fn commit_answer(alloc: Global, question: &[u8]) -> Result<Vec<u8>, AllocError> {
+    let bytes = bytes_of(alloc, question);
+    let mut columns = Columns::new(alloc);
+    let id = compute_hash(Sha1, Kind::Commit, bytes.as_slice());
+    columns.put("id", format!(in alloc; "{id}")?.as_str())?;
+    match CommitRef::from_bytes(alloc, bytes.as_slice(), Sha1) {
+        Ok(commit) => {
+            columns.put("whole", "ok")?;
+            put_ids(alloc, &commit, &mut columns)?;
+            put_actors(alloc, &commit, &mut columns)?;
+            put_others(alloc, &commit, &mut columns)?;
+            let written = written_of(alloc, &commit)?;
+            columns.put("written", written.as_str())?;
+            put_owned(alloc, commit.into_owned(alloc), &mut columns)?;
+        }
+        Err(error) => columns.put("whole", fault(&error))?,
+    }
+    text_of(alloc, columns.as_str())
+}
+
+/// The columns of the tree and the parents.
+fn put_ids(alloc: Global, commit: &CommitRef<'_>, columns: &mut Columns) -> Result<(), AllocError>
+    requires { HasIds (commit_lines commit.now) }
+{
+    let hex = hex_of(alloc, commit.tree.as_bytes())?;
+    let tree = format!(in alloc; "{hex} {}", commit.tree())?;
+    columns.put("tree", tree.as_str())?;
+    for (hex, id) in commit.parents.iter().zip(commit.parents()) {
+        let hex = hex_of(alloc, hex.as_bytes())?;
+        columns.put("parent", format!(in alloc; "{hex} {id}")?.as_str())?;
+    }
+    Ok(())
+}
+
+/// The columns of the actors, as they stand and trimmed, and of the time.
+fn put_actors(
+    alloc: Global,
+    commit: &CommitRef<'_>,
+    columns: &mut Columns,
+) -> Result<(), AllocError> {
+    let line = hex_of(alloc, commit.author.as_bytes())?;
+    columns.put("author", line.as_str())?;
+    columns.put("author-trim", actor_text(alloc, commit.author())?.as_str())?;
+    let line = hex_of(alloc, commit.committer.as_bytes())?;
+    columns.put("committer", line.as_str())?;
+    columns.put(
+        "committer-trim",
+        actor_text(alloc, commit.committer())?.as_str(),
+    )?;
+    match commit.time() {
+        Ok(time) => columns.put("time", time_text(alloc, Some(time))?.as_str()),
+        Err(error) => columns.put("time", fault(&error)),
+    }
+}
+
+/// The columns of the encoding, the headers, the signature and the message.
+fn put_others(
+    alloc: Global,
+    commit: &CommitRef<'_>,
+    columns: &mut Columns,
+) -> Result<(), AllocError>
+    requires { HasIds (commit_lines commit.now) }
+{
+    let encoding = hex_if_some(alloc, commit.encoding)?;
+    columns.put("encoding", encoding.as_str())?;
+    for (name, value) in &commit.extra_headers {
+        let name = hex_of(alloc, name.as_bytes())?;
+        let value = hex_of(alloc, value.as_slice())?;
+        columns.put("header", format!(in alloc; "{name} {value}")?.as_str())?;
+    }
+    let signature = hex_if_some(alloc, commit.extra_headers().pgp_signature())?;
+    columns.put("signature", signature.as_str())?;
+    columns.put(
+        "message",
+        hex_of(alloc, commit.message.as_bytes())?.as_str(),
+    )
+}
+
+/// The columns of an owned commit.
+fn put_owned(
+    alloc: Global,
+    owned: Result<Commit, decode::Error>,
+    columns: &mut Columns,
+) -> Result<(), AllocError> {
+    match owned {
+        Ok(commit) => {
+            columns.put("owned", "ok")?;
+            let author = owned_text(alloc, &commit.author)?;
+            columns.put("owned-author", author.as_str())?;
+            let committer = owned_text(alloc, &commit.committer)?;
+            columns.put("owned-committer", committer.as_str())?;
+            let written = written_of(alloc, &commit)?;
+            columns.put("owned-written", written.as_str())
+        }
+        Err(error) => columns.put("owned", fault(&error)),
+    }
+}
+
+/// What the public calls say of the size of a commit and of its owned form.
+pub(crate) fn size_answer(alloc: Global, question: &[u8]) -> Result<Vec<u8>, AllocError> {
+    let bytes = bytes_of(alloc, question);
+    let mut columns = Columns::new(alloc);
+    match CommitRef::from_bytes(alloc, bytes.as_slice(), Sha1) {
+        Ok(commit) => {
+            columns.put("size", size_text(alloc, commit.size())?.as_str())?;
+            columns.put("loose", loose_of(alloc, &commit)?.as_str())?;
+            match commit.into_owned(alloc) {
+                Ok(owned) => {
+                    columns.put("owned-size", size_text(alloc, owned.size())?.as_str())?;
+                    columns.put("owned-loose", loose_of(alloc, &owned)?.as_str())?;
+                }
+                Err(error) => columns.put("owned", fault(&error))?,
+            }
+        }
+        Err(error) => columns.put("whole", fault(&error))?,
+    }
+    text_of(alloc, columns.as_str())
+}
+
+/// What is written of a commit, borrowed or owned.
+fn written_of<T: WriteTo>(alloc: Global, commit: &T) -> Result<String, AllocError>
+    requires { T.can_write commit.now }
+{
+    let mut out = Vec::new(alloc);
+    let outcome = commit.write_to(alloc, &mut out);
+    written_text(alloc, outcome, out.as_slice())
+}
+
+/// The loose header of a commit, borrowed or owned.
+fn loose_of<T: WriteTo>(alloc: Global, commit: &T) -> Result<String, AllocError>
+    requires { T.can_write commit.now }
+{
+    match commit.loose_header(alloc) {
+        Some(header) => hex_of(alloc, header.as_slice()),
+        None => String::from_str(alloc, "-"),
+    }
+}
+
+/// An actor, or the fault of its line.
+fn actor_text(
+    alloc: Global,
+    actor: Result<SignatureRef<'_>, decode::Error>,
+) -> Result<String, AllocError> {
+    match actor {
+        Ok(actor) => {
+            let actor = borrowed_text(alloc, actor)?;
+            format!(in alloc; "ok {actor}")
+        }
+        Err(error) => String::from_str(alloc, fault(&error)),
+    }
+}
+
+/// Why nothing is read.
+fn fault(error: &decode::Error) -> &'static str {
+    match error {
+        decode::Error::Malformed => "err",
+        decode::Error::OutOfMemory => "err OutOfMemory",
+    }
+}
+
+/// The bytes in hex digits, or `-`.
+fn hex_if_some(alloc: Global, bytes: Option<BStr<'_>>) -> Result<String, AllocError> {
+    match bytes {
+        Some(bytes) => hex_of(alloc, bytes.as_bytes()),
+        None => String::from_str(alloc, "-"),
+    }
+}

@@ -1,0 +1,92 @@
+//! Answers about commits that are told token by token, as the recorded ones are written.
+
+use super::{actor_text, fault};
+use crate::actors::borrowed_text;
+use crate::texts::{Columns, bytes_of, hex_of, text_of};
+use gixobj_base::decode;
+use gixobj_base::hash::Kind::Sha1;
+use gixobj_base::hash::ObjectId;
+use gixobj_codec::CommitRefIter;
+use gixobj_codec::commit::ref_iter::Token;
+use std::alloc::{AllocError, Global};
+
+/// What the public calls tell of a commit token by token.
+pub(crate) fn token_answer(alloc: Global, question: &[u8]) -> Result<Vec<u8>, AllocError> {
+    let bytes = bytes_of(alloc, question);
+    let tokens = CommitRefIter::from_bytes(alloc, bytes.as_slice(), Sha1);
+    let mut columns = Columns::new(alloc);
+    put_tokens(alloc, tokens, &mut columns)?;
+    let mut first = tokens;
+    columns.put("iter-tree-id", id_text(alloc, first.tree_id())?.as_str())?;
+    columns.put("iter-tree-id", id_text(alloc, first.tree_id())?.as_str())?;
+    for id in tokens.parent_ids() {
+        columns.put("iter-parent", format!(in alloc; "{id}")?.as_str())?;
+    }
+    for actor in tokens.signatures() {
+        columns.put("iter-signature", borrowed_text(alloc, actor)?.as_str())?;
+    }
+    columns.put("iter-author", actor_text(alloc, tokens.author())?.as_str())?;
+    columns.put(
+        "iter-committer",
+        actor_text(alloc, tokens.committer())?.as_str(),
+    )?;
+    match tokens.message() {
+        Ok(message) => {
+            columns.put("iter-message", hex_of(alloc, message.as_bytes())?.as_str())?;
+        }
+        Err(error) => columns.put("iter-message", fault(&error))?,
+    }
+    text_of(alloc, columns.as_str())
+}
+
+/// The columns of the tokens, and of their end.
+fn put_tokens(
+    alloc: Global,
+    tokens: CommitRefIter<'_>,
+    columns: &mut Columns,
+) -> Result<(), AllocError> {
+    for token in tokens {
+        match token {
+            Ok(token) => columns.put("token", token_text(alloc, token)?.as_str())?,
+            Err(error) => columns.put("token", fault(&error))?,
+        }
+    }
+    columns.put_word("end")
+}
+
+/// A token's word, and what it holds.
+fn token_text(alloc: Global, token: Token<'_>) -> Result<String, AllocError> {
+    match token {
+        Token::Tree { id } => format!(in alloc; "tree {id}"),
+        Token::Parent { id } => format!(in alloc; "parent {id}"),
+        Token::Author { signature } => {
+            let actor = borrowed_text(alloc, signature)?;
+            format!(in alloc; "author {actor}")
+        }
+        Token::Committer { signature } => {
+            let actor = borrowed_text(alloc, signature)?;
+            format!(in alloc; "committer {actor}")
+        }
+        Token::Encoding(encoding) => {
+            let encoding = hex_of(alloc, encoding.as_bytes())?;
+            format!(in alloc; "encoding {encoding}")
+        }
+        Token::ExtraHeader((name, value)) => {
+            let name = hex_of(alloc, name.as_bytes())?;
+            let value = hex_of(alloc, value.as_slice())?;
+            format!(in alloc; "header {name} {value}")
+        }
+        Token::Message(message) => {
+            let message = hex_of(alloc, message.as_bytes())?;
+            format!(in alloc; "message {message}")
+        }
+    }
+}
+
+/// An id, or why there is none.
+fn id_text(alloc: Global, id: Result<ObjectId, decode::Error>) -> Result<String, AllocError> {
+    match id {
+        Ok(id) => format!(in alloc; "{id}"),
+        Err(error) => String::from_str(alloc, fault(&error)),
+    }
+}
