@@ -86,7 +86,8 @@ fn plain_commit_owned(rt: HostRuntime) -> Result<(), Fail> {
     let alloc = rt.alloc();
     let text = commit_with(alloc, b"")?;
     let commit = CommitRef::from_bytes(alloc, &text, hash::Kind::Sha1)?;
-    let owned = commit.clone()?.to_owned(alloc)?;
+    let again = CommitRef::from_bytes(alloc, &text, hash::Kind::Sha1)?;
+    let owned = again.to_owned(alloc)?;
     assert!(rt; owned == commit.into_owned(alloc)?);
     assert!(rt; owned.extra_headers().find("x").is_none());
     assert!(rt; owned.kind() == Kind::Commit);

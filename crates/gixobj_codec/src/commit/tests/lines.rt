@@ -116,7 +116,7 @@ fn headers_of_a_name(rt: HostRuntime) -> Result<(), Fail> {
     let alloc = rt.alloc();
     let text = commit_with(alloc, b"x 1\ny 2\n 3\nx 4\n")?;
     let commit = CommitRef::from_bytes(alloc, &text, Kind::Sha1)?;
-    let owned = commit.clone()?.into_owned(alloc)?;
+    let owned = CommitRef::from_bytes(alloc, &text, Kind::Sha1)?.into_owned(alloc)?;
     assert!(rt; commit.extra_headers().find_pos("y") == Some(1));
     assert!(rt; owned.extra_headers().find_pos("y") == Some(1));
     let mut values = Vec::new(alloc);

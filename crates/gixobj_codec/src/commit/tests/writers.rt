@@ -107,7 +107,7 @@ fn writers_that_fail(rt: HostRuntime) -> Result<(), Fail> {
     let lines = b"encoding UTF-8\nx A\n B\ny \n";
     let text = commit_with(alloc, lines)?;
     let commit = CommitRef::from_bytes(alloc, &text, Kind::Sha1)?;
-    let owned = commit.clone()?.into_owned(alloc)?;
+    let owned = CommitRef::from_bytes(alloc, &text, Kind::Sha1)?.into_owned(alloc)?;
     for room in 0..text.len() {
         assert!(rt; stops_at(alloc, &commit, &text, room)?, "{room}");
         assert!(rt; stops_at(alloc, &owned, &text, room)?, "{room}");
