@@ -6,6 +6,7 @@ mod headers;
 mod lines;
 mod orders;
 mod shapes;
+mod told;
 mod writers;
 
 use super::ref_iter::Token;
