@@ -16,6 +16,8 @@ ghost use Rattle.gixobj_codec.specs.HexIds.{spelled_id};
 pub mod extra_headers;
 pub mod readers;
 pub mod rewriting;
+#[cfg(test)]
+mod tests;
 pub mod tokens;
 
 use crate::CommitRef;

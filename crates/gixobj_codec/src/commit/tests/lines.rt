@@ -1,8 +1,10 @@
 //! Lines between the committer and the message.
 
 use super::{FRONT, commit_with, has_id, written};
+use crate::commit::ExtraHeaders;
 use crate::commit::ref_iter::Token;
 use crate::{CommitRef, CommitRefIter};
+use bstr::BStr;
 use gixobj_base::hash::Kind;
 use gixobj_base::{WriteTo, decode, encode};
 use std::test::Fail;
@@ -143,5 +145,17 @@ fn second_encoding(rt: HostRuntime) -> Result<(), Fail> {
     let commit = CommitRef::from_bytes(alloc, &text, Kind::Sha1)?;
     assert!(rt; commit.encoding.is_none());
     assert_eq!(rt; commit.extra_headers.len(), 2);
+    Ok(())
+}
+
+/// Any iterator of names and values will do.
+#[test]
+fn headers_of_an_array(rt: HostRuntime) -> Result<(), Fail> {
+    let pairs = [
+        (BStr::new(b"x"), BStr::new(b"1")),
+        (BStr::new(b"gpgsig"), BStr::new(b"2")),
+    ];
+    let signature = ExtraHeaders::new(pairs.into_iter(), Kind::Sha1).pgp_signature();
+    assert_eq!(rt; signature.ok_or("a header")?.as_bytes(), b"2".as_slice());
     Ok(())
 }

@@ -41,7 +41,7 @@ fn a_thousand_parents_and_headers(rt: HostRuntime) -> Result<(), Fail> {
 }
 
 /// The lines of a commit with two parents, and its author and committer.
-const SHA256_LINES: &[u8] =
+pub(super) const SHA256_LINES: &[u8] =
     b"tree 6ef19b41225c5369f1c104d45d8d85efa9b057b53b14b4b9b939dd74decc5321\n\
     parent 473a0f4c3be8a93681a267e3b1e9a7dcda1185436fe141f7749120a303721813\n\
     parent 6ef19b41225c5369f1c104d45d8d85efa9b057b53b14b4b9b939dd74decc5321\n\
