@@ -1,6 +1,5 @@
 -- The text of a commit, in the parts in which it is written.
 use Rattle.std.proofs.Common.{◌≡◌, ℕ, List, [], ◌∷◌, ◌++◌, All, Option, map, refl, ap, sym, subst, ◌∙◌, append_assoc, codes, inl, inr}
-use Rattle.std.specs.Prelude.{Contains}
 use Rattle.std.specs.List.{flat_map}
 use Rattle.std.specs.Str.{str_to_ascii_lowercase}
 use Rattle.std.specs.declared.alloc.Global.{Global}
@@ -14,7 +13,6 @@ use Rattle.bstr.specs.declared.bstring.BString.{BString}
 use Rattle.bstr.specs.Owned.{bstring_bytes}
 use Rattle.gixobj_base.specs.Actor.{HasIllegalByte, IsWritable}
 use Rattle.gixobj_base.specs.ActorWriting.{owned_text}
-use Rattle.gixobj_base.specs.Parse.{IsFree}
 use Rattle.gixobj_base.specs.declared.actor.Signature.{Signature}
 use Rattle.gixobj_base.specs.Hash.{Spells, hex_text}
 use Rattle.gixobj_base.specs.HeaderReading.{header_of}

@@ -1,5 +1,5 @@
 -- Tokens that end in a message are those of a commit.
-use Rattle.std.proofs.Common.{◌≡◌, ◌+◌, ◌<◌, ℕ, List, [], ◌∷◌, ◌++◌, All, Option, Some, None, length, arith, refl, sym, ap, subst, ◌∙◌, append_assoc, length-append}
+use Rattle.std.proofs.Common.{◌≡◌, ◌<◌, ℕ, List, [], ◌∷◌, ◌++◌, All, Option, Some, None, length, arith, refl, sym, ap, subst, ◌∙◌, append_assoc, length-append}
 use Rattle.std.proofs.lemmas.List.{append-nil}
 use Rattle.std.proofs.lemmas.List.Elements.{All-cons, All-nil}
 use Rattle.std.specs.List.{flat_map}
@@ -10,7 +10,7 @@ use Rattle.gixobj_base.specs.declared.hash.kind.Kind.{Kind}
 use Rattle.gixobj_base.specs.declared.hash.object_id.ObjectId.{ObjectId}
 use Rattle.gixobj_codec.proofs.ToldCommits.{grouped, hex_of_id}
 use Rattle.gixobj_codec.specs.Commit.{AreHeaderTexts, CommitLines, IsCommitText, IsEncoding, NamesActor, encoding_text, parent_text}
-use Rattle.gixobj_codec.specs.CommitRuns.{Tells, complete, tells_end, tells_error, tells_token}
+use Rattle.gixobj_codec.specs.CommitRuns.{Tells, complete, tells_token}
 use Rattle.gixobj_codec.specs.CommitTokens.{HasToken, IsTokenText, TokenView, author_token, committer_token, encoding_token, header_token, message_token, parent_token, state_behind, tree_token}
 use Rattle.gixobj_codec.specs.Readers.{EndsInMessage}
 use Rattle.gixobj_codec.specs.declared.commit.ref_iter.State.{State}

@@ -5,7 +5,6 @@ use Rattle.std.proofs.lemmas.List.{map-append}
 use Rattle.std.specs.Iterator.{Yields}
 use Rattle.bstr.specs.BStr.{bstr_bytes}
 use Rattle.bstr.specs.declared.bstr.BStr.{BStr}
-use Rattle.gixobj_base.specs.HeaderText.{Header}
 use Rattle.gixobj_codec.specs.ExtraHeaders.{FindsPlace, LacksHeader, pair_of}
 
 pub none_before : (name : List ℕ) → LacksHeader name (map pair_of [])

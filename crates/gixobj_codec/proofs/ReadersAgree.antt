@@ -1,5 +1,5 @@
 -- The two readers of commits agree.
-use Rattle.std.proofs.Common.{◌≡◌, ◌≢◌, ℕ, List, [], ◌∷◌, ◌++◌, Option, Some, None, refl, sym, ap, subst, ◌∙◌}
+use Rattle.std.proofs.Common.{◌≡◌, ℕ, List, [], ◌∷◌, ◌++◌, Option, Some, None, refl, sym, subst, ◌∙◌}
 use Rattle.std.proofs.lemmas.List.{map_push}
 use Rattle.std.specs.Prelude.{Result, Ok, Err, IfErr, IfOk, MatchResult, map}
 use Rattle.gixobj_base.specs.declared.decode.Error.{Error}
@@ -10,7 +10,7 @@ use Rattle.gixobj_codec.proofs.TokenRuns.{one_run, passes_one, tells_passed}
 use Rattle.gixobj_codec.proofs.ToldCommits.{commit_told}
 use Rattle.gixobj_codec.specs.Commit.{CommitLines, IsCommitText}
 use Rattle.gixobj_codec.specs.CommitReading.{RefusesCommit}
-use Rattle.gixobj_codec.specs.CommitRuns.{Ending, Tells, broken, complete, tells_end, tells_error}
+use Rattle.gixobj_codec.specs.CommitRuns.{Tells, broken, complete, tells_end, tells_error}
 use Rattle.gixobj_codec.specs.CommitTokens.{HasNoToken, HasToken, TokenView, encoding_token, token_view, author_token, committer_token, header_token, message_token, parent_token, tree_token}
 use Rattle.gixobj_codec.specs.CommitViews.{commit_lines}
 use Rattle.gixobj_codec.specs.Readers.{Agree, AreTokensOf, EndsInMessage, IsRun, encoding_tokens}

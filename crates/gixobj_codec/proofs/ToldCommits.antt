@@ -1,11 +1,10 @@
 -- What a commit's text is told as, and what is told as a commit.
-use Rattle.std.proofs.Common.{◌≡◌, ◌≢◌, ◌+◌, ◌*◌, ◌%◌, ℕ, List, [], ◌∷◌, ◌++◌, All, Option, Some, None, length, arith, refl, sym, ap, subst, ◌∙◌, append_assoc}
+use Rattle.std.proofs.Common.{◌≡◌, ◌≢◌, ◌*◌, ◌%◌, ℕ, List, [], ◌∷◌, ◌++◌, All, Option, Some, None, length, arith, refl, sym, ap, subst, ◌∙◌, append_assoc}
 use Rattle.std.proofs.lemmas.List.{append-nil}
 use Rattle.std.proofs.lemmas.List.Elements.{All-head, All-tail}
 use Rattle.std.specs.List.{AllZip, flat_map}
 use Rattle.std.specs.Prelude.{Ok, codes, map}
 use Rattle.hex.proofs.HexLemmas.{decode_of-digits, decode_of-ok}
-use Rattle.hex.specs.Hex.{decode_of}
 use Rattle.gixobj_base.specs.Hash.{Spells, hash_len, id_bytes, id_from, id_kind}
 use Rattle.gixobj_base.specs.HeaderReading.{IsActor, IsHexOf}
 use Rattle.gixobj_base.specs.HeaderText.{EndsHeader, Header, IsHeaderText, field_text, following_text}
@@ -13,10 +12,10 @@ use Rattle.gixobj_base.specs.Parse.{IsFree}
 use Rattle.gixobj_base.specs.declared.hash.kind.Kind.{Kind}
 use Rattle.gixobj_base.specs.declared.hash.kind.Kind.TheVariants as hash
 use Rattle.gixobj_base.specs.declared.hash.object_id.ObjectId.{ObjectId}
-use Rattle.gixobj_codec.specs.Commit.{AreHeaderTexts, CommitLines, IsCommitText, IsEncoding, NamesActor, encoding_text, parent_text}
+use Rattle.gixobj_codec.specs.Commit.{AreHeaderTexts, CommitLines, IsCommitText, IsEncoding, encoding_text, parent_text}
 use Rattle.gixobj_codec.specs.CommitRuns.{Tells, complete, tells_end, tells_token}
-use Rattle.gixobj_codec.specs.CommitTokens.{HasToken, IsActorText, IsIdText, MayComeHeader, TokenView, author_token, committer_token, encoding_token, header_token, message_token, parent_token, tree_token}
-use Rattle.gixobj_codec.specs.Readers.{ActorParts, AreTokensOf, encoding_tokens}
+use Rattle.gixobj_codec.specs.CommitTokens.{HasToken, MayComeHeader, TokenView, author_token, committer_token, encoding_token, header_token, message_token, parent_token, tree_token}
+use Rattle.gixobj_codec.specs.Readers.{AreTokensOf, encoding_tokens}
 use Rattle.gixobj_codec.specs.declared.commit.ref_iter.State.{State}
 use Rattle.gixobj_codec.specs.declared.commit.ref_iter.State.TheVariants as state
 

@@ -1,5 +1,5 @@
 -- A reader of a commit from where it stands to its end.
-use Rattle.std.specs.Prelude.{◌≡◌, ◌≢◌, ℕ, List, [], ◌∷◌}
+use Rattle.std.specs.Prelude.{◌≢◌, ℕ, List, [], ◌∷◌}
 use Rattle.gixobj_base.specs.declared.hash.kind.Kind.{Kind}
 use Rattle.gixobj_codec.specs.CommitTokens.{HasNoToken, HasToken, TokenView}
 use Rattle.gixobj_codec.specs.declared.commit.ref_iter.State.{State}

@@ -1,12 +1,11 @@
 -- Commits that are read and written back.
-use Rattle.std.specs.Prelude.{◌≡◌, ◌⊎◌, ℕ, List, [], Option, Some, map, ⊤}
+use Rattle.std.specs.Prelude.{◌≡◌, ◌⊎◌, ℕ, List, [], Some, map, ⊤}
 use Rattle.std.specs.Str.{str_to_ascii_lowercase}
 use Rattle.gixobj_base.specs.Actor.{IsTimeOrDefault, actor_text}
 use Rattle.gixobj_base.specs.ActorWriting.{IsIllegalActor}
 use Rattle.gixobj_base.specs.Date.{time_text}
 use Rattle.gixobj_base.specs.HeaderReading.{IsActor}
 use Rattle.gixobj_base.specs.declared.date.Time.{Time}
-use Rattle.gixobj_base.specs.declared.encode.Error.{Error}
 use Rattle.gixobj_base.specs.declared.encode.Error.TheVariants as encode
 use Rattle.gixobj_base.specs.declared.hash.kind.Kind.{Kind}
 use Rattle.gixobj_codec.specs.Commit.{CommitLines, IsCommitText}

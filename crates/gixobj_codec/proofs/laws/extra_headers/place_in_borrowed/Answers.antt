@@ -1,5 +1,4 @@
-use Rattle.std.proofs.Common.{ap, subst, ◌∙◌}
-use Rattle.std.proofs.lemmas.Iterator.Consumers.{map_from_collect}
+use Rattle.std.proofs.Common.{subst}
 use Rattle.gixobj_codec.proofs.HeadersFound.{first_place}
 use Rattle.gixobj_codec.specs.ExtraHeaders.{IsFirstPlace}
 use Rattle.gixobj_codec.specs.HeadersLeft.{headers_left}

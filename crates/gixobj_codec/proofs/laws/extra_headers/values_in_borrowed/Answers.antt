@@ -1,4 +1,4 @@
-use Rattle.std.proofs.Common.{ap, subst, ◌∙◌}
+use Rattle.std.proofs.Common.{ap, ◌∙◌}
 use Rattle.std.proofs.lemmas.Iterator.Consumers.{map_from_collect}
 use Rattle.gixobj_codec.proofs.HeadersFound.{all_values}
 use Rattle.gixobj_codec.specs.HeadersLeft.{headers_left}
