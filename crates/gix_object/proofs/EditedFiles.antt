@@ -7,7 +7,7 @@ use Rattle.std.specs.Cmp.Lexicographic.{bytes_decides, lists_total, nat_list_cmp
 use Rattle.std.specs.Ordering.{nat_cmp}
 use Rattle.std.specs.FinMap as map
 use Rattle.gixobj_base.specs.Entries.{EntryView}
-use Rattle.gixobj_base.specs.declared.hash.object_id.ObjectId.{ObjectId}
+use Rattle.gixobj_base.specs.ids.hash.object_id.ObjectId.{ObjectId}
 use Rattle.gix_object.specs.Editing.{comes_before, kept, removed_entries, same_name, upserted_entries, with_entry, without}
 use Rattle.gix_object.specs.Files.{Below, FileSet, Files, Has, NamedFiles, Path, Removed, SameFiles, Table, Upserted, is_null}
 use Rattle.gix_object.specs.HandingOut.{HandsOut, Walks, end, leaves, shut}

@@ -6,11 +6,11 @@ use Rattle.sha1.specs.Sha1 as sha1
 use Rattle.sha2.specs.Sha256 as sha256
 use Rattle.gixobj_base.specs.Entries.{EntryView}
 use Rattle.gixobj_base.specs.Hash.{id_of}
-use Rattle.gixobj_base.specs.declared.hash.kind.Kind.{Kind}
-use Rattle.gixobj_base.specs.declared.hash.kind.Kind.TheVariants as hash
-use Rattle.gixobj_base.specs.declared.hash.object_id.ObjectId.{ObjectId}
-use Rattle.gixobj_base.specs.declared.hash.object_id.ObjectId.TheVariants as id
-use Rattle.gixobj_base.specs.declared.kind.Kind.TheVariants.{Tree}
+use Rattle.gixobj_base.specs.ids.hash.kind.Kind.{Kind}
+use Rattle.gixobj_base.specs.ids.hash.kind.Kind.TheVariants as hash
+use Rattle.gixobj_base.specs.ids.hash.object_id.ObjectId.{ObjectId}
+use Rattle.gixobj_base.specs.ids.hash.object_id.ObjectId.TheVariants as id
+use Rattle.gixobj_base.specs.ids.kind.Kind.TheVariants.{Tree}
 use Rattle.gix_object.specs.Editing.{same_name}
 use Rattle.gix_object.specs.Files.{Table, is_null}
 use Rattle.gix_object.specs.HandingOut.{Pair}

@@ -5,10 +5,10 @@ use Rattle.std.proofs.lemmas.List.{drop_more, take_more}
 use Rattle.gixobj_base.specs.Entries.{EntryView}
 use Rattle.gixobj_base.specs.Hash.{IsNull, id_kind, id_of}
 use Rattle.gixobj_base.specs.Mode.{is_tree_mode}
-use Rattle.gixobj_base.specs.declared.hash.kind.Kind.{Kind}
-use Rattle.gixobj_base.specs.declared.hash.kind.Kind.TheVariants as hash
-use Rattle.gixobj_base.specs.declared.hash.object_id.ObjectId.{ObjectId}
-use Rattle.gixobj_base.specs.declared.kind.Kind.TheVariants.{Tree}
+use Rattle.gixobj_base.specs.ids.hash.kind.Kind.{Kind}
+use Rattle.gixobj_base.specs.ids.hash.kind.Kind.TheVariants as hash
+use Rattle.gixobj_base.specs.ids.hash.object_id.ObjectId.{ObjectId}
+use Rattle.gixobj_base.specs.ids.kind.Kind.TheVariants.{Tree}
 use Rattle.gix_object.specs.Files.{Below, FileSet, Files, Path, SameFiles, Table, is_null, stands_for}
 use Rattle.gix_object.specs.HandingOut.{Pair}
 use Rattle.gix_object.specs.Listing.{FileView, IsFirst, IsTableOf, Lists, in_front}

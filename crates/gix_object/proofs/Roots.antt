@@ -4,8 +4,8 @@ use Rattle.std.specs.Prelude.{IfOk, IsFalse, OnErr}
 use Rattle.std.proofs.lemmas.List.Elements.{All-from_recursion, All-head, All-weaker}
 use Rattle.std.specs.FinMap as map
 use Rattle.gixobj_base.specs.Entries.{EntryView, IsWellFormed}
-use Rattle.gixobj_base.specs.declared.hash.kind.Kind.{Kind}
-use Rattle.gixobj_base.specs.declared.hash.object_id.ObjectId.{ObjectId}
+use Rattle.gixobj_base.specs.ids.hash.kind.Kind.{Kind}
+use Rattle.gixobj_base.specs.ids.hash.object_id.ObjectId.{ObjectId}
 use Rattle.gix_object.specs.Editing.{kept}
 use Rattle.gix_object.specs.EditorCalls.{EditorFiles, IsStorable, StoppedBy}
 use Rattle.gix_object.specs.declared.tree.editor.WriteError.{WriteError}

@@ -4,7 +4,7 @@ use denote.Ref.{Bor}
 use Rattle.bstr.specs.Owned.{bstring_bytes}
 use Rattle.bstr.specs.declared.bstring.BString.{BString}
 use Rattle.gixobj_base.specs.Entries.{EntryView, IsEntryName, IsWellFormed}
-use Rattle.gixobj_base.specs.declared.hash.object_id.ObjectId.{ObjectId}
+use Rattle.gixobj_base.specs.ids.hash.object_id.ObjectId.{ObjectId}
 use Rattle.gix_object.specs.Files.{FileSet, Path, Table, is_null}
 use Rattle.gix_object.specs.Opening.{OpenFiles}
 use Rattle.gix_object.specs.State.{State, open_dirs}

@@ -1,7 +1,7 @@
 -- The trees that a write hands out, with the ids that they get.
 use Rattle.std.specs.Prelude.{◌≡◌, List, [], ◌∷◌, ◌++◌, Some, None, if◌then◌else◌}
 use Rattle.gixobj_base.specs.Entries.{EntryView}
-use Rattle.gixobj_base.specs.declared.hash.object_id.ObjectId.{ObjectId}
+use Rattle.gixobj_base.specs.ids.hash.object_id.ObjectId.{ObjectId}
 use Rattle.gix_object.specs.Files.{is_null}
 use Rattle.gix_object.specs.Opening.{Dirs, in_dir}
 

@@ -2,9 +2,9 @@
 use Rattle.std.specs.Prelude.{◌≡◌, ◌≢◌, ◌⊎◌, ℕ, List, [], ◌∷◌, IsFalse, Option, Some, None}
 use Rattle.gixobj_base.specs.Entries.{EntryView}
 use Rattle.gixobj_base.specs.Hash.{id_of}
-use Rattle.gixobj_base.specs.declared.hash.kind.Kind.{Kind}
-use Rattle.gixobj_base.specs.declared.hash.object_id.ObjectId.{ObjectId}
-use Rattle.gixobj_base.specs.declared.kind.Kind.TheVariants.{Tree}
+use Rattle.gixobj_base.specs.ids.hash.kind.Kind.{Kind}
+use Rattle.gixobj_base.specs.ids.hash.object_id.ObjectId.{ObjectId}
+use Rattle.gixobj_base.specs.ids.kind.Kind.TheVariants.{Tree}
 use Rattle.gix_object.specs.Files.{FileSet, Path, Table, is_null}
 use Rattle.gix_object.specs.HandingOut.{Pair}
 

@@ -1,15 +1,12 @@
 -- The state of an editor as contracts see it.
-use Rattle.std.specs.Prelude.{◌≡◌, refl, ℕ, Bool, true, false, List, []}
+pub mod Codes
+use Rattle.std.specs.Prelude.{ℕ, List, []}
 use Rattle.std.specs.Ordering.{nat_cmp}
 use Rattle.std.specs.Cmp.Lexicographic.{slice_cmp}
 use Rattle.std.specs.FinMap.{FinMap}
 use Rattle.std.specs.FinMap as map
-use Rattle.std.specs.Coded.{Coded, code_by, coded×, coded_bool, coded_list, coded_ℕ}
 use Rattle.gixobj_base.specs.Entries.{EntryView}
-use Rattle.gixobj_base.specs.declared.hash.kind.Kind.{Kind}
-use Rattle.gixobj_base.specs.declared.hash.kind.Kind.TheVariants as hash
-use Rattle.gixobj_base.specs.declared.hash.object_id.ObjectId.{ObjectId}
-use Rattle.gixobj_base.specs.declared.hash.object_id.ObjectId.TheVariants as id
+use Rattle.gixobj_base.specs.ids.hash.kind.Kind.{Kind}
 use Rattle.gix_object.specs.Opening.{Dirs}
 
 -- the entries of the open directories, by their paths
@@ -30,42 +27,3 @@ open_dirs state = λ path. map.get state.dirs path
 -- the root alone is open
 abbrev pub root_alone : List EntryView → DirMap
 root_alone entries = map.insert map.empty [] entries
-
--- codes of these values, which the language asks for
-abbrev pub is_sha1 : Kind → Bool
-is_sha1 hash.Sha1 = true
-is_sha1 hash.Sha256 = false
-
-abbrev pub hash_of : Bool → Kind
-hash_of true = hash.Sha1
-hash_of false = hash.Sha256
-
-pub hash_back : (it : Kind) → hash_of (is_sha1 it) ≡ it
-hash_back hash.Sha1 = refl
-hash_back hash.Sha256 = refl
-
-abbrev pub hash_code : Coded Kind
-hash_code = code_by Bool coded_bool is_sha1 hash_of hash_back
-
-abbrev pub id_parts : ObjectId → Bool × List ℕ
-id_parts (id.Sha1 bytes) = (true, bytes)
-id_parts (id.Sha256 bytes) = (false, bytes)
-
-abbrev pub id_from_parts : Bool × List ℕ → ObjectId
-id_from_parts (true, bytes) = id.Sha1 bytes
-id_from_parts (false, bytes) = id.Sha256 bytes
-
-pub id_back : (it : ObjectId) → id_from_parts (id_parts it) ≡ it
-id_back (id.Sha1 bytes) = refl
-id_back (id.Sha256 bytes) = refl
-
-abbrev pub id_code : Coded ObjectId
-id_code = code_by (Bool × List ℕ) (coded× coded_bool (coded_list coded_ℕ)) id_parts id_from_parts id_back
-
-abbrev pub entry_code : Coded EntryView
-entry_code = code_by (ℕ × (List ℕ × ObjectId)) (coded× coded_ℕ (coded× (coded_list coded_ℕ) id_code)) (λ e. (e.mode, (e.name, e.id))) (λ p. record { mode = p.0; name = p.1.0; id = p.1.1 }) (λ _. refl)
-
-abbrev pub state_code : {S : Type 0} → Coded S → Coded (State S)
-state_code {S} store_code =
-    code_by (DirMap × (S × (ℕ × Kind))) (coded× (map.code (coded_list (coded_list coded_ℕ)) (coded_list entry_code)) (coded× store_code (coded× coded_ℕ hash_code)))
-    (λ s. (s.dirs, (s.store, (s.lookups, s.object_hash)))) (λ p. record { dirs = p.0; store = p.1.0; lookups = p.1.1.0; object_hash = p.1.1.1 }) (λ _. refl)

@@ -1,9 +1,9 @@
 -- A run of the program: what it reads, what it writes, and its status.
 use Rattle.std.specs.Prelude.{◌≡◌, ◌⊎◌, ℕ, List, Option}
 use Rattle.std.specs.Io.KnownBytes.{Appends, Consumes, IsAtEnd}
-use Rattle.gixobj_base.specs.declared.hash.kind.Kind as hash
-use Rattle.gixobj_base.specs.declared.hash.object_id.ObjectId.{ObjectId}
-use Rattle.gixobj_base.specs.declared.kind.Kind.{Kind}
+use Rattle.gixobj_base.specs.ids.hash.kind.Kind as hash
+use Rattle.gixobj_base.specs.ids.hash.object_id.ObjectId.{ObjectId}
+use Rattle.gixobj_base.specs.ids.kind.Kind.{Kind}
 use Rattle.gixobj.specs.Show.{HasNoHeader, IsObject, IsShort, show_line}
 use Rattle.gixobj.specs.Words.{AsksForNothing, AsksToShow}
 use Rattle.gixobj.specs.declared.refusal.Refusal.{Refusal}

@@ -3,9 +3,9 @@ use Rattle.std.specs.Prelude.{◌≡◌, ◌≤◌, ◌<◌, ◌+◌, ℕ, List,
 use Rattle.gixobj_base.specs.Decode.{HasLooseHeader}
 use Rattle.gixobj_base.specs.Hash.{hex_text, id_of}
 use Rattle.gixobj_base.specs.Kind.{kind_word}
-use Rattle.gixobj_base.specs.declared.hash.kind.Kind as hash
-use Rattle.gixobj_base.specs.declared.hash.object_id.ObjectId.{ObjectId}
-use Rattle.gixobj_base.specs.declared.kind.Kind.{Kind}
+use Rattle.gixobj_base.specs.ids.hash.kind.Kind as hash
+use Rattle.gixobj_base.specs.ids.hash.object_id.ObjectId.{ObjectId}
+use Rattle.gixobj_base.specs.ids.kind.Kind.{Kind}
 use Rattle.gixobj.specs.declared.refusal.Refusal.{Refusal}
 use Rattle.gixobj.specs.declared.refusal.Refusal.TheVariants.{BadHeader, OutOfMemory, ShortData}
 

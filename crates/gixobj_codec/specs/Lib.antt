@@ -1,19 +1,35 @@
-pub mod Commit
-pub mod CommitIds
-pub mod CommitOwned
-pub mod CommitReading
-pub mod CommitRuns
-pub mod CommitTokens
-pub mod CommitViews
-pub mod CommitWriting
-pub mod DataReading
-pub mod ExtraHeaders
-pub mod FieldWriting
-pub mod HeadersLeft
-pub mod HexIds
-pub mod Readers
-pub mod Rewriting
-pub mod TokenFilters
-pub mod TokenGiving
-pub mod TokenPassing
-pub mod TokenReading
+pub use Rattle.gixobj_actors.specs.Actor
+pub use Rattle.gixobj_actors.specs.ActorWriting
+pub use Rattle.gixobj_actors.specs.Date
+pub use Rattle.gixobj_actors.specs.declared as actors
+pub use Rattle.gixobj_commits.specs.Commit
+pub use Rattle.gixobj_commits.specs.CommitIds
+pub use Rattle.gixobj_commits.specs.CommitOwned
+pub use Rattle.gixobj_commits.specs.CommitReading
+pub use Rattle.gixobj_commits.specs.CommitViews
+pub use Rattle.gixobj_commits.specs.CommitWriting
+pub use Rattle.gixobj_commits.specs.Rewriting
+pub use Rattle.gixobj_commits.specs.declared as commits
+pub use Rattle.gixobj_data.specs.DataReading
+pub use Rattle.gixobj_data.specs.declared as unread
+pub use Rattle.gixobj_extra_headers.specs.ExtraHeaders
+pub use Rattle.gixobj_extra_headers.specs.HeadersLeft
+pub use Rattle.gixobj_extra_headers.specs.declared as extra_headers
+pub use Rattle.gixobj_fields.specs.FieldWriting
+pub use Rattle.gixobj_fields.specs.HeaderReading
+pub use Rattle.gixobj_fields.specs.HeaderText
+pub use Rattle.gixobj_fields.specs.Writing
+pub use Rattle.gixobj_fields.specs.declared as fields
+pub use Rattle.gixobj_ids.specs.Decode
+pub use Rattle.gixobj_ids.specs.Encode
+pub use Rattle.gixobj_ids.specs.Hash
+pub use Rattle.gixobj_ids.specs.Kind
+pub use Rattle.gixobj_ids.specs.Parse
+pub use Rattle.gixobj_ids.specs.declared as ids
+pub use Rattle.gixobj_tokens.specs.CommitRuns
+pub use Rattle.gixobj_tokens.specs.CommitTokens
+pub use Rattle.gixobj_tokens.specs.Readers
+pub use Rattle.gixobj_tokens.specs.TokenFilters
+pub use Rattle.gixobj_tokens.specs.TokenGiving
+pub use Rattle.gixobj_tokens.specs.TokenPassing
+pub use Rattle.gixobj_tokens.specs.declared as tokens

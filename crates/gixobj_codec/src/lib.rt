@@ -1,12 +1,11 @@
 //! Git's commits, read and written: whole, or told token by token (gitdatamodel, "commits").
+//!
+//! It has no code: it hands on what the crates below it have, under the names by which users know it.
 #![tactic(auto)]
 
 pub mod commit;
-mod data;
-mod encode;
 pub mod laws;
-#[cfg(test)]
-mod limited;
 
-pub use commit::{Commit, CommitRef, CommitRefIter};
-pub use data::Data;
+pub use gixobj_commits::{Commit, CommitRef};
+pub use gixobj_data::Data;
+pub use gixobj_tokens::CommitRefIter;

@@ -83,7 +83,8 @@ pub struct Editor<S> {
 
 impl<S> Model for Editor<S> {
     ghost use Rattle.gixobj_base.specs.Entries.{IsWellFormed};
-    ghost use Rattle.gix_object.specs.State.{State, root_alone, state_code};
+    ghost use Rattle.gix_object.specs.State.{State, root_alone};
+    ghost use Rattle.gix_object.specs.State.Codes.{state_code};
 
     ghost Value = { State S };
 

@@ -1,7 +1,7 @@
 //! The editor of one level. Ids of trees are those that `git mktree` answers.
 ghost use Rattle.std.specs.Prelude.{◌≡◌, ◌≤◌, ℕ, ◌∷◌, [], IfOk, IfSome, length};
 ghost use Rattle.gixobj_base.specs.Mode.{mode_of_kind};
-ghost use Rattle.gixobj_base.specs.declared.tree.entry_kind.EntryKind.TheVariants.{Blob};
+ghost use Rattle.gixobj_base.specs.trees.tree.entry_kind.EntryKind.TheVariants.{Blob};
 ghost use Rattle.gix_object.specs.EditorCalls.{EditorFiles, IsCallableOnTrees, names_of};
 ghost use Rattle.gix_object.specs.Files.{Agrees, NamedFiles, SameFiles, Table};
 ghost use Rattle.gix_object.specs.History.{History, remove, upsert};

@@ -5,7 +5,7 @@ use Rattle.std.proofs.lemmas.List.Elements.{All-cons, All-nil}
 use Rattle.std.proofs.lemmas.Result.{IfOk-weaker, MatchResult-weaker}
 use Rattle.gixobj_base.specs.Entries.{EntryView}
 use Rattle.gix_object.specs.Editing.{kept}
-use Rattle.gixobj_base.specs.declared.hash.object_id.ObjectId.{ObjectId}
+use Rattle.gixobj_base.specs.ids.hash.object_id.ObjectId.{ObjectId}
 use Rattle.gix_object.specs.EditorCalls.{IsStorable}
 use Rattle.gix_object.specs.HandingOut.{HandsOut}
 use Rattle.gix_object.specs.State.{open_dirs, root_alone}

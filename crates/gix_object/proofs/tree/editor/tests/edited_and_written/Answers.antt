@@ -1,6 +1,6 @@
 -- Each call adds its step.
 use Rattle.gixobj_base.specs.Mode.{mode_of_kind}
-use Rattle.gixobj_base.specs.declared.tree.entry_kind.EntryKind.TheVariants.{Blob}
+use Rattle.gixobj_base.specs.trees.tree.entry_kind.EntryKind.TheVariants.{Blob}
 use Rattle.gix_object.specs.EditorCalls.{EditorFiles, names_of}
 use Rattle.gix_object.specs.Files.{NamedFiles, Removed, Upserted}
 use Rattle.gix_object.proofs.EditedFiles.{same_removed, same_trans}

@@ -1,0 +1,3 @@
+pub mod ActorLines
+mod ActorTexts
+mod TimeTexts

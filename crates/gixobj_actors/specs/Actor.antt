@@ -1,0 +1,70 @@
+-- Lines that name an actor and a time (git-commit-tree, "Commit Information"; git-fast-import, "author").
+use Rattle.std.specs.Prelude.{◌≡◌, ◌≢◌, ◌⊎◌, ◌||◌, ◌==◌, ℕ, Bool, List, [], ◌∷◌, ◌++◌, Contains, IsFalse, pos, ⊤}
+use Rattle.std.specs.Char.{is_ascii_digit, is_whitespace}
+use Rattle.std.specs.List.{AllPass}
+use Rattle.bstr.specs.Trim.{trim_end_by, trim_start_by}
+use Rattle.gixobj_actors.specs.Date.{IsNoTimeText, IsTimeText}
+use Rattle.gixobj_ids.specs.Parse.{IsFree}
+use Rattle.gixobj_actors.specs.declared.date.Time.{Time}
+
+-- a byte that may stand in a time: a digit, a plus, a minus, a space or a tab
+abbrev pub is_time_byte : ℕ → Bool
+is_time_byte byte = is_ascii_digit byte || byte == 43 || byte == 45 || byte == 32 || byte == 9
+
+-- no time goes on here
+abbrev pub EndsTime : List ℕ → Type 0
+EndsTime [] = ⊤
+EndsTime (byte ∷ rest) = IsFalse (is_time_byte byte)
+
+-- the name is the text less one final space where there is one
+abbrev pub IsNameOf : List ℕ → List ℕ → Type 0
+IsNameOf text name = (text ≡ name ++ 32 ∷ []) ⊎ ((text ≡ name) × ((front : List ℕ) → text ≢ front ++ 32 ∷ []))
+
+-- the gap is one space, or nothing where no space follows
+abbrev pub IsGap : List ℕ → List ℕ → Type 0
+IsGap gap after = (gap ≡ 32 ∷ []) ⊎ ((gap ≡ []) × ((rest : List ℕ) → after ≢ 32 ∷ rest))
+
+-- the line names an actor: a text before its first `<`, an email up to its last `>`, a gap, a time as long as it goes, a rest
+pub record IsActorLine (line name email time rest : List ℕ) : Type 0 where
+  pub text : List ℕ
+  pub gap : List ℕ
+  pub joined : line ≡ text ++ 60 ∷ email ++ 62 ∷ gap ++ time ++ rest
+  pub one_line : IsFree 10 line
+  pub first : IsFree 60 text
+  pub last : IsFree 62 (gap ++ time ++ rest)
+  pub named : IsNameOf text name
+  pub spaced : IsGap gap (time ++ rest)
+  pub timed : AllPass is_time_byte time
+  pub ends : EndsTime rest
+
+-- the line names no actor
+abbrev pub IsNoActorLine : List ℕ → Type 0
+IsNoActorLine line = (name email time rest : List ℕ) → ¬ IsActorLine line name email time rest
+
+-- the bytes without white space at either end
+abbrev pub trimmed : List ℕ → List ℕ
+trimmed text = trim_end_by is_whitespace (trim_start_by is_whitespace text)
+
+-- the time that the text says; where it says none, the start of 1970 in UTC
+abbrev pub IsTimeOrDefault : List ℕ → Time → Type 0
+IsTimeOrDefault text time = IsTimeText text time.seconds time.offset ⊎ (IsNoTimeText text × (time.seconds ≡ pos 0) × (time.offset ≡ pos 0))
+
+-- a `<`, a `>` or a newline stands in the text
+abbrev pub HasIllegalByte : List ℕ → Type 0
+HasIllegalByte text = Contains text 60 ⊎ Contains text 62 ⊎ Contains text 10
+
+-- a name or an email that can be written: no `<`, no `>`, no newline
+abbrev pub IsWritable : List ℕ → Type 0
+IsWritable text = IsFree 60 text × IsFree 62 text × IsFree 10 text
+
+-- an actor as it is written
+abbrev pub actor_text : List ℕ → List ℕ → List ℕ → List ℕ
+actor_text name email time = name ++ 32 ∷ 60 ∷ email ++ 62 ∷ 32 ∷ time
+
+-- the line names this actor, and nothing follows the time
+abbrev pub IsActor : List ℕ → List ℕ → List ℕ → List ℕ → Type 0
+IsActor line name email time = IsActorLine line name email time []
+
+-- the line is no actor
+abbrev pub IsNoActor : List ℕ → Type 0
+IsNoActor line = (name email time : List ℕ) → ¬ IsActor line name email time

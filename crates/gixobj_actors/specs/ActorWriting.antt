@@ -1,0 +1,44 @@
+-- What a writer of actors answers.
+use Rattle.std.specs.Prelude.{◌≡◌, ◌⊎◌, ℕ, List, [], ◌∷◌, ◌++◌}
+use Rattle.bstr.specs.BStr.{bstr_bytes}
+use Rattle.bstr.specs.Owned.{bstring_bytes}
+use Rattle.gixobj_actors.specs.Actor.{HasIllegalByte, IsWritable, actor_text}
+use Rattle.gixobj_actors.specs.Date.{time_text}
+use Rattle.gixobj_fields.specs.Writing.{Refused, illegal_actor}
+use Rattle.gixobj_actors.specs.declared.actor.Signature.{Signature}
+use Rattle.gixobj_actors.specs.declared.actor.SignatureRef.{SignatureRef}
+use Rattle.gixobj_fields.specs.declared.encode.Error.{Error}
+use Rattle.gixobj_fields.specs.declared.encode.Error.TheVariants.{IllegalActor, Writer}
+
+-- a borrowed actor as it is written
+abbrev pub borrowed_text : SignatureRef → List ℕ
+borrowed_text actor = actor_text (bstr_bytes actor.name) (bstr_bytes actor.email) (bstr_bytes actor.time)
+
+-- an owned actor as it is written
+abbrev pub owned_text : Signature → List ℕ
+owned_text actor = actor_text (bstring_bytes actor.name) (bstring_bytes actor.email) (time_text actor.time.seconds actor.time.offset)
+
+-- an actor of this name and this email can be written
+abbrev pub IsLegalActor : List ℕ → List ℕ → Type 0
+IsLegalActor name email = IsWritable name × IsWritable email
+
+-- an actor of this name and this email cannot be written
+abbrev pub IsIllegalActor : List ℕ → List ℕ → Type 0
+IsIllegalActor name email = HasIllegalByte name ⊎ HasIllegalByte email
+
+-- a name and an email that an owned actor can be written with
+abbrev pub IsLegal : Signature → Type 0
+IsLegal actor = IsLegalActor (bstring_bytes actor.name) (bstring_bytes actor.email)
+
+abbrev pub IsIllegal : Signature → Type 0
+IsIllegal actor = IsIllegalActor (bstring_bytes actor.name) (bstring_bytes actor.email)
+
+-- why an actor is not written: it cannot be, and nothing is written; or the writer may refuse it
+abbrev pub RefusesActor : List ℕ → List ℕ → Type 0 → Type 0 → Error → Type 0
+RefusesActor name email unchanged may_refuse IllegalActor = IsIllegalActor name email × unchanged
+RefusesActor name email unchanged may_refuse (Writer error) = IsLegalActor name email × may_refuse
+RefusesActor name email unchanged may_refuse other = ⊥
+
+-- an actor is refused behind the name of its field and a space
+abbrev pub RefusesSignature : List ℕ → Signature → Refused → List ℕ → Type 0
+RefusesSignature name actor value parts = IsIllegal actor × (value ≡ illegal_actor) × (parts ≡ name ++ 32 ∷ [])

@@ -1,0 +1,12 @@
+pub mod Actor
+pub mod ActorWriting
+pub mod Date
+pub use Rattle.gixobj_fields.specs.FieldWriting
+pub use Rattle.gixobj_fields.specs.HeaderReading
+pub use Rattle.gixobj_fields.specs.HeaderText
+pub use Rattle.gixobj_fields.specs.Writing
+pub use Rattle.gixobj_ids.specs.Decode
+pub use Rattle.gixobj_ids.specs.Encode
+pub use Rattle.gixobj_ids.specs.Hash
+pub use Rattle.gixobj_ids.specs.Kind
+pub use Rattle.gixobj_ids.specs.Parse

@@ -1,0 +1,38 @@
+//! Header fields of actors, written (gitdatamodel, "commits").
+ghost use Rattle.std.specs.Prelude.{◌<◌, ◌+◌, ◌^◌, ◌≡◌, length, IfErr, OnOk};
+ghost use Rattle.std.specs.Io.KnownBytes.{Appends};
+ghost use Rattle.std.specs.Option.{SomeIff};
+ghost use Rattle.gixobj_fields.specs.HeaderText.{field_text};
+ghost use Rattle.gixobj_fields.specs.Writing.{Lasts, MayRefuse, SaysWhy};
+ghost use Rattle.gixobj_actors.specs.ActorWriting.{IsLegal, RefusesSignature, owned_text};
+
+use crate::actor::Signature;
+use gixobj_fields::encode::Error;
+use gixobj_fields::streams::Sink;
+
+/// Puts the field of an actor, which is refused behind the name and a space where it is illegal.
+pub fn trusted_header_signature<S: Sink>(
+    name: &[u8],
+    actor: &Signature,
+    sink: &mut S,
+) -> Result<(), Error>
+    ensures written { OnOk result (Appends (S.held sink.old) (S.held sink.new) (field_text name.now (owned_text actor.now))) }
+    ensures legal { OnOk result (IsLegal actor.now) }
+    ensures lasting { OnOk result (Lasts (S.may_refuse sink.old) (S.may_refuse sink.new) (field_text name.now (owned_text actor.now))) }
+    ensures refusal { IfErr result (SaysWhy (RefusesSignature name.now actor.now) (S.held sink.old) (S.held sink.new) (MayRefuse (S.may_refuse sink.old) (field_text name.now (owned_text actor.now)))) }
+    ensures same_loan { S.loan sink.new ≡ S.loan sink.old }
+{
+    sink.put(name)?;
+    sink.put(b" ")?;
+    actor.write_into(sink)?;
+    sink.put(b"\n")?;
+    Ok(())
+}
+
+/// The size with that of the field of an actor, or none past 64 bits.
+pub fn size_with_signature(size: u64, name: &[u8], actor: &Signature) -> Option<u64>
+    ensures { SomeIff result (size + length (field_text name.now (owned_text actor.now)) < 2 ^ 64) (size + length (field_text name.now (owned_text actor.now))) }
+{
+    let with_name = size.checked_add(name.len() as u64)?.checked_add(2)?;
+    with_name.checked_add(actor.size()?)
+}

@@ -1,6 +1,0 @@
-use Rattle.gixobj_base.proofs.HeaderFields.{no_field_without_newline}
-use Rattle.gixobj_base.proofs.parse.header_field.Goals as goal
-
-pub returns-in_default-split_at_first-clause-none :
-    goal.returns-in_default-split_at_first-clause-none
-returns-in_default-split_at_first-clause-none c = no_field_without_newline c.args.name.now c.args.input.now c.in-Some.line.now c.in-Some.ensures.found c.in_default-split_at_first.ensures.none

@@ -1,0 +1,54 @@
+//! The words of kinds.
+
+use gixobj_base::Header;
+use gixobj_base::kind::{Error, Kind};
+use std::test::Fail;
+
+#[test]
+fn words_of_kinds(rt: HostRuntime) -> Result<(), Fail> {
+    let alloc = rt.alloc();
+    let words = [
+        (Kind::Tree, "tree"),
+        (Kind::Blob, "blob"),
+        (Kind::Commit, "commit"),
+        (Kind::Tag, "tag"),
+    ];
+    for (kind, word) in words {
+        assert_eq!(rt; kind.as_bytes(), word.as_bytes());
+        assert_eq!(rt; kind.to_string(alloc)?.as_str(), word);
+        let read = Kind::from_bytes(alloc, word.as_bytes());
+        assert!(rt; read.is_ok_and(|it| it == kind), "{word}");
+        assert!(rt; kind.is_tree() == (kind == Kind::Tree), "{word}");
+        assert!(rt; kind.is_blob() == (kind == Kind::Blob), "{word}");
+        assert!(rt; kind.is_commit() == (kind == Kind::Commit), "{word}");
+        assert!(rt; kind.is_tag() == (kind == Kind::Tag), "{word}");
+    }
+    let refused: [&[u8]; 4] = [b"", b"Blob", b"blobs", b"ta"];
+    for word in refused {
+        match Kind::from_bytes(alloc, word) {
+            Err(Error::InvalidObjectKind { kind }) => assert_eq!(rt; kind.as_bytes(), word),
+            _ => return Err("a word that is no kind")?,
+        }
+    }
+    Ok(())
+}
+
+#[test]
+fn headers_in_order(rt: HostRuntime) {
+    let small = Header {
+        kind: Kind::Blob,
+        size: 5,
+    };
+    let large = Header {
+        kind: Kind::Blob,
+        size: 6,
+    };
+    assert!(rt; small < large);
+    assert!(rt; small == Header { ..small });
+    assert!(rt;
+        Header {
+            kind: Kind::Tree,
+            size: 7
+        } < small
+    );
+}

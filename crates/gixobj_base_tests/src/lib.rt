@@ -1,0 +1,26 @@
+//! Tests of `gixobj_base`, and a writer that fails, for the tests of the crates above.
+#![tactic(auto)]
+
+#[cfg(test)]
+mod actor;
+#[cfg(test)]
+mod blob;
+#[cfg(test)]
+mod date;
+#[cfg(test)]
+mod decode;
+#[cfg(test)]
+mod digest;
+#[cfg(test)]
+mod hash;
+#[cfg(test)]
+mod kind;
+pub mod limited;
+#[cfg(test)]
+mod parse;
+#[cfg(test)]
+mod streams;
+#[cfg(test)]
+mod traits;
+#[cfg(test)]
+mod tree;

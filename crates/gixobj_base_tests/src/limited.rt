@@ -1,0 +1,27 @@
+//! A writer that fails, for tests.
+
+use std::io;
+use std::io::{ErrorKind, Write};
+
+/// A writer with room for so many more bytes. It keeps what it takes.
+#[derive(Drop)]
+pub struct Limited {
+    pub held: Vec<u8>,
+    pub room: usize,
+}
+
+impl Write for Limited {
+    fn write(&mut self, buf: &[u8]) -> io::Result<usize> {
+        if self.room == 0 {
+            return Err(io::Error::from(ErrorKind::StorageFull));
+        }
+        let taken = self.room.min(buf.len());
+        self.held.extend_from_slice(&buf[..taken])?;
+        self.room -= taken;
+        Ok(taken)
+    }
+
+    fn flush(&mut self) -> io::Result<()> {
+        Ok(())
+    }
+}

@@ -1,0 +1,249 @@
+//! Trees, written. The ids and bytes are git's, of the trees of the folder `examples`.
+
+use crate::limited::Limited;
+use bstr::BString;
+use gixobj_base::encode::Error;
+use gixobj_base::hash::{self, ObjectId};
+use gixobj_base::tree::{Entry, EntryKind, EntryMode};
+use gixobj_base::{Kind, Tree, WriteTo, compute_hash};
+use std::alloc::{AllocError, Global};
+use std::test::Fail;
+
+fn entry(alloc: Global, mode: EntryMode, name: &[u8], oid: ObjectId) -> Result<Entry, AllocError> {
+    Ok(Entry {
+        mode,
+        filename: BString::from_slice(alloc, name)?,
+        oid,
+    })
+}
+
+fn tree_of_one(
+    alloc: Global,
+    mode: EntryMode,
+    name: &[u8],
+    oid: ObjectId,
+) -> Result<Tree, AllocError> {
+    let mut entries = Vec::new(alloc);
+    entries.push(entry(alloc, mode, name, oid)?)?;
+    Ok(Tree { entries })
+}
+
+/// Entries as `git ls-tree` prints them, less the word of the kind.
+const SHA1: [(EntryKind, &str, &str); 6] = [
+    (
+        EntryKind::Tree,
+        "b6532456130e3225202f17e070c9b8178ef8d922",
+        "docs",
+    ),
+    (
+        EntryKind::Blob,
+        "1c0faac18742a237bcae8565123acd6705d2024d",
+        "docs.txt",
+    ),
+    (
+        EntryKind::Blob,
+        "ce013625030ba8dba906f756967f9e9ca394464a",
+        "hello.txt",
+    ),
+    (
+        EntryKind::Link,
+        "a5162f80d4a6782b7cb2a0a197f834e683cb9eb1",
+        "link",
+    ),
+    (
+        EntryKind::Commit,
+        "656d88de433ec9f9c5d4ed9b2c643844127a0fb4",
+        "module",
+    ),
+    (
+        EntryKind::BlobExecutable,
+        "21ba682558a42264518f1e0ba55e8a5cd9d7db0a",
+        "run.sh",
+    ),
+];
+
+const SHA256: [(EntryKind, &str, &str); 6] = [
+    (
+        EntryKind::Tree,
+        "c66a2b30a22f801e33fbf564bd5e67bd21b66c7dcf1f9178b1ffa3d2eff62461",
+        "docs",
+    ),
+    (
+        EntryKind::Blob,
+        "04bc395b945c99dc8ecc9ab0539b1c53c3fb774a7764fbd2142615f30107fa30",
+        "docs.txt",
+    ),
+    (
+        EntryKind::Blob,
+        "2cf8d83d9ee29543b34a87727421fdecb7e3f3a183d337639025de576db9ebb4",
+        "hello.txt",
+    ),
+    (
+        EntryKind::Link,
+        "6cafa536fe7763ce8320204b29269847816b8a13216afd94b09c8aae7cf829a8",
+        "link",
+    ),
+    (
+        EntryKind::Commit,
+        "0dc599b3b0ab7db2ef28ab7bcd9a37ac991827a78d0d53a1ae438f3731f374d7",
+        "module",
+    ),
+    (
+        EntryKind::BlobExecutable,
+        "8112dc221b4f989cfc11b522518aed80ee50f2a8665fdd3321ab8e000ebe865d",
+        "run.sh",
+    ),
+];
+
+/// What `git cat-file tree` answers for the first of them, in hex.
+const SHA1_BYTES: [&str; 6] = [
+    "31303036343420646f63732e747874001c0faac18742a237bcae8565123acd6705d2024d",
+    "343030303020646f637300b6532456130e3225202f17e070c9b8178ef8d922",
+    "3130303634342068656c6c6f2e74787400ce013625030ba8dba906f756967f9e9ca394464a",
+    "313230303030206c696e6b00a5162f80d4a6782b7cb2a0a197f834e683cb9eb1",
+    "313630303030206d6f64756c6500656d88de433ec9f9c5d4ed9b2c643844127a0fb4",
+    "3130303735352072756e2e73680021ba682558a42264518f1e0ba55e8a5cd9d7db0a",
+];
+
+/// The tree of these entries, in the order of a tree.
+fn sorted_tree(alloc: Global, rows: &[(EntryKind, &str, &str)]) -> Result<Tree, Fail> {
+    let mut entries = Vec::new(alloc);
+    for (kind, hex, name) in rows {
+        let oid = ObjectId::from_hex(hex.as_bytes()).ok_or("an id")?;
+        entries.push(entry(alloc, EntryMode::from(*kind), name.as_bytes(), oid)?)?;
+    }
+    entries.sort()?;
+    Ok(Tree { entries })
+}
+
+fn written(alloc: Global, tree: &Tree) -> Result<Vec<u8>, Error> {
+    let mut out = Vec::new(alloc);
+    tree.write_to(alloc, &mut out)?;
+    Ok(out)
+}
+
+#[test]
+fn trees_of_the_examples(rt: HostRuntime) -> Result<(), Fail> {
+    let alloc = rt.alloc();
+    let tree = sorted_tree(alloc, &SHA1)?;
+    let out = written(alloc, &tree)?;
+    let mut hex = String::new(alloc);
+    for line in SHA1_BYTES {
+        hex.push_str(line)?;
+    }
+    assert_eq!(rt; hex::encode(alloc, out.as_slice())?.as_str(), hex.as_str());
+    let id = compute_hash(hash::Kind::Sha1, Kind::Tree, &out);
+    assert!(rt; Some(id) == ObjectId::from_hex(b"932696bf4fc5904284abc872dd6ae7421b4e9e19"));
+    assert!(rt; tree.kind() == Kind::Tree);
+    assert!(rt; tree.size() == Some(204));
+    let header = tree.loose_header(alloc).ok_or("a header")?;
+    assert_eq!(rt; header.as_slice(), b"tree 204\0".as_slice());
+    Ok(())
+}
+
+#[test]
+fn trees_of_the_examples_in_sha256(rt: HostRuntime) -> Result<(), Fail> {
+    let alloc = rt.alloc();
+    let tree = sorted_tree(alloc, &SHA256)?;
+    let out = written(alloc, &tree)?;
+    let id = compute_hash(hash::Kind::Sha256, Kind::Tree, &out);
+    let wanted = b"b50197883fb00da94cd610867bae1cb42a03a69c9058b0c225a8eeec98c95ba0";
+    assert!(rt; Some(id) == ObjectId::from_hex(wanted));
+    assert!(rt; tree.size() == Some(276));
+    assert_eq!(rt; out.len(), 276);
+    Ok(())
+}
+
+/// The front of an entry as it was read, its name, what is written of it, and all bytes that are.
+const ODD_ENTRIES: [(&str, &str, &str, usize); 5] = [
+    ("1100644", "a", "100644 a\0", 29),
+    ("", "a", "0 a\0", 24),
+    ("140000", "a", "040000 a\0", 29),
+    ("777", "a", "000777 a\0", 29),
+    ("40000", " a", "40000  a\0", 29),
+];
+
+#[test]
+fn odd_entries(rt: HostRuntime) -> Result<(), Fail> {
+    let alloc = rt.alloc();
+    let oid = ObjectId::Sha1([1; 20]);
+    for (digits, name, front, len) in ODD_ENTRIES {
+        let mut text = Vec::from_slice(alloc, digits.as_bytes())?;
+        text.extend_from_slice(b" ")?;
+        text.extend_from_slice(name.as_bytes())?;
+        text.extend_from_slice(b"\0")?;
+        text.extend_from_slice(&[1; 20])?;
+        let mode = EntryMode::from_bytes(&text).ok_or("a mode")?;
+        let tree = tree_of_one(alloc, mode, name.as_bytes(), oid)?;
+        let out = written(alloc, &tree)?;
+        assert_eq!(rt; out.len(), len, "{digits}");
+        assert!(rt; out.starts_with(front.as_bytes()), "{digits}");
+        assert!(rt; out.ends_with(&[1; 20]), "{digits}");
+        assert!(rt; tree.size() == Some(len as u64), "{digits}");
+    }
+    assert!(rt; EntryMode::from_bytes(b" a\0\x01\x01\x01\x20\x01").is_none());
+    assert!(rt; EntryMode::from_bytes(b"12345677 a\0").is_none());
+    Ok(())
+}
+
+#[test]
+fn a_thousand_files(rt: HostRuntime) -> Result<(), Fail> {
+    let alloc = rt.alloc();
+    let oid = ObjectId::empty_blob(hash::Kind::Sha1);
+    let mut entries = Vec::new(alloc);
+    for number in 1000..2000u32 {
+        let name = format!(in alloc; "{number}")?;
+        entries.push(entry(alloc, EntryKind::Blob.into(), name.as_bytes(), oid)?)?;
+    }
+    let tree = Tree { entries };
+    assert_eq!(rt; written(alloc, &tree)?.len(), 32000);
+    assert!(rt; tree.size() == Some(32000));
+    Ok(())
+}
+
+/// Two files, the second of which has a zero byte in its name.
+fn with_a_zero_byte(alloc: Global) -> Result<Tree, AllocError> {
+    let oid = ObjectId::empty_blob(hash::Kind::Sha1);
+    let mut entries = Vec::new(alloc);
+    entries.push(entry(alloc, EntryKind::Blob.into(), b"a", oid)?)?;
+    entries.push(entry(alloc, EntryKind::Link.into(), b"b\0c", oid)?)?;
+    entries.push(entry(alloc, EntryKind::Blob.into(), b"d\0", oid)?)?;
+    Ok(Tree { entries })
+}
+
+/// A refused name leaves the entry before it, and its own mode and space.
+#[test]
+fn names_with_a_zero_byte(rt: HostRuntime) -> Result<(), Fail> {
+    let alloc = rt.alloc();
+    let tree = with_a_zero_byte(alloc)?;
+    let mut out = Vec::from_slice(alloc, b"before")?;
+    match tree.write_to(alloc, &mut out) {
+        Err(Error::NullbyteInFilename { name }) => {
+            assert_eq!(rt; name.as_slice(), b"b\0c".as_slice());
+        }
+        _ => return Err("a zero byte")?,
+    }
+    assert_eq!(rt; out.len(), 6 + 29 + 7);
+    assert!(rt; out.starts_with(b"before100644 a\0"));
+    assert!(rt; out.ends_with(b"120000 "));
+    assert!(rt; tree.size() == Some(29 + 31 + 30));
+    Ok(())
+}
+
+/// A writer that takes so many bytes and then fails holds exactly those.
+#[test]
+fn writers_that_fail(rt: HostRuntime) -> Result<(), Fail> {
+    let alloc = rt.alloc();
+    let tree = sorted_tree(alloc, &SHA1)?;
+    let text = written(alloc, &tree)?;
+    for room in 0..text.len() {
+        let held = Vec::with_capacity(alloc, text.len())?;
+        let mut writer = Limited { held, room };
+        assert!(rt;
+            matches!(&tree.write_to(alloc, &mut writer), Err(Error::Writer(_))),
+            "{room}"
+        );
+        assert!(rt; writer.held.as_slice() == &text[..room], "{room}");
+    }
+    Ok(())
+}

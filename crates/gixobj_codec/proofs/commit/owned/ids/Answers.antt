@@ -1,5 +1,0 @@
-use Rattle.gixobj_codec.proofs.HexIds.{id_at}
-use Rattle.gixobj_codec.proofs.commit.owned.ids.Goals as goal
-
-pub id_of_hex-requires : goal.id_of_hex-requires
-id_of_hex-requires c = id_at c.args.hexes.now c.loop-hex.hex-index _ c.loop-hex-test.true c.requires

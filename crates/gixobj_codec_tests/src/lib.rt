@@ -1,0 +1,9 @@
+//! Tests of `gixobj_codec`.
+#![tactic(auto)]
+
+#[cfg(test)]
+mod commit;
+#[cfg(test)]
+mod data;
+#[cfg(test)]
+mod laws;

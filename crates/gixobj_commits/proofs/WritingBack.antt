@@ -1,0 +1,106 @@
+-- What is read of a commit and written back.
+use Rattle.std.proofs.Common.{◌≡◌, ◌⊎◌, inl, inr, ℕ, List, [], ◌∷◌, Option, Some, None, refl, ap, subst}
+use Rattle.std.specs.Prelude.{map}
+use Rattle.std.specs.List.{AllZip}
+use Rattle.std.specs.Str.{str_to_ascii_lowercase}
+use Rattle.std.proofs.lemmas.List.Elements.{All-contains}
+use Rattle.bstr.specs.Owned.{bstring_bytes}
+use Rattle.gixobj_actors.specs.ActorWriting.{IsIllegal, owned_text}
+use Rattle.gixobj_ids.specs.Hash.{Spells, hex_text}
+use Rattle.gixobj_fields.specs.HeaderText.{Header}
+use Rattle.gixobj_fields.specs.Writing.{Refused, SaysWhy, bad_name, empty_header, header_with_newline, illegal_actor, name_with_dash, name_with_zero_byte}
+use Rattle.gixobj_ids.specs.declared.decode.Error as decode
+use Rattle.gixobj_ids.specs.declared.decode.Error.TheVariants.{Malformed, OutOfMemory}
+use Rattle.gixobj_actors.specs.declared.actor.Signature.{Signature}
+use Rattle.gixobj_fields.specs.declared.encode.Error.{Error}
+use Rattle.gixobj_fields.specs.declared.encode.Error.TheVariants as encode
+use Rattle.gixobj_ids.specs.declared.hash.kind.Kind.{Kind}
+use Rattle.gixobj_ids.specs.declared.hash.object_id.ObjectId.{ObjectId}
+use Rattle.gixobj_ids.proofs.HexCase.{hex_in_lower_case}
+use Rattle.gixobj_commits.specs.Commit.{CommitLines, IsCommitText, IsEncoding}
+use Rattle.gixobj_commits.specs.CommitOwned.{IsOwnedActor, IsOwnedForm, RefusesOwning}
+use Rattle.gixobj_commits.specs.CommitViews.{owned_lines}
+use Rattle.gixobj_commits.specs.CommitWriting.{RefusesEncoding, RefusesOwned}
+use Rattle.gixobj_commits.specs.Rewriting.{AreOwnParts, HasEmptyEncoding, IsCanonical, IsUnwritable, RefusesOwnBack}
+use Rattle.gixobj_commits.specs.declared.commit.Commit.{Commit}
+use Rattle.gixobj_commits.specs.declared.laws.rewriting.WriteBackError.TheVariants.{Read, Write}
+
+-- ---- the owned form
+
+ids_in_lower_case : (hexes : List (List ℕ)) (ids : List ObjectId) → AllZip Spells hexes ids → map hex_text ids ≡ map str_to_ascii_lowercase hexes
+ids_in_lower_case [] [] are = refl
+ids_in_lower_case [] (id ∷ ids) are = absurd are
+ids_in_lower_case (hex ∷ hexes) [] are = absurd are
+ids_in_lower_case (hex ∷ hexes) (id ∷ ids) are = let one = hex_in_lower_case hex id are.0 in let more = ids_in_lower_case hexes ids are.1 in cc (one, more)
+
+canonical : (line : List ℕ) (actor : Signature) → IsOwnedActor line actor → IsCanonical line (owned_text actor)
+canonical line actor is = record { name = bstring_bytes actor.name; email = bstring_bytes actor.email; time = is.time; said = actor.time; read = is.read; is_time = is.said; text = refl }
+
+pub own_parts : (lines : CommitLines) (commit : Commit) → IsOwnedForm lines commit → AreOwnParts lines (owned_lines commit)
+own_parts lines commit is =
+    record {
+      tree = hex_in_lower_case lines.tree commit.tree is.tree;
+      parents = ids_in_lower_case lines.parents commit.parents.items is.parents;
+      author = canonical lines.author commit.author is.author;
+      committer = canonical lines.committer commit.committer is.committer;
+      encoding = is.encoding;
+      extra_headers = is.extra_headers;
+      message = is.message;
+    }
+
+-- ---- refusals
+
+-- what is refused of the encoding of a commit that was read
+encoding_refused : (encoding : Option (List ℕ)) (headers : List Header) (value : Refused) → IsEncoding encoding headers → RefusesEncoding encoding value → (value ≡ empty_header) × (encoding ≡ Some [])
+encoding_refused None headers value is refused = absurd refused
+encoding_refused (Some encoding) headers value is (inl (none, is_empty)) = (is_empty, ap (λ (it : List ℕ). Some it) none)
+encoding_refused (Some encoding) headers value is (inr (has, is_newline)) = absurd (All-contains (λ (it : ℕ). it ≡ 10 → ⊥) encoding 10 is has refl)
+
+unwritable : (line : List ℕ) (actor : Signature) → IsOwnedActor line actor → IsIllegal actor → IsUnwritable line
+unwritable line actor is illegal = (bstring_bytes actor.name, bstring_bytes actor.email, is.time, is.read, illegal)
+
+-- what is refused of the owned form of a commit that was read
+abbrev WhatIsRefused : CommitLines → Refused → Type 0
+WhatIsRefused lines value = ((value ≡ illegal_actor) × (IsUnwritable lines.author ⊎ IsUnwritable lines.committer)) ⊎ ((value ≡ empty_header) × HasEmptyEncoding lines)
+
+what_is_refused : (kind : Kind) (bytes : List ℕ) (lines : CommitLines) (commit : Commit) (value : Refused) (parts : List ℕ) → IsCommitText kind bytes lines → IsOwnedForm lines commit → RefusesOwned commit value parts → WhatIsRefused lines value
+what_is_refused kind bytes lines commit value parts read own (inl (illegal, is, before)) = inl (is, inl (unwritable lines.author commit.author own.author illegal))
+what_is_refused kind bytes lines commit value parts read own (inr (inl (legal, illegal, is, before))) = inl (is, inr (unwritable lines.committer commit.committer own.committer illegal))
+what_is_refused kind bytes lines commit value parts read own (inr (inr (legal, other, refused))) =
+    inr (encoding_refused lines.encoding lines.extra_headers value read.encoding (subst (λ (it : Option (List ℕ)). RefusesEncoding it value) own.encoding refused.0))
+
+no_other : (lines : CommitLines) (value : Refused) → WhatIsRefused lines value → (value ≡ illegal_actor → ⊥) → (value ≡ empty_header → ⊥) → ⊥
+no_other lines value (inl (is, actor)) no_actor no_encoding = no_actor is
+no_other lines value (inr (is, encoding)) no_actor no_encoding = no_encoding is
+
+its_actor : (lines : CommitLines) → WhatIsRefused lines illegal_actor → IsUnwritable lines.author ⊎ IsUnwritable lines.committer
+its_actor lines (inl (is, actor)) = actor
+its_actor lines (inr (is, encoding)) = cc
+
+its_encoding : (lines : CommitLines) → WhatIsRefused lines empty_header → HasEmptyEncoding lines
+its_encoding lines (inl (is, actor)) = cc
+its_encoding lines (inr (is, encoding)) = encoding
+
+pub refused_owned : (kind : Kind) (bytes : List ℕ) (lines : CommitLines) (commit : Commit) (a b : Option (List ℕ)) (F : Type 0) (why : Error) → IsCommitText kind bytes lines → IsOwnedForm lines commit
+    → SaysWhy (RefusesOwned commit) a b F why → RefusesOwnBack kind bytes (Write why)
+refused_owned kind bytes lines commit a b F (encode.Writer cause) read own says = tt
+refused_owned kind bytes lines commit a b F encode.IllegalActor read own (parts, refused, appends) = (lines, read, its_actor lines (what_is_refused kind bytes lines commit illegal_actor parts read own refused))
+refused_owned kind bytes lines commit a b F encode.EmptyValue read own (parts, refused, appends) = (lines, read, its_encoding lines (what_is_refused kind bytes lines commit empty_header parts read own refused))
+refused_owned kind bytes lines commit a b F (encode.NewlineInHeaderValue value) read own (parts, refused, appends) =
+    no_other lines _ (what_is_refused kind bytes lines commit (header_with_newline (bstring_bytes value)) parts read own refused) (λ e. cc) (λ e. cc)
+refused_owned kind bytes lines commit a b F encode.StartsWithDash read own (parts, refused, appends) =
+    no_other lines _ (what_is_refused kind bytes lines commit name_with_dash parts read own refused) (λ e. cc) (λ e. cc)
+refused_owned kind bytes lines commit a b F (encode.InvalidRefName fault) read own (parts, refused, appends) =
+    no_other lines _ (what_is_refused kind bytes lines commit (bad_name fault) parts read own refused) (λ e. cc) (λ e. cc)
+refused_owned kind bytes lines commit a b F (encode.NullbyteInFilename name) read own (parts, refused, appends) =
+    no_other lines _ (what_is_refused kind bytes lines commit (name_with_zero_byte (bstring_bytes name)) parts read own refused) (λ e. cc) (λ e. cc)
+refused_owned kind bytes lines commit a b F encode.OutOfMemory read own (value, inl (parts, refused, appends)) =
+    no_other lines _ (what_is_refused kind bytes lines commit (header_with_newline value) parts read own refused) (λ e. cc) (λ e. cc)
+refused_owned kind bytes lines commit a b F encode.OutOfMemory read own (value, inr (parts, refused, appends)) =
+    no_other lines _ (what_is_refused kind bytes lines commit (name_with_zero_byte value) parts read own refused) (λ e. cc) (λ e. cc)
+
+-- a line that is an actor is not none
+pub owning_refused : (kind : Kind) (bytes : List ℕ) (lines : CommitLines) (why : decode.Error) → IsCommitText kind bytes lines → RefusesOwning lines why → RefusesOwnBack kind bytes (Read why)
+owning_refused kind bytes lines Malformed read (inl bad) = let (name, email, time, is) = read.author in absurd (bad name email time is)
+owning_refused kind bytes lines Malformed read (inr bad) = let (name, email, time, is) = read.committer in absurd (bad name email time is)
+owning_refused kind bytes lines OutOfMemory read refused = tt

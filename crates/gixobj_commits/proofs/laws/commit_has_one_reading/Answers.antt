@@ -1,0 +1,5 @@
+use Rattle.gixobj_commits.proofs.CommitChains.{one_commit}
+use Rattle.gixobj_commits.proofs.laws.commit_has_one_reading.Goals as goal
+
+pub returns : goal.returns
+returns c = one_commit

@@ -1,0 +1,44 @@
+-- Commits as their readers see them, wherever they lie.
+use Rattle.std.specs.Prelude.{ℕ, List, map, Option, Some, None}
+use Rattle.bstr.specs.BStr.{bstr_bytes}
+use Rattle.bstr.specs.Owned.{bstring_bytes}
+use Rattle.bstr.specs.declared.bstr.BStr.{BStr}
+use Rattle.bstr.specs.declared.bstring.BString.{BString}
+use Rattle.gixobj_actors.specs.ActorWriting.{owned_text}
+use Rattle.gixobj_ids.specs.Hash.{hex_text}
+use Rattle.gixobj_fields.specs.HeaderReading.{header_of, owned_header_of}
+use Rattle.gixobj_commits.specs.Commit.{CommitLines}
+use Rattle.gixobj_commits.specs.declared.commit.Commit.{Commit}
+use Rattle.gixobj_commits.specs.declared.commit.CommitRef.{CommitRef}
+
+abbrev pub bytes_if_some : Option BStr → Option (List ℕ)
+bytes_if_some None = None
+bytes_if_some (Some bytes) = Some (bstr_bytes bytes)
+
+abbrev pub owned_bytes_if_some : Option BString → Option (List ℕ)
+owned_bytes_if_some None = None
+owned_bytes_if_some (Some bytes) = Some (bstring_bytes bytes)
+
+-- what a borrowed commit holds
+abbrev pub commit_lines : CommitRef → CommitLines
+commit_lines commit = record {
+  tree = bstr_bytes commit.tree;
+  parents = map bstr_bytes commit.parents.items;
+  author = bstr_bytes commit.author;
+  committer = bstr_bytes commit.committer;
+  encoding = bytes_if_some commit.encoding;
+  extra_headers = map header_of commit.extra_headers.items;
+  message = bstr_bytes commit.message;
+}
+
+-- what an owned commit holds: ids in lower case, actors and times as they are written
+abbrev pub owned_lines : Commit → CommitLines
+owned_lines commit = record {
+  tree = hex_text commit.tree;
+  parents = map hex_text commit.parents.items;
+  author = owned_text commit.author;
+  committer = owned_text commit.committer;
+  encoding = owned_bytes_if_some commit.encoding;
+  extra_headers = map owned_header_of commit.extra_headers.items;
+  message = bstring_bytes commit.message;
+}

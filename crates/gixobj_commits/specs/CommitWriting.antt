@@ -1,0 +1,69 @@
+-- Commits as they are written, and what is refused.
+use Rattle.std.specs.Prelude.{◌≡◌, ◌⊎◌, ℕ, List, [], ◌∷◌, ◌++◌, All, Option, Some, None, codes, map}
+use Rattle.std.specs.List.{flat_map}
+use Rattle.std.specs.Str.{str_to_ascii_lowercase}
+use Rattle.gixobj_actors.specs.ActorWriting.{IsIllegal, IsLegal}
+use Rattle.gixobj_ids.specs.Hash.{IsHexOfAnId}
+use Rattle.gixobj_fields.specs.FieldWriting.{RefusesValue, header_text}
+use Rattle.gixobj_fields.specs.HeaderText.{field_text}
+use Rattle.gixobj_fields.specs.Writing.{Refused, illegal_actor}
+use Rattle.gixobj_commits.specs.Commit.{CommitLines, encoding_text, parent_text}
+use Rattle.gixobj_commits.specs.CommitViews.{owned_lines}
+use Rattle.gixobj_commits.specs.declared.commit.Commit.{Commit}
+
+-- a commit with its hex in lower case
+abbrev pub in_lower_case : CommitLines → CommitLines
+in_lower_case commit = record {
+  tree = str_to_ascii_lowercase commit.tree;
+  parents = map str_to_ascii_lowercase commit.parents;
+  author = commit.author;
+  committer = commit.committer;
+  encoding = commit.encoding;
+  extra_headers = commit.extra_headers;
+  message = commit.message;
+}
+
+-- the lines of the tree and of the parents
+abbrev pub ids_text : CommitLines → List ℕ
+ids_text commit = field_text (codes "tree") commit.tree ++ flat_map parent_text commit.parents
+
+-- what is written before the author's bytes
+abbrev pub before_author : CommitLines → List ℕ
+before_author commit = ids_text commit ++ codes "author" ++ 32 ∷ []
+
+-- what is written before the committer's bytes
+abbrev pub before_committer : CommitLines → List ℕ
+before_committer commit = ids_text commit ++ field_text (codes "author") commit.author ++ codes "committer" ++ 32 ∷ []
+
+-- what is written before the line of the encoding
+abbrev pub before_encoding : CommitLines → List ℕ
+before_encoding commit = ids_text commit ++ field_text (codes "author") commit.author ++ field_text (codes "committer") commit.committer
+
+-- a commit as it is written
+abbrev pub commit_text : CommitLines → List ℕ
+commit_text commit = before_encoding commit ++ encoding_text commit.encoding ++ flat_map header_text commit.extra_headers ++ 10 ∷ commit.message
+
+-- an encoding is refused that is empty or has a newline
+abbrev pub RefusesEncoding : Option (List ℕ) → Refused → Type 0
+RefusesEncoding None value = ⊥
+RefusesEncoding (Some encoding) value = RefusesValue encoding value
+
+-- an encoding is refused before any byte of its line
+abbrev pub RefusesEncodingLine : Option (List ℕ) → Refused → List ℕ → Type 0
+RefusesEncodingLine encoding value parts = RefusesEncoding encoding value × (parts ≡ [])
+
+-- a borrowed commit is refused for its encoding alone
+abbrev pub RefusesLines : CommitLines → Refused → List ℕ → Type 0
+RefusesLines commit value parts = RefusesEncoding commit.encoding value × (parts ≡ before_encoding commit)
+
+-- an owned commit is refused for its author, or else its committer, or else its encoding
+abbrev pub RefusesOwned : Commit → Refused → List ℕ → Type 0
+RefusesOwned commit value parts =
+    (IsIllegal commit.author × (value ≡ illegal_actor) × (parts ≡ before_author (owned_lines commit)))
+    ⊎ ((IsLegal commit.author × IsIllegal commit.committer × (value ≡ illegal_actor) × (parts ≡ before_committer (owned_lines commit)))
+    ⊎ (IsLegal commit.author × IsLegal commit.committer × RefusesLines (owned_lines commit) value parts))
+
+-- the hex fields of a commit are ids
+pub record HasIds (commit : CommitLines) : Type 0 where
+  pub tree : IsHexOfAnId commit.tree
+  pub parents : All IsHexOfAnId commit.parents

@@ -1,0 +1,202 @@
+//! Commits (gitdatamodel, "commits").
+ghost use Rattle.std.specs.Prelude.{◌≡◌, All, IfErr, IfOk, map};
+ghost use Rattle.bstr.specs.BStr.{bstr_bytes};
+ghost use Rattle.gixobj_actors.specs.Actor.{IsActor, IsNoActor};
+ghost use Rattle.gixobj_ids.specs.Hash.{IsHexOfAnId, Spells, id_kind};
+ghost use Rattle.gixobj_fields.specs.HeaderReading.{owned_header_of};
+ghost use Rattle.gixobj_ids.specs.declared.decode.Error.TheVariants.{Malformed};
+ghost use Rattle.gixobj_commits.specs.CommitIds.{parents_left};
+ghost use Rattle.gixobj_commits.specs.CommitOwned.{IsOwnedForm, IsTimeOfLine, IsTrimmedActor, RefusesOwning};
+ghost use Rattle.gixobj_commits.specs.CommitViews.{commit_lines};
+ghost use Rattle.gixobj_commits.specs.CommitWriting.{HasIds};
+ghost use Rattle.gixobj_extra_headers.specs.HeadersLeft.{headers_left, owned_headers_left};
+ghost use Rattle.gixobj_ids.specs.Hash.Hex.{IsHexOf, spelled_id};
+
+mod decode;
+mod owned;
+mod parents;
+mod write;
+
+use bstr::{BStr, BString};
+use gixobj_actors::actor::{Signature, SignatureRef};
+use gixobj_actors::date::Time;
+use gixobj_actors::parse;
+pub use gixobj_extra_headers::{
+    BorrowedHeaders, ExtraHeaders, FindAll, OwnedHeaders, SIGNATURE_FIELD_NAME,
+    SIGNATURE_FIELD_NAME_SHA256, signature_field_name,
+};
+use gixobj_ids::decode::Error;
+use gixobj_ids::hash::ObjectId;
+use gixobj_ids::parse::id_of_hex;
+pub use parents::Parents;
+use smallvec::SmallVec;
+use std::alloc::Global;
+use std::borrow::CowSlice;
+
+/// A commit, borrowed: its fields as they stand in its text.
+#[derive(Clone, Debug, Drop, PartialEq, Eq, PartialOrd, Ord, Hash)]
+pub struct CommitRef<'a> {
+    /// The hex text of the tree's id. [`CommitRef::tree`] is the id.
+    pub tree: BStr<'a>,
+    /// The hex texts of the parents' ids, none for a first commit. [`CommitRef::parents`] are the ids.
+    pub parents: SmallVec<BStr<'a>, 1>,
+    /// The line of the author, white space and all. [`CommitRef::author`] takes it apart.
+    pub author: BStr<'a>,
+    /// The line of the committer, white space and all. [`CommitRef::committer`] takes it apart.
+    pub committer: BStr<'a>,
+    /// The name of the message's encoding, UTF-8 without one.
+    pub encoding: Option<BStr<'a>>,
+    /// The message.
+    pub message: BStr<'a>,
+    /// The headers behind these, a name and a value each, in the order in which they stand.
+    pub extra_headers: Vec<(BStr<'a>, CowSlice<'a, u8>)>,
+}
+
+/// A commit, owned.
+#[derive(Clone, Debug, Drop, PartialEq, Eq, PartialOrd, Ord, Hash)]
+pub struct Commit {
+    /// The id of the tree.
+    pub tree: ObjectId,
+    /// The ids of the parents, none for a first commit.
+    pub parents: SmallVec<ObjectId, 1>,
+    /// Who made the change.
+    pub author: Signature,
+    /// Who made the commit.
+    pub committer: Signature,
+    /// The name of the message's encoding, UTF-8 without one.
+    pub encoding: Option<BString>,
+    /// The message.
+    pub message: BString,
+    /// The headers behind these, a name and a value each, in the order in which they are written.
+    pub extra_headers: Vec<(BString, BString)>,
+}
+
+/// Access
+impl<'a> CommitRef<'a> {
+    /// The id of the tree. It takes no memory.
+    pub fn tree(&self) -> ObjectId
+        requires { IsHexOfAnId (commit_lines self.now).tree }
+        ensures { Spells (commit_lines self.now).tree result }
+    {
+        id_of_hex(self.tree)
+    }
+
+    /// The ids of the parents, in order. It takes no memory.
+    pub fn parents(&self) -> Parents<'_>
+        requires { All IsHexOfAnId (commit_lines self.now).parents }
+        ensures { parents_left result ≡ map spelled_id (commit_lines self.now).parents }
+    {
+        Parents::new(self.parents.as_slice())
+    }
+
+    /// The headers behind the author, the committer and the encoding. It takes no memory.
+    pub fn extra_headers(&self) -> ExtraHeaders<BorrowedHeaders<'_, 'a>>
+        requires { IsHexOfAnId (commit_lines self.now).tree }
+        ensures headers { headers_left result.inner ≡ (commit_lines self.now).extra_headers }
+        ensures hash_kind { IsHexOf result.hash_kind (commit_lines self.now).tree }
+    {
+        let hash_kind = self.tree().kind();
+        ExtraHeaders::new(BorrowedHeaders::new(&self.extra_headers), hash_kind)
+    }
+
+    /// The author, without white space at the ends of name, email and time.
+    ///
+    /// `Malformed` where the line is no actor's. It takes no memory.
+    pub fn author(&self) -> Result<SignatureRef<'a>, Error>
+        ensures found { IfOk result (IsTrimmedActor (commit_lines self.now).author) }
+        ensures refusal { IfErr result (λ e. (e ≡ Malformed) × IsNoActor (commit_lines self.now).author) }
+    {
+        trimmed_actor(self.author)
+    }
+
+    /// The committer, without white space at the ends of name, email and time.
+    ///
+    /// `Malformed` where the line is no actor's. It takes no memory.
+    pub fn committer(&self) -> Result<SignatureRef<'a>, Error>
+        ensures found { IfOk result (IsTrimmedActor (commit_lines self.now).committer) }
+        ensures refusal { IfErr result (λ e. (e ≡ Malformed) × IsNoActor (commit_lines self.now).committer) }
+    {
+        trimmed_actor(self.committer)
+    }
+
+    /// When the commit was made: the time of the committer's line as it stands, or the start of 1970
+    /// in UTC where that says no time.
+    ///
+    /// `Malformed` where the line is no actor's. It takes no memory.
+    pub fn time(&self) -> Result<Time, Error>
+        ensures found { IfOk result (IsTimeOfLine (commit_lines self.now).committer) }
+        ensures refusal { IfErr result (λ e. (e ≡ Malformed) × IsNoActor (commit_lines self.now).committer) }
+    {
+        let actor = actor_of_line(self.committer)?;
+        match actor.time() {
+            Some(time) => Ok(time),
+            None => Ok(Time::default()),
+        }
+    }
+}
+
+/// Conversion
+impl CommitRef<'_> {
+    /// The same commit, with parts of its own: ids, actors as they stand, their times, and copies of
+    /// the rest. A time is the start of 1970 in UTC where its text says none.
+    ///
+    /// `Malformed` where the line of the author or of the committer is no actor's, and else
+    /// `OutOfMemory` where memory is wanting.
+    pub fn into_owned(self, alloc: Global) -> Result<Commit, Error>
+        requires { HasIds (commit_lines self) }
+        ensures owned { IfOk result (IsOwnedForm (commit_lines self.entry)) }
+        ensures refusal { IfErr result (RefusesOwning (commit_lines self.entry)) }
+    {
+        let author = actor_of_line(self.author)?;
+        let committer = actor_of_line(self.committer)?;
+        Ok(Commit {
+            tree: self.tree(),
+            parents: owned::ids(alloc, self.parents.as_slice())?,
+            author: author.to_owned(alloc)?,
+            committer: committer.to_owned(alloc)?,
+            encoding: owned::encoding(alloc, self.encoding)?,
+            message: BString::from_slice(alloc, self.message.as_bytes())?,
+            extra_headers: owned::headers(alloc, &self.extra_headers)?,
+        })
+    }
+
+    /// What [`CommitRef::into_owned`] gives.
+    pub fn to_owned(self, alloc: Global) -> Result<Commit, Error>
+        requires { HasIds (commit_lines self) }
+        ensures owned { IfOk result (IsOwnedForm (commit_lines self.entry)) }
+        ensures refusal { IfErr result (RefusesOwning (commit_lines self.entry)) }
+    {
+        self.into_owned(alloc)
+    }
+}
+
+/// Access
+impl Commit {
+    /// The headers behind the author, the committer and the encoding. It takes no memory.
+    pub fn extra_headers(&self) -> ExtraHeaders<OwnedHeaders<'_>>
+        ensures headers { owned_headers_left result.inner ≡ map owned_header_of self.now.extra_headers.items }
+        ensures hash_kind { result.hash_kind ≡ id_kind self.now.tree }
+    {
+        ExtraHeaders::new(OwnedHeaders::new(&self.extra_headers), self.tree.kind())
+    }
+}
+
+/// The actor of a line, trimmed.
+fn trimmed_actor(line: BStr<'_>) -> Result<SignatureRef<'_>, Error>
+    ensures found { IfOk result (IsTrimmedActor (bstr_bytes line.entry)) }
+    ensures refusal { IfErr result (λ e. (e ≡ Malformed) × IsNoActor (bstr_bytes line.entry)) }
+{
+    let actor = actor_of_line(line)?;
+    Ok(actor.trim())
+}
+
+/// The actor of a line, as it stands.
+fn actor_of_line(line: BStr<'_>) -> Result<SignatureRef<'_>, Error>
+    ensures found { IfOk result (λ it. IsActor (bstr_bytes line.entry) (bstr_bytes it.name) (bstr_bytes it.email) (bstr_bytes it.time)) }
+    ensures refusal { IfErr result (λ e. (e ≡ Malformed) × IsNoActor (bstr_bytes line.entry)) }
+{
+    match parse::signature(line.as_bytes()) {
+        Some(actor) => Ok(actor),
+        None => Err(Error::Malformed),
+    }
+}

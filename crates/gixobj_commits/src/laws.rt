@@ -1,0 +1,53 @@
+//! Laws that tie the readers of commits to each other and to the writers. Some make the calls, and
+//! their contracts say what the calls answer; the others do nothing, and their contract is the law.
+ghost use Rattle.std.specs.Prelude.{◌≡◌, ◌≢◌, ◌<◌, ◌+◌, ◌++◌, ℕ, All, IfErr, List, [], OnOk, Some, length, vec_capacity, vec_len};
+ghost use Rattle.std.specs.List.{AllPass};
+ghost use Rattle.gixobj_ids.specs.Hash.{is_lower_hex_digit};
+ghost use Rattle.gixobj_fields.specs.Writing.{FailsOnlyWhere, RefusesNothing};
+ghost use Rattle.gixobj_ids.specs.declared.hash.kind.Kind.{Kind};
+ghost use Rattle.gixobj_commits.specs.Commit.{CommitLines, IsCommitText};
+ghost use Rattle.gixobj_commits.specs.CommitViews.{commit_lines};
+ghost use Rattle.gixobj_commits.specs.CommitWriting.{HasIds, RefusesLines, commit_text, in_lower_case};
+
+pub mod extra_headers;
+pub mod rewriting;
+
+use crate::CommitRef;
+use gixobj_fields::WriteTo;
+use gixobj_fields::encode::Error;
+use std::alloc::Global;
+
+/// A text is that of one commit at most.
+pub fn commit_has_one_reading()
+    ensures { (kind : Kind) (text : List ℕ) (commit commit' : CommitLines) → IsCommitText kind text commit → IsCommitText kind text commit' → commit ≡ commit' }
+{}
+
+/// A commit that was read, with its ids in lower case, is written as it was. Of a commit that was read
+/// nothing is refused but an empty encoding.
+pub fn commit_writes_back()
+    ensures same_text { (kind : Kind) (text : List ℕ) (commit : CommitLines) → IsCommitText kind text commit →
+        AllPass is_lower_hex_digit commit.tree → All (λ hex. AllPass is_lower_hex_digit hex) commit.parents → commit_text (in_lower_case commit) ≡ text }
+    ensures not_refused { (kind : Kind) (text : List ℕ) (commit : CommitLines) → IsCommitText kind text commit →
+        commit.encoding ≢ Some [] → RefusesNothing (RefusesLines (in_lower_case commit)) }
+{}
+
+/// A commit is written behind the bytes of a list: where it was read from a text, and its ids were in
+/// lower case, the text is written back. Where it was read and its encoding is not empty, it fails only
+/// as `Writer`, and only where the list has no room for the text.
+pub fn commit_reads_and_writes(
+    alloc: Global,
+    commit: &CommitRef<'_>,
+    out: &mut Vec<u8>,
+) -> Result<(), Error>
+    requires { HasIds (commit_lines commit.now) }
+    ensures same_text { OnOk result ((kind : Kind) (text : List ℕ) → IsCommitText kind text (commit_lines commit.now) →
+        AllPass is_lower_hex_digit (commit_lines commit.now).tree → All (λ hex. AllPass is_lower_hex_digit hex) (commit_lines commit.now).parents →
+        out.new.items ≡ out.old.items ++ text) }
+    ensures refusal { IfErr result (λ error. (kind : Kind) (text : List ℕ) → IsCommitText kind text (commit_lines commit.now) → (commit_lines commit.now).encoding ≢ Some [] →
+        FailsOnlyWhere (vec_capacity out.old < vec_len out.old + length (commit_text (in_lower_case (commit_lines commit.now)))) error) }
+{
+    match commit.write_to_vec(alloc, out) {
+        Ok(()) => Ok(()),
+        Err(error) => Err(error),
+    }
+}

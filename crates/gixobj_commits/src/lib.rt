@@ -1,0 +1,7 @@
+//! Commits, read whole, made owned and written (gitdatamodel, "commits").
+#![tactic(auto)]
+
+pub mod commit;
+pub mod laws;
+
+pub use commit::{Commit, CommitRef};

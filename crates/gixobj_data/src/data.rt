@@ -1,0 +1,50 @@
+//! Objects whose content is not yet read.
+ghost use Rattle.std.specs.Prelude.{◌≡◌, ◌↔◌, IfSome, IsSome};
+ghost use Rattle.gixobj_ids.specs.declared.kind.Kind.TheVariants as object;
+ghost use Rattle.gixobj_data.specs.DataReading.{IsAtStart};
+
+use gixobj_ids::{Kind, hash};
+use gixobj_tokens::CommitRefIter;
+use std::alloc::Global;
+
+/// The content of an object, borrowed, with its kind and the kind of its ids.
+#[derive(Clone, Copy, Debug, PartialEq, Eq, PartialOrd, Ord, Hash)]
+pub struct Data<'a> {
+    /// The kind of the object.
+    pub kind: Kind,
+    /// The kind of the ids in it.
+    pub object_hash: hash::Kind,
+    /// The content.
+    pub bytes: &'a [u8],
+}
+
+/// Initialization
+impl<'a> Data<'a> {
+    /// The content of an object of this kind. It takes no memory.
+    pub fn new(bytes: &'a [u8], kind: Kind, object_hash: hash::Kind) -> Data<'a>
+        ensures content { result.bytes ≡ bytes.entry }
+        ensures kind { result.kind ≡ kind }
+        ensures object_hash { result.object_hash ≡ object_hash }
+    {
+        Data {
+            kind,
+            object_hash,
+            bytes,
+        }
+    }
+}
+
+/// Conversion
+impl<'a> Data<'a> {
+    /// A reader that tells the commit token by token, or none where the object is of another kind.
+    /// It takes no memory.
+    pub fn try_into_commit_iter(self, alloc: Global) -> Option<CommitRefIter<'a>>
+        ensures accepts { IsSome result ↔ (self.entry.kind ≡ object.Commit) }
+        ensures reader { IfSome result (IsAtStart self.entry.object_hash self.entry.bytes.now) }
+    {
+        match self.kind {
+            Kind::Commit => Some(CommitRefIter::from_bytes(alloc, self.bytes, self.object_hash)),
+            _ => None,
+        }
+    }
+}

@@ -1,0 +1,6 @@
+//! Objects whose content is not yet read.
+#![tactic(auto)]
+
+mod data;
+
+pub use data::Data;

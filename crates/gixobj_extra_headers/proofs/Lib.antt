@@ -1,0 +1,2 @@
+mod HeaderSearches
+pub mod HeadersFound

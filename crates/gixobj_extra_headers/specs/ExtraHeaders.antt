@@ -1,0 +1,62 @@
+-- Headers of commits, found by their names.
+use Rattle.std.specs.Prelude.{◌≡◌, ◌≢◌, ℕ, List, ◌∷◌, ◌++◌, All, Option, None, Some, IsSome, IsNone, MatchOption, codes, length, map}
+use Rattle.std.specs.Iterator.{YieldsThen}
+use Rattle.std.specs.List.{filter}
+use Rattle.std.specs.Str.{bytes_eq}
+use Rattle.bstr.specs.BStr.{bstr_bytes}
+use Rattle.bstr.specs.declared.bstr.BStr.{BStr}
+use Rattle.gixobj_fields.specs.HeaderText.{Header}
+use Rattle.gixobj_ids.specs.declared.hash.kind.Kind.{Kind}
+use Rattle.gixobj_ids.specs.declared.hash.kind.Kind.TheVariants as hash
+
+-- the name of the header with a commit's signature (gitformat-signature, "Commit signatures")
+abbrev pub signature_field : Kind → List ℕ
+signature_field hash.Sha1 = codes "gpgsig"
+signature_field hash.Sha256 = codes "gpgsig-sha256"
+
+-- a header that an iterator gave: a name and a value
+abbrev pub pair_of : BStr × BStr → Header
+pair_of it = record { name = bstr_bytes it.0; value = bstr_bytes it.1 }
+
+-- the header of this name and this value
+abbrev pub header_at : List ℕ → BStr → Header
+header_at name value = record { name = name; value = bstr_bytes value }
+
+-- no header has this name
+abbrev pub LacksHeader : List ℕ → List Header → Type 0
+LacksHeader name headers = All (λ it. it.name ≢ name) headers
+
+-- the value of the first header of this name, or none where no header has it
+abbrev pub IsFirstValue : List ℕ → List Header → Option BStr → Type 0
+IsFirstValue name headers result = MatchOption result (LacksHeader name headers)
+    (λ value. (before after : List Header) × (headers ≡ before ++ header_at name value ∷ after) × LacksHeader name before)
+
+-- the place from 0 of the first header of this name, or none where no header has it
+abbrev pub IsFirstPlace : List ℕ → List Header → Option ℕ → Type 0
+IsFirstPlace name headers result = MatchOption result (LacksHeader name headers)
+    (λ place. (before after : List Header) × (value : List ℕ) × (headers ≡ before ++ record { name = name; value = value } ∷ after) × LacksHeader name before
+    × (place ≡ length before))
+
+-- the values of all headers of this name, in order
+abbrev pub values_named : List ℕ → List Header → List (List ℕ)
+values_named name headers = map (λ it. it.value) (filter (λ it. bytes_eq it.name name) headers)
+
+module _ {S : Type 0} (steps : S → Option (BStr × BStr) → S → Type 0) (name : List ℕ) where
+  -- calls from one state to another gave headers of other names, and then a value of this name, or nothing more
+  abbrev pub PassesOthers : S → List (BStr × BStr) → Option BStr → S → Type 0
+  PassesOthers from others result to = LacksHeader name (map pair_of others)
+      × MatchOption result (YieldsThen steps from others None to)
+      (λ value. (key : BStr) × (bstr_bytes key ≡ name) × YieldsThen steps from others (Some (key, value)) to)
+
+  -- the next value of this name, or none where none comes
+  abbrev pub GivesValue : S → Option BStr → S → Type 0
+  GivesValue from result to = (others : List (BStr × BStr)) × PassesOthers from others result to
+
+  -- the value of the first header of this name that comes, or none where none comes
+  abbrev pub FindsValue : S → Option BStr → Type 0
+  FindsValue from result = (to : S) × GivesValue from result to
+
+  -- how many headers come before the first of this name, or none where none comes
+  abbrev pub FindsPlace : S → Option ℕ → Type 0
+  FindsPlace from result = (others : List (BStr × BStr)) × (value : Option BStr) × (to : S) × PassesOthers from others value to
+      × MatchOption result (IsNone value) (λ place. IsSome value × (place ≡ length others))

@@ -1,0 +1,5 @@
+pub mod ExtraHeaders
+pub mod HeadersLeft
+pub use Rattle.gixobj_fields.specs.HeaderReading
+pub use Rattle.gixobj_fields.specs.HeaderText
+pub use Rattle.gixobj_ids.specs.Hash

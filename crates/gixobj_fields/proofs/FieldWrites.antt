@@ -1,0 +1,92 @@
+-- Fields as they are written.
+use Rattle.std.proofs.Common.{◌≡◌, ◌≢◌, ◌+◌, ◌<◌, ◌*◌, ℕ, suc, List, [], ◌∷◌, ◌++◌, true, false, Option, Some, None, length, arith, refl, sym, ap, ◌∙◌, inl, inr, append_assoc, length-append}
+use Rattle.std.specs.Prelude.{Contains, ◌==◌}
+use Rattle.std.specs.Io.KnownBytes.{Appends}
+use Rattle.std.proofs.lemmas.Bool.{eqb-true, true≢false}
+use Rattle.std.proofs.lemmas.List.{append-nil}
+use Rattle.std.proofs.lemmas.List.Elements.{All-contains, All-head, All-tail}
+use Rattle.hex.proofs.HexLemmas.{length-encode_with}
+use Rattle.hex.specs.Hex.{lower_digits}
+use Rattle.gixobj_fields.proofs.Refusals.{refused_behind}
+use Rattle.gixobj_ids.specs.Hash.{hex_text, id_bytes}
+use Rattle.gixobj_ids.specs.declared.hash.object_id.ObjectId.{ObjectId}
+use Rattle.gixobj_fields.specs.HeaderText.{field_text, line_text}
+use Rattle.gixobj_ids.specs.Parse.{IsFree, SplitsAt}
+use Rattle.gixobj_fields.specs.Writing.{Lasts, MayRefuse, RefusesNothing}
+use Rattle.gixobj_fields.specs.FieldWriting.{IsLastLine, RefusesField, folded}
+
+pub appends_nothing : (held : Option (List ℕ)) → Appends held held []
+appends_nothing None = tt
+appends_nothing (Some bytes) = sym (append-nil bytes)
+
+-- a text without the byte does not hold it
+pub holds_none : (byte : ℕ) (text : List ℕ) → IsFree byte text → Contains text byte → ⊥
+holds_none byte text free has = All-contains (λ (it : ℕ). it ≡ byte → ⊥) text byte free has refl
+
+-- a value that is neither empty nor has a newline
+pub not_refused : (value : List ℕ) → (length value == 0) ≡ false → IsFree 10 value → RefusesNothing (RefusesField value)
+not_refused value some free refused parts (inl (none, is), nothing) = absurd (grind (arith, some, none))
+not_refused value some free refused parts (inr (has, is), nothing) = holds_none 10 value free has
+
+-- ---- lines of a value
+
+other-head : (byte : ℕ) (text : List ℕ) → IsFree 10 (byte ∷ text) → (byte == 10) ≡ false
+other-head byte text free = (let other = All-head (λ it. it ≢ 10) byte text free in grind (arith, other))
+
+free-tail : (byte : ℕ) (text : List ℕ) → IsFree 10 (byte ∷ text) → IsFree 10 text
+free-tail byte text free = All-tail (λ it. it ≢ 10) byte text free
+
+pub folded_without_newline : (value : List ℕ) → IsFree 10 value → folded value ≡ value ++ 10 ∷ []
+folded_without_newline [] free = refl
+folded_without_newline (byte ∷ []) free = rw (other-head byte [] free) refl
+folded_without_newline (byte ∷ next ∷ rest) free =
+    rw (other-head byte (next ∷ rest) free) (ap (λ (it : List ℕ). byte ∷ it) (folded_without_newline (next ∷ rest) (free-tail byte (next ∷ rest) free)))
+
+pub folded_line : (line : List ℕ) → IsFree 10 line → folded (line ++ 10 ∷ []) ≡ line ++ 10 ∷ []
+folded_line [] free = refl
+folded_line (byte ∷ []) free = rw (other-head byte [] free) refl
+folded_line (byte ∷ next ∷ rest) free =
+    rw (other-head byte (next ∷ rest) free) (ap (λ (it : List ℕ). byte ∷ it) (folded_line (next ∷ rest) (free-tail byte (next ∷ rest) free)))
+
+pub folded_with_newline : (value : List ℕ) → IsLastLine value → Contains value 10 → folded value ≡ value ++ []
+folded_with_newline value (inl free) has = absurd (holds_none 10 value free has)
+folded_with_newline value (inr (line, is, free)) has = rw is (folded_line line free ∙ sym (append-nil (line ++ 10 ∷ [])))
+
+folded_lines : (line : List ℕ) (byte : ℕ) (after : List ℕ) → IsFree 10 line → folded (line ++ 10 ∷ byte ∷ after) ≡ line ++ 10 ∷ 32 ∷ folded (byte ∷ after)
+folded_lines [] byte after free = refl
+folded_lines (first ∷ []) byte after free = rw (other-head first [] free) refl
+folded_lines (first ∷ next ∷ rest) byte after free =
+    rw (other-head first (next ∷ rest) free) (ap (λ (it : List ℕ). first ∷ it) (folded_lines (next ∷ rest) byte after (free-tail first (next ∷ rest) free)))
+
+pub lines_again : (line after : List ℕ) → IsFree 10 line → (length after == 0) ≡ false → folded (line ++ 10 ∷ after) ≡ line ++ 10 ∷ 32 ∷ folded after
+lines_again line [] free some = absurd (true≢false some)
+lines_again line (byte ∷ after) free some = folded_lines line byte after free
+
+pub folded_cut : (value line after : List ℕ) → SplitsAt 10 value line after → (length after == 0) ≡ false → folded value ≡ line ++ 10 ∷ 32 ∷ folded after
+folded_cut value line after cut some = ap folded cut.joined ∙ lines_again line after cut.first some
+
+pub cut_shorter : (value line after : List ℕ) → SplitsAt 10 value line after → length after < length value
+cut_shorter value line after cut = omega (arith, ap length cut.joined, length-append line (10 ∷ after))
+
+nothing_after : (after : List ℕ) → (length after == 0) ≡ true → after ≡ []
+nothing_after [] none = refl
+nothing_after (byte ∷ after) none = absurd (let none' : suc (length after) ≡ 0 = eqb-true (suc (length after)) 0 none in omega (arith, none'))
+
+pub last_line : (value line after : List ℕ) → SplitsAt 10 value line after → (length after == 0) ≡ true → IsLastLine value
+last_line value line after cut none = inr (line, cut.joined ∙ ap (λ (it : List ℕ). line ++ 10 ∷ it) (nothing_after after none), cut.first)
+
+pub folded_more : (value front rest line after : List ℕ) → folded value ≡ front ++ folded rest → folded rest ≡ line ++ 10 ∷ 32 ∷ folded after
+    → folded value ≡ (front ++ (line ++ 10 ∷ 32 ∷ [])) ++ folded after
+folded_more value front rest line after so_far one =
+    so_far ∙ ap (λ (it : List ℕ). front ++ it) (one ∙ sym (append_assoc line (10 ∷ 32 ∷ []) (folded after))) ∙ sym (append_assoc front (line ++ 10 ∷ 32 ∷ []) (folded after))
+
+pub line_refused : (F G : List ℕ → Type 0) (value front rest line after : List ℕ) → Lasts F G front → folded value ≡ front ++ folded rest → folded rest ≡ line ++ 10 ∷ 32 ∷ folded after
+    → MayRefuse G (line ++ 10 ∷ 32 ∷ []) → MayRefuse F (folded value)
+line_refused F G value front rest line after lasting so_far one refused =
+    rw (folded_more value front rest line after so_far one ∙ append_assoc front (line ++ 10 ∷ 32 ∷ []) (folded after)) (refused_behind F G front (line ++ 10 ∷ 32 ∷ []) (folded after) lasting refused)
+
+-- ---- sizes
+
+pub id_field_len : (name : List ℕ) (id : ObjectId) → length (field_text name (hex_text id)) ≡ length name + 2 + 2 * length (id_bytes id)
+id_field_len name id =
+    omega (arith, length-append name (32 ∷ line_text (hex_text id)), length-append (hex_text id) (10 ∷ []), length-encode_with lower_digits (id_bytes id))

@@ -1,0 +1,6 @@
+pub mod FieldWrites
+pub mod HeaderFields
+pub mod HeadersBack
+pub mod Joins
+pub mod Refusals
+pub mod Steps

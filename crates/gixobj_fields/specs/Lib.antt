@@ -1,0 +1,9 @@
+pub mod FieldWriting
+pub mod HeaderReading
+pub mod HeaderText
+pub mod Writing
+pub use Rattle.gixobj_ids.specs.Decode
+pub use Rattle.gixobj_ids.specs.Encode
+pub use Rattle.gixobj_ids.specs.Hash
+pub use Rattle.gixobj_ids.specs.Kind
+pub use Rattle.gixobj_ids.specs.Parse

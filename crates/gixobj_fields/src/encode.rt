@@ -1,0 +1,275 @@
+//! What is refused of objects that are written, and header fields, written (gitdatamodel, "commits";
+//! gitformat-signature, "Commit signatures").
+ghost use Rattle.std.specs.Prelude.{◌≡◌, ◌<◌, ◌+◌, ◌^◌, ◌++◌, ◌∷◌, [], length, IfErr, MatchOption, OnErr, OnOk};
+ghost use Rattle.std.specs.Io.KnownBytes.{Appends};
+ghost use Rattle.std.specs.Option.{SomeIff};
+ghost use Rattle.gixobj_ids.specs.Hash.{hex_text};
+ghost use Rattle.gixobj_fields.specs.FieldWriting.{IsLastLine, RefusesField, folded};
+ghost use Rattle.gixobj_fields.specs.HeaderText.{field_text};
+ghost use Rattle.gixobj_fields.specs.Writing.{Lasts, MayRefuse, RefusesNothing, SaysWhy};
+
+use crate::streams::Sink;
+use bstr::BString;
+use gixobj_ids::hash::ObjectId;
+use gixobj_ids::parse::{has_byte, split_at_byte};
+use std::alloc::{AllocError, Global};
+use std::io;
+
+/// The refusal of a writer of objects.
+///
+/// But for `Writer`, exactly the parts before the refused value have been written.
+#[derive(Debug, Drop, thiserror::Error)]
+pub enum Error {
+    /// The writer failed. What it took before that is not known.
+    #[error("the writer failed: {0}")]
+    Writer(io::Error),
+    /// The value of a header that has one line has a newline.
+    #[error("a header value with a newline: {value:?}")]
+    NewlineInHeaderValue {
+        /// The value.
+        value: BString,
+    },
+    /// The value of a header is empty.
+    #[error("an empty header value")]
+    EmptyValue,
+    /// The name of a tag begins with `-`.
+    #[error("the name of a tag begins with `-`")]
+    StartsWithDash,
+    /// The name of a tag can't be that of a reference.
+    #[error("the name of a tag: {0}")]
+    InvalidRefName(RefNameFault),
+    /// The name of a tree's entry has a zero byte, which is what ends it.
+    #[error("a file name with a zero byte: {name:?}")]
+    NullbyteInFilename {
+        /// The name.
+        name: BString,
+    },
+    /// The name or the email of an actor has a `<`, a `>` or a newline.
+    #[error("a name or an email with `<`, `>` or a newline")]
+    IllegalActor,
+    /// There was no memory to copy the refused value.
+    #[error("out of memory")]
+    OutOfMemory,
+}
+
+/// Why a name can't be that of a reference (`git-check-ref-format`).
+#[derive(Clone, Copy, Debug, PartialEq, Eq, thiserror::Error)]
+pub enum RefNameFault {
+    /// It has no byte.
+    #[error("it is empty")]
+    Empty,
+    /// A part of it, between slashes, begins with `.`.
+    #[error("a part begins with `.`")]
+    DotStart,
+    /// A part of it ends with `.lock`.
+    #[error("a part ends with `.lock`")]
+    LockSuffix,
+    /// It has `..`.
+    #[error("it has `..`")]
+    DoubleDot,
+    /// It has `@{`.
+    #[error("it has `@` before an opening brace")]
+    AtBrace,
+    /// It has a backslash.
+    #[error("it has a backslash")]
+    Backslash,
+    /// It has a byte below 32 or 127, a space, or one of `~^:?*[`.
+    #[error("it has a control character, a space or one of `~^:?*[`")]
+    InvalidByte,
+    /// It begins or ends with `/`, or has two in a row.
+    #[error("a `/` is first, last or doubled")]
+    BadSlash,
+    /// It ends with `.`.
+    #[error("it ends with `.`")]
+    DotEnd,
+}
+
+impl From<io::Error> for Error {
+    ghost use Rattle.gixobj_fields.specs.declared.encode.Error.TheVariants.{Writer};
+
+    ghost from_gives = { λ cause error. error ≡ Writer cause };
+
+    fn from(error: io::Error) -> Error {
+        Error::Writer(error)
+    }
+}
+
+impl From<AllocError> for Error {
+    ghost use Rattle.gixobj_fields.specs.declared.encode.Error.TheVariants.{OutOfMemory};
+
+    ghost from_gives = { λ _ error. error ≡ OutOfMemory };
+
+    fn from(_: AllocError) -> Error {
+        Error::OutOfMemory
+    }
+}
+
+/// Puts a field of one line, whatever its value is.
+pub fn trusted_header_field<S: Sink>(
+    name: &[u8],
+    value: &[u8],
+    sink: &mut S,
+) -> io::Result<()>
+    ensures written { OnOk result (Appends (S.held sink.old) (S.held sink.new) (field_text name.now value.now)) }
+    ensures err { OnErr result (MayRefuse (S.may_refuse sink.old) (field_text name.now value.now)) }
+    ensures lasting { OnOk result (Lasts (S.may_refuse sink.old) (S.may_refuse sink.new) (field_text name.now value.now)) }
+    ensures same_loan { S.loan sink.new ≡ S.loan sink.old }
+{
+    sink.put(name)?;
+    sink.put(b" ")?;
+    sink.put(value)?;
+    sink.put(b"\n")
+}
+
+/// Puts the field of an id, in lower case.
+pub fn trusted_header_id<S: Sink>(name: &[u8], id: &ObjectId, sink: &mut S) -> io::Result<()>
+    ensures written { OnOk result (Appends (S.held sink.old) (S.held sink.new) (field_text name.now (hex_text id.now))) }
+    ensures err { OnErr result (MayRefuse (S.may_refuse sink.old) (field_text name.now (hex_text id.now))) }
+    ensures lasting { OnOk result (Lasts (S.may_refuse sink.old) (S.may_refuse sink.new) (field_text name.now (hex_text id.now))) }
+    ensures same_loan { S.loan sink.new ≡ S.loan sink.old }
+{
+    let mut buffer = [0; 64];
+    trusted_header_field(name, id.hex_to_buf(&mut buffer).as_bytes(), sink)
+}
+
+/// Puts a field of one line, and refuses a value that is empty or has a newline.
+#[tactic(auto, using(crate::proofs::FieldWrites::appends_nothing))]
+pub fn header_field<S: Sink>(
+    alloc: Global,
+    name: &[u8],
+    value: &[u8],
+    sink: &mut S,
+) -> Result<(), Error>
+    ensures written { OnOk result (Appends (S.held sink.old) (S.held sink.new) (field_text name.now value.now)) }
+    ensures nothing_refused { OnOk result (RefusesNothing (RefusesField value.now)) }
+    ensures lasting { OnOk result (Lasts (S.may_refuse sink.old) (S.may_refuse sink.new) (field_text name.now value.now)) }
+    ensures refusal { IfErr result (SaysWhy (RefusesField value.now) (S.held sink.old) (S.held sink.new) (MayRefuse (S.may_refuse sink.old) (field_text name.now value.now))) }
+    ensures same_loan { S.loan sink.new ≡ S.loan sink.old }
+{
+    if value.is_empty() {
+        return Err(Error::EmptyValue);
+    }
+    if has_byte(value, b'\n') {
+        let value = BString::from_slice(alloc, value)?;
+        return Err(Error::NewlineInHeaderValue { value });
+    }
+    trusted_header_field(name, value, sink)?;
+    Ok(())
+}
+
+/// Puts a header, with a space before each line of its value but the first, and a newline at the end.
+pub fn header_field_multi_line<S: Sink>(
+    name: &[u8],
+    value: &[u8],
+    sink: &mut S,
+) -> io::Result<()>
+    ensures written { OnOk result (Appends (S.held sink.old) (S.held sink.new) (name.now ++ 32 ∷ folded value.now)) }
+    ensures err { OnErr result (MayRefuse (S.may_refuse sink.old) (name.now ++ 32 ∷ folded value.now)) }
+    ensures lasting { OnOk result (Lasts (S.may_refuse sink.old) (S.may_refuse sink.new) (name.now ++ 32 ∷ folded value.now)) }
+    ensures same_loan { S.loan sink.new ≡ S.loan sink.old }
+{
+    sink.put(name)?;
+    sink.put(b" ")?;
+    put_folded(value, sink)
+}
+
+/// Puts the lines of a value.
+fn put_folded<S: Sink>(value: &[u8], sink: &mut S) -> io::Result<()>
+    ensures written { OnOk result (Appends (S.held sink.old) (S.held sink.new) (folded value.now)) }
+    ensures err { OnErr result (MayRefuse (S.may_refuse sink.old) (folded value.now)) }
+    ensures lasting { OnOk result (Lasts (S.may_refuse sink.old) (S.may_refuse sink.new) (folded value.now)) }
+    ensures same_loan { S.loan sink.new ≡ S.loan sink.old }
+{
+    let mut rest = value;
+    while let Some((line, after)) = first_line(rest) {
+        put_line(line, sink)?;
+        rest = after;
+    }
+    put_last_line(rest, sink)
+}
+
+/// Puts a line, and the space before the next.
+fn put_line<S: Sink>(line: &[u8], sink: &mut S) -> io::Result<()>
+    ensures written { OnOk result (Appends (S.held sink.old) (S.held sink.new) (line.now ++ 10 ∷ 32 ∷ [])) }
+    ensures err { OnErr result (MayRefuse (S.may_refuse sink.old) (line.now ++ 10 ∷ 32 ∷ [])) }
+    ensures lasting { OnOk result (Lasts (S.may_refuse sink.old) (S.may_refuse sink.new) (line.now ++ 10 ∷ 32 ∷ [])) }
+    ensures same_loan { S.loan sink.new ≡ S.loan sink.old }
+{
+    sink.put(line)?;
+    sink.put(b"\n ")
+}
+
+/// Puts the last line, with its newline.
+fn put_last_line<S: Sink>(line: &[u8], sink: &mut S) -> io::Result<()>
+    requires { IsLastLine line.now }
+    ensures written { OnOk result (Appends (S.held sink.old) (S.held sink.new) (folded line.now)) }
+    ensures err { OnErr result (MayRefuse (S.may_refuse sink.old) (folded line.now)) }
+    ensures lasting { OnOk result (Lasts (S.may_refuse sink.old) (S.may_refuse sink.new) (folded line.now)) }
+    ensures same_loan { S.loan sink.new ≡ S.loan sink.old }
+{
+    let end = missing_newline(line);
+    sink.put(line)?;
+    sink.put(end)
+}
+
+/// The newline, where the last line has none.
+#[tactic(auto, using(crate::proofs::FieldWrites::folded_with_newline, crate::proofs::FieldWrites::folded_without_newline))]
+fn missing_newline(line: &[u8]) -> &'static [u8]
+    requires { IsLastLine line.now }
+    ensures { folded line.now ≡ line.now ++ result.now }
+{
+    if has_byte(line, b'\n') { b"" } else { b"\n" }
+}
+
+/// The first line and what follows it, or none where no byte follows the first newline.
+#[tactic(auto, using(crate::proofs::FieldWrites::folded_cut, crate::proofs::FieldWrites::cut_shorter, crate::proofs::FieldWrites::last_line))]
+fn first_line(value: &[u8]) -> Option<(&[u8], &[u8])>
+    ensures { MatchOption result (IsLastLine value.now) (λ it. (folded value.now ≡ it.0.now ++ 10 ∷ 32 ∷ folded it.1.now) × (length it.1.now < length value.now)) }
+{
+    let (line, after) = split_at_byte(value, b'\n')?;
+    if after.is_empty() {
+        None
+    } else {
+        Some((line, after))
+    }
+}
+
+/// The size with that of a field of one line, or none past 64 bits.
+pub fn size_with_field(size: u64, name: &[u8], value: &[u8]) -> Option<u64>
+    ensures { SomeIff result (size + length (field_text name.now value.now) < 2 ^ 64) (size + length (field_text name.now value.now)) }
+{
+    let with_name = size.checked_add(name.len() as u64)?.checked_add(2)?;
+    with_name.checked_add(value.len() as u64)
+}
+
+/// The size with that of the field of an id, or none past 64 bits.
+#[tactic(auto, using(crate::proofs::FieldWrites::id_field_len))]
+pub fn size_with_id(size: u64, name: &[u8], id: &ObjectId) -> Option<u64>
+    ensures { SomeIff result (size + length (field_text name.now (hex_text id.now)) < 2 ^ 64) (size + length (field_text name.now (hex_text id.now))) }
+{
+    let with_name = size.checked_add(name.len() as u64)?.checked_add(2)?;
+    with_name.checked_add(2 * id.as_bytes().len() as u64)
+}
+
+/// The size with that of a header, or none past 64 bits.
+pub fn size_with_multi_line(size: u64, name: &[u8], value: &[u8]) -> Option<u64>
+    ensures { SomeIff result (size + length (name.now ++ 32 ∷ folded value.now) < 2 ^ 64) (size + length (name.now ++ 32 ∷ folded value.now)) }
+{
+    let with_name = size.checked_add(name.len() as u64)?.checked_add(1)?;
+    size_with_folded(with_name, value)
+}
+
+/// The size with that of the lines of a value, or none past 64 bits.
+fn size_with_folded(size: u64, value: &[u8]) -> Option<u64>
+    ensures { SomeIff result (size + length (folded value.now) < 2 ^ 64) (size + length (folded value.now)) }
+{
+    let mut size = size;
+    let mut rest = value;
+    while let Some((line, after)) = first_line(rest) {
+        size = size.checked_add(line.len() as u64)?.checked_add(2)?;
+        rest = after;
+    }
+    let end = missing_newline(rest);
+    let with_line = size.checked_add(rest.len() as u64)?;
+    with_line.checked_add(end.len() as u64)
+}

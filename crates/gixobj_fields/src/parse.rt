@@ -1,0 +1,118 @@
+//! Header fields, read (gitdatamodel, "commits"; gitformat-signature, "Commit signatures").
+ghost use Rattle.std.specs.Prelude.{◌≡◌, ◌≢◌, ◌++◌, ◌∷◌, [], ℕ, List, IfErr, IfOk, IfSome, IfNone, MatchBool, MatchOption};
+ghost use Rattle.gixobj_fields.specs.HeaderReading.{HasNoLines, IsUnfolded, RefusesHeaderField, header_of};
+ghost use Rattle.gixobj_fields.specs.HeaderText.{EndsHeader, HasField, HasHeader, HasNoField, IsHeaderName};
+ghost use Rattle.gixobj_ids.specs.Parse.{IsFree};
+ghost use Rattle.gixobj_ids.specs.declared.decode.Error.TheVariants.{Malformed};
+
+use bstr::BStr;
+use gixobj_ids::decode::Error;
+use gixobj_ids::parse::{has_byte, split_at_byte};
+use std::alloc::Global;
+use std::borrow::CowSlice;
+
+/// The value of the header field of this name, and what follows its line, or none where the input does
+/// not begin with the name, a space and a line that ends in a newline.
+#[tactic(auto, using(crate::proofs::HeaderFields::field_of_parts, crate::proofs::HeaderFields::no_field_without_name))]
+pub fn header_field<'a>(input: &'a [u8], name: &[u8]) -> Option<(&'a [u8], &'a [u8])>
+    ensures found { IfSome result (λ it. HasField name.now input.now it.0.now it.1.now) }
+    ensures none { IfNone result (HasNoField name.now input.now) }
+{
+    let Some(line) = after_name(input, name) else {
+        return None;
+    };
+    let Some((value, rest)) = split_at_byte(line, b'\n') else {
+        return None;
+    };
+    Some((value, rest))
+}
+
+/// What stands after the name and a space at the front of the input.
+pub fn after_name<'a>(input: &'a [u8], name: &[u8]) -> Option<&'a [u8]>
+    ensures found { IfSome result (λ rest. input.now ≡ name.now ++ 32 ∷ rest.now) }
+    ensures none { IfNone result ((rest : List ℕ) → input.now ≢ name.now ++ 32 ∷ rest) }
+{
+    let Some(behind) = after_front(input, name) else {
+        return None;
+    };
+    let Some(rest) = after_space(behind) else {
+        return None;
+    };
+    Some(rest)
+}
+
+/// The header at the front of the input, of one line or of several, and what follows it.
+///
+/// Its value is its one line without the newline, or all of its lines with their newlines, less the
+/// space before each but the first. `Malformed` where the input begins with no header. A value of
+/// several lines takes memory, and `OutOfMemory` comes for no other.
+#[tactic(auto, using(crate::proofs::HeaderFields::header_of_one_line, crate::proofs::HeaderFields::header_of_lines))]
+pub fn any_header_field(
+    alloc: Global,
+    input: &[u8],
+) -> Result<((BStr<'_>, CowSlice<'_, u8>), &[u8]), Error>
+    ensures found { IfOk result (λ it. HasHeader input.now (header_of it.0) it.1.now) }
+    ensures refusal { IfErr result (RefusesHeaderField input.now) }
+{
+    let Some((name, behind)) = split_at_byte(input, b' ') else {
+        return Err(Error::Malformed);
+    };
+    if !is_header_name(name) {
+        return Err(Error::Malformed);
+    }
+    let Some((first, after)) = split_at_byte(behind, b'\n') else {
+        return Err(Error::Malformed);
+    };
+    match after_space(after) {
+        None => Ok(((BStr::new(name), CowSlice::Borrowed(first)), after)),
+        Some(_) => {
+            let (value, rest) = unfolded(alloc, first, after)?;
+            Ok(((BStr::new(name), CowSlice::Owned(value)), rest))
+        }
+    }
+}
+
+/// The first line and the lines that follow it, with their newlines, and what stands behind them.
+#[tactic(auto, using(crate::proofs::HeaderFields::unfolding_starts, crate::proofs::HeaderFields::unfolding_ends, crate::proofs::HeaderFields::unfolding_shorter))]
+fn unfolded<'a>(alloc: Global, first: &[u8], input: &'a [u8]) -> Result<(Vec<u8>, &'a [u8]), Error>
+    ensures found { IfOk result (λ it. IsUnfolded first.now input.now it.0.items it.1.now) }
+    ensures refusal { IfErr result (λ e. e ≡ Malformed → HasNoLines input.now) }
+{
+    let mut value = Vec::from_slice(alloc, first)?;
+    value.push(b'\n')?;
+    let mut rest = input;
+    while let Some(behind) = after_space(rest) {
+        let Some((line, after)) = split_at_byte(behind, b'\n') else {
+            return Err(Error::Malformed);
+        };
+        value.extend_from_slice(line)?;
+        value.push(b'\n')?;
+        rest = after;
+    }
+    Ok((value, rest))
+}
+
+/// What stands after this front.
+#[tactic(auto, using(crate::proofs::HeaderFields::front_is))]
+fn after_front<'a>(input: &'a [u8], front: &[u8]) -> Option<&'a [u8]>
+    ensures { MatchOption result ((rest : List ℕ) → input.now ≢ front.now ++ rest) (λ rest. input.now ≡ front.now ++ rest.now) }
+{
+    input.strip_prefix(front)
+}
+
+/// What stands after one space at the front.
+fn after_space(input: &[u8]) -> Option<&[u8]>
+    ensures { MatchOption result (EndsHeader input.now) (λ rest. input.now ≡ 32 ∷ rest.now) }
+{
+    match input {
+        [b' ', rest @ ..] => Some(rest),
+        _ => None,
+    }
+}
+
+/// Whether a text without space can be the name of a header.
+fn is_header_name(name: &[u8]) -> bool
+    ensures { MatchBool result ((name.now ≢ []) × IsFree 10 name.now) (¬ IsHeaderName name.now) }
+{
+    !name.is_empty() && !has_byte(name, b'\n')
+}

@@ -1,0 +1,119 @@
+//! Readers and writers that say when they may fail.
+//!
+//! std's `Read` and `Write` don't say it, so a contract over them has to leave every failure open.
+//! Over a [`Source`] and a [`Sink`] it says that a slice is always read, and that a `Vec` refuses
+//! bytes only where it has no room for them. [`FromRead`] and [`ToWrite`] make one of any reader or
+//! writer, which may then fail at every call.
+ghost use Rattle.std.specs.Prelude.{◌≡◌, ◌<◌, ◌+◌, ◌++◌, ℕ, List, Option, Some, length, OnOk, OnErr, vec_len, vec_capacity, ⊤};
+ghost use Rattle.std.specs.Io.{ReadsAtMost};
+ghost use Rattle.std.specs.Io.KnownBytes.{Appends, ReadConsumes};
+
+use std::io;
+use std::io::{ErrorKind, Read, Write};
+
+/// A reader that says when it may fail.
+pub trait Source {
+    /// The bytes that are left, where they are known.
+    ghost rest: { Self → Option (List ℕ) };
+
+    /// Whether a call may fail.
+    ghost may_fail: { Self → Type 0 };
+
+    /// Which loan it holds, where it borrows what it reads: no call puts another in its place.
+    ghost loan: { Self → ℕ };
+
+    /// Reads some of the bytes that are left into the front of the buffer, and answers how many.
+    /// None only at the end, or where the buffer has no room.
+    fn read_some(&mut self, buffer: &mut [u8]) -> io::Result<usize>
+        ensures bound { ReadsAtMost result buffer.new }
+        ensures bytes { ReadConsumes (rest self.old) (rest self.new) result buffer.new }
+        ensures err { OnErr result (may_fail self.old) }
+        ensures lasting { may_fail self.new → may_fail self.old }
+        ensures same_loan { loan self.new ≡ loan self.old };
+}
+
+/// A slice is always read.
+impl Source for &[u8] {
+    ghost rest = { λ s. Some s.now };
+
+    ghost may_fail = { λ _. ⊥ };
+
+    ghost loan = { λ _. 0 };
+
+    fn read_some(&mut self, buffer: &mut [u8]) -> io::Result<usize> {
+        self.read(buffer)
+    }
+}
+
+/// Any reader as a source that may always fail. A read that was interrupted is tried again.
+#[derive(Drop)]
+pub struct FromRead<'a, R>(pub &'a mut R);
+
+impl<R: Read> Source for FromRead<'_, R> {
+    ghost rest = { λ s. R.remaining s.0.now };
+
+    ghost may_fail = { λ _. ⊤ };
+
+    ghost loan = { λ s. s.0.ghost_name };
+
+    fn read_some(&mut self, buffer: &mut [u8]) -> io::Result<usize> {
+        for _ in 0..u64::MAX {
+            match self.0.read(buffer) {
+                Err(e) if e.kind() == ErrorKind::Interrupted => {}
+                result => return result,
+            }
+        }
+        Err(io::Error::from(ErrorKind::Interrupted))
+    }
+}
+
+/// A writer that says when it may refuse bytes.
+pub trait Sink {
+    /// The bytes that it holds, where they are known.
+    ghost held: { Self → Option (List ℕ) };
+
+    /// Whether it may refuse these bytes.
+    ghost may_refuse: { Self → List ℕ → Type 0 };
+
+    /// Which loan it holds, where it borrows what it writes to: no call puts another in its place.
+    ghost loan: { Self → ℕ };
+
+    /// Puts all the bytes at the end. Who may refuse some bytes may refuse more of them, and what may
+    /// be refused behind them might have been refused with them.
+    fn put(&mut self, bytes: &[u8]) -> io::Result<()>
+        ensures ok { OnOk result (Appends (held self.old) (held self.new) bytes.now) }
+        ensures err { OnErr result (may_refuse self.old bytes.now) }
+        ensures longer { OnErr result ((more : List ℕ) → may_refuse self.old (bytes.now ++ more)) }
+        ensures lasting { OnOk result ((more : List ℕ) → may_refuse self.new more → may_refuse self.old (bytes.now ++ more)) }
+        ensures same_loan { loan self.new ≡ loan self.old };
+}
+
+/// A `Vec` refuses bytes only where it would have to grow.
+impl Sink for Vec<u8> {
+    ghost held = { λ v. Some v.items };
+
+    ghost may_refuse = { λ v bytes. vec_capacity v < vec_len v + length bytes };
+
+    ghost loan = { λ _. 0 };
+
+    fn put(&mut self, bytes: &[u8]) -> io::Result<()> {
+        self.extend_from_slice(bytes)?;
+        Ok(())
+    }
+}
+
+/// Any writer as a sink that may refuse everything.
+#[derive(Drop)]
+pub struct ToWrite<'a, W>(pub &'a mut W);
+
+impl<W: Write> Sink for ToWrite<'_, W> {
+    ghost held = { λ s. W.contents s.0.now };
+
+    ghost may_refuse = { λ _ _. ⊤ };
+
+    ghost loan = { λ s. s.0.ghost_name };
+
+    fn put(&mut self, bytes: &[u8]) -> io::Result<()> {
+        self.0.write_all(bytes)
+    }
+}

@@ -1,0 +1,9 @@
+pub mod Digits
+mod EmptyObjects
+mod Headers
+pub mod HexCase
+mod HexDigits
+pub mod HexIds
+pub mod HexTexts
+pub mod SizeTexts
+pub mod Splits

@@ -1,0 +1,5 @@
+pub mod Decode
+pub mod Encode
+pub mod Hash
+pub mod Kind
+pub mod Parse

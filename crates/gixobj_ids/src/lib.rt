@@ -1,0 +1,18 @@
+//! Object ids, the kinds of objects, and the header of a loose object.
+//!
+//! A loose object is its header, `<kind> <size>` and a zero byte, and then its content. Its id is
+//! the SHA-1 or SHA-256 digest of all of that (`gitformat-loose`, "Loose object format").
+#![tactic(auto)]
+
+pub mod decode;
+mod digest;
+pub mod encode;
+pub mod hash;
+mod header;
+pub mod kind;
+pub mod laws;
+pub mod parse;
+
+pub use digest::compute_hash;
+pub use header::Header;
+pub use kind::Kind;

@@ -1,0 +1,61 @@
+-- A commit and its tokens.
+use Rattle.std.specs.Prelude.{◌≡◌, ℕ, List, [], ◌∷◌, ◌++◌, Option, Some, None, Result, Ok, Err, map, ⊤}
+use Rattle.std.specs.List.{AllZip}
+use Rattle.gixobj_ids.specs.Hash.{Spells}
+use Rattle.gixobj_actors.specs.Actor.{IsActor}
+use Rattle.gixobj_ids.specs.declared.decode.Error.{Error}
+use Rattle.gixobj_ids.specs.declared.decode.Error.TheVariants.{Malformed, OutOfMemory}
+use Rattle.gixobj_ids.specs.declared.hash.kind.Kind.{Kind}
+use Rattle.gixobj_ids.specs.declared.hash.object_id.ObjectId.{ObjectId}
+use Rattle.gixobj_commits.specs.Commit.{CommitLines}
+use Rattle.gixobj_tokens.specs.CommitRuns.{Tells, broken, complete}
+use Rattle.gixobj_commits.specs.CommitViews.{commit_lines}
+use Rattle.gixobj_commits.specs.declared.commit.CommitRef.{CommitRef}
+use Rattle.gixobj_tokens.specs.declared.ref_iter.State.{State}
+use Rattle.gixobj_tokens.specs.CommitTokens.{TokenView, author_token, committer_token, encoding_token, header_token, message_token, parent_token, tree_token}
+
+-- the last token is a message
+abbrev pub EndsInMessage : List TokenView → Type 0
+EndsInMessage [] = ⊥
+EndsInMessage (message_token message ∷ []) = ⊤
+EndsInMessage (token ∷ []) = ⊥
+EndsInMessage (token ∷ next ∷ tokens) = EndsInMessage (next ∷ tokens)
+
+-- the token of an encoding, or none
+abbrev pub encoding_tokens : Option (List ℕ) → List TokenView
+encoding_tokens None = []
+encoding_tokens (Some encoding) = encoding_token encoding ∷ []
+
+-- an actor's parts
+pub record ActorParts : Type 0 where
+  pub name : List ℕ
+  pub email : List ℕ
+  pub time : List ℕ
+
+-- the tokens are what the commit holds: its ids as they are spelled, its actors by their parts, all else as it is
+pub record AreTokensOf (commit : CommitLines) (tokens : List TokenView) : Type 0 where
+  pub tree : ObjectId
+  pub parents : List ObjectId
+  pub author : ActorParts
+  pub committer : ActorParts
+  pub joined : tokens ≡ tree_token tree ∷ map parent_token parents
+      ++ author_token author.name author.email author.time ∷ committer_token committer.name committer.email committer.time
+      ∷ encoding_tokens commit.encoding ++ map header_token commit.extra_headers ++ message_token commit.message ∷ []
+  pub tree_spelled : Spells commit.tree tree
+  pub parents_spelled : AllZip Spells commit.parents parents
+  pub is_author : IsActor commit.author author.name author.email author.time
+  pub is_committer : IsActor commit.committer committer.name committer.email committer.time
+
+-- the run of a reader from this state: what it told, and the error at which it stopped
+abbrev pub IsRun : Kind → State → List ℕ → List TokenView → Option Error → Type 0
+IsRun kind before text tokens None = Tells kind before text tokens complete
+IsRun kind before text tokens (Some Malformed) = Tells kind before text tokens broken
+IsRun kind before text tokens (Some OutOfMemory) = Unit {0}
+
+-- two readers of one text agree: where both end well the tokens are what the commit holds, one does not refuse what the other
+-- reads, and where no commit is read the tokens do not end in a message. Want of memory says nothing
+abbrev pub Agree : Result CommitRef Error → List TokenView → Option Error → Type 0
+Agree (Ok commit) tokens None = EndsInMessage tokens × AreTokensOf (commit_lines commit) tokens
+Agree (Ok commit) tokens (Some Malformed) = ⊥
+Agree (Err Malformed) tokens None = EndsInMessage tokens → ⊥
+Agree whole tokens error = Unit {0}

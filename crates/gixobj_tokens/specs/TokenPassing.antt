@@ -1,0 +1,90 @@
+-- What a reader of tokens passes on its way to one that is looked for.
+use Rattle.std.specs.Prelude.{◌≡◌, ◌⊎◌, ℕ, List, [], ◌∷◌, All, ⊤}
+use Rattle.std.specs.List.{AllZip, concat}
+use Rattle.gixobj_ids.specs.declared.decode.Error.{Error}
+use Rattle.gixobj_ids.specs.declared.decode.Error.TheVariants.{Malformed, OutOfMemory}
+use Rattle.gixobj_ids.specs.declared.hash.kind.Kind.{Kind}
+use Rattle.gixobj_tokens.specs.CommitRuns.{Ending, Tells, broken, complete}
+use Rattle.gixobj_tokens.specs.CommitTokens.{HasToken, IsTokenText, RefusesToken, TokenView, author_token, committer_token, message_token, parent_token}
+use Rattle.gixobj_tokens.specs.TokenGiving.{reader_bytes, reader_kind, reader_state}
+use Rattle.gixobj_tokens.specs.declared.ref_iter.CommitRefIter.{CommitRefIter}
+use Rattle.gixobj_tokens.specs.declared.ref_iter.State.{State}
+
+-- the input begins with these tokens, and goes on with the rest in the state behind them
+abbrev pub Passes : Kind → State → List ℕ → List TokenView → State → List ℕ → Type 0
+Passes kind before input [] behind rest = (before ≡ behind) × (input ≡ rest)
+Passes kind before input (token ∷ tokens) behind rest =
+    (next : State) × (after : List ℕ) × HasToken kind before input token next after × Passes kind next after tokens behind rest
+
+-- the input is the join of a text for each token
+abbrev pub AreTokenTexts : Kind → List ℕ → List TokenView → Type 0
+AreTokenTexts kind input tokens = (texts : List (List ℕ)) × (input ≡ concat texts) × AllZip (IsTokenText kind) tokens texts
+
+-- none of the tokens is such a one
+abbrev pub HasNone : (TokenView → Type 0) → List TokenView → Type 0
+HasNone Is tokens = All (λ token. ¬ Is token) tokens
+
+-- the reader goes past tokens that are none such, to this state and these bytes
+abbrev pub PassesNone : (TokenView → Type 0) → CommitRefIter → State → List ℕ → Type 0
+PassesNone Is reader behind rest =
+    (tokens : List TokenView) × Passes (reader_kind reader) (reader_state reader) (reader_bytes reader) tokens behind rest × HasNone Is tokens
+
+-- past tokens that are none such, this one comes
+abbrev pub FindsFirst : (TokenView → Type 0) → CommitRefIter → TokenView → Type 0
+FindsFirst Is reader token =
+    (before behind : State) × (input rest : List ℕ) × PassesNone Is reader before input × HasToken (reader_kind reader) before input token behind rest
+
+-- the whole run of the reader has no such token, and ends so
+abbrev pub LacksAll : (TokenView → Type 0) → CommitRefIter → Ending → Type 0
+LacksAll Is reader ending = (tokens : List TokenView) × Tells (reader_kind reader) (reader_state reader) (reader_bytes reader) tokens ending × HasNone Is tokens
+
+-- tokens that are none such, and then a header whose value finds no memory
+abbrev pub LacksMemory : (TokenView → Type 0) → CommitRefIter → Type 0
+LacksMemory Is reader = (before : State) × (input : List ℕ) × PassesNone Is reader before input × RefusesToken (reader_kind reader) before input OutOfMemory
+
+-- why no such token is found
+abbrev pub FindsNone : (TokenView → Type 0) → CommitRefIter → Error → Type 0
+FindsNone Is reader Malformed = (ending : Ending) × LacksAll Is reader ending
+FindsNone Is reader OutOfMemory = LacksMemory Is reader
+
+-- why no such token is found, where the bytes may end without one
+abbrev pub FindsFault : (TokenView → Type 0) → CommitRefIter → Error → Type 0
+FindsFault Is reader Malformed = LacksAll Is reader broken
+FindsFault Is reader OutOfMemory = LacksMemory Is reader
+
+abbrev pub IsParentToken : TokenView → Type 0
+IsParentToken (parent_token id) = ⊤
+IsParentToken _ = ⊥
+
+abbrev pub IsAuthorToken : TokenView → Type 0
+IsAuthorToken (author_token name email time) = ⊤
+IsAuthorToken _ = ⊥
+
+abbrev pub IsCommitterToken : TokenView → Type 0
+IsCommitterToken (committer_token name email time) = ⊤
+IsCommitterToken _ = ⊥
+
+-- an author or a committer
+abbrev pub IsActorToken : TokenView → Type 0
+IsActorToken (author_token name email time) = ⊤
+IsActorToken (committer_token name email time) = ⊤
+IsActorToken _ = ⊥
+
+-- the token is an author or a committer of this name, email and time
+abbrev pub IsActorTokenOf : List ℕ → List ℕ → List ℕ → TokenView → Type 0
+IsActorTokenOf name email time token = (token ≡ author_token name email time) ⊎ (token ≡ committer_token name email time)
+
+abbrev pub IsMessageToken : TokenView → Type 0
+IsMessageToken (message_token message) = ⊤
+IsMessageToken _ = ⊥
+
+-- past tokens that are no author, this author comes
+abbrev pub FindsAuthor : CommitRefIter → List ℕ → List ℕ → List ℕ → Type 0
+FindsAuthor reader name email time = FindsFirst IsAuthorToken reader (author_token name email time)
+
+abbrev pub FindsCommitter : CommitRefIter → List ℕ → List ℕ → List ℕ → Type 0
+FindsCommitter reader name email time = FindsFirst IsCommitterToken reader (committer_token name email time)
+
+-- past tokens that are no message this one comes, or the bytes end and it is empty
+abbrev pub FindsMessage : CommitRefIter → List ℕ → Type 0
+FindsMessage reader message = FindsFirst IsMessageToken reader (message_token message) ⊎ (LacksAll IsMessageToken reader complete × (message ≡ []))

@@ -1,0 +1,4 @@
+//! Laws of tokens, and of the two readers of commits.
+
+pub mod readers;
+pub mod tokens;

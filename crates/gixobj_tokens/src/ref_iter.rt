@@ -1,0 +1,145 @@
+//! Commits told token by token.
+ghost use Rattle.std.specs.Prelude.{◌≡◌, MatchOption, None, Some};
+ghost use Rattle.gixobj_ids.specs.Hash.Borrowed.{borrowed_id};
+ghost use Rattle.gixobj_tokens.specs.TokenGiving.{GivesToken, reader_bytes, reader_kind, reader_state, token_id, tokens_left};
+ghost use Rattle.gixobj_tokens.specs.CommitTokens.{token_view};
+ghost use Rattle.gixobj_tokens.specs.declared.ref_iter.State.TheVariants as state;
+
+mod access;
+mod filters;
+mod parts;
+mod tokens;
+
+use bstr::BStr;
+pub use filters::{ParentIds, Signatures};
+use gixobj_actors::actor::SignatureRef;
+use gixobj_ids::decode::Error;
+use gixobj_ids::hash::{Kind, ObjectId, oid};
+use std::alloc::Global;
+use std::borrow::CowSlice;
+use tokens::read_token;
+
+/// Where in a commit a reader stands.
+#[derive(Clone, Copy, Debug)]
+pub(crate) enum State {
+    /// Before the tree.
+    Tree,
+    /// Before a parent or the author.
+    Parents,
+    /// Before the committer.
+    Committer,
+    /// Before the encoding, another header or the message.
+    Encoding,
+    /// Before a header or the message.
+    ExtraHeaders,
+}
+
+/// A reader of a commit that tells it token by token.
+#[derive(Clone, Copy, Drop)]
+pub struct CommitRefIter<'a> {
+    bytes: &'a [u8],
+    state: State,
+    hash_kind: Kind,
+    alloc: Global,
+}
+
+/// Lifecycle
+impl<'a> CommitRefIter<'a> {
+    /// A reader of the commit with this text, whose ids are of this kind. It reads nothing yet, and
+    /// takes no memory.
+    pub fn from_bytes(alloc: Global, bytes: &'a [u8], hash_kind: Kind) -> CommitRefIter<'a>
+        ensures bytes { reader_bytes result ≡ bytes.now }
+        ensures state { reader_state result ≡ state.Tree }
+        ensures kind { reader_kind result ≡ hash_kind }
+    {
+        CommitRefIter {
+            bytes,
+            state: State::Tree,
+            hash_kind,
+            alloc,
+        }
+    }
+}
+
+/// Tells the next token. Behind an error the reader is at its end.
+///
+/// `Malformed` where the bytes that are left begin with no token that may come next. A header of
+/// several lines takes memory, and `OutOfMemory` comes for no other token.
+impl<'a> Iterator for CommitRefIter<'a> {
+    type Item = Result<Token<'a>, Error>;
+
+    ghost next_gives = { GivesToken };
+
+    ghost remaining = { tokens_left };
+
+    fn next(&mut self) -> Option<Result<Token<'a>, Error>> {
+        if self.bytes.is_empty() {
+            return None;
+        }
+        match read_token(self.alloc, self.state, self.hash_kind, self.bytes) {
+            Ok((token, state, rest)) => {
+                self.bytes = rest;
+                self.state = state;
+                Some(Ok(token))
+            }
+            Err(error) => {
+                self.bytes = b"";
+                Some(Err(error))
+            }
+        }
+    }
+}
+
+/// A part of a commit.
+#[derive(Clone, Debug, Drop, PartialEq, Eq, PartialOrd, Ord, Hash)]
+pub enum Token<'a> {
+    /// The tree.
+    Tree {
+        /// Its id.
+        id: ObjectId,
+    },
+    /// A parent.
+    Parent {
+        /// Its id.
+        id: ObjectId,
+    },
+    /// Who made the change.
+    Author {
+        /// The actor, not trimmed.
+        signature: SignatureRef<'a>,
+    },
+    /// Who made the commit.
+    Committer {
+        /// The actor, not trimmed.
+        signature: SignatureRef<'a>,
+    },
+    /// The name of the message's encoding.
+    Encoding(BStr<'a>),
+    /// A header behind these: its name and its value.
+    ExtraHeader((BStr<'a>, CowSlice<'a, u8>)),
+    /// The message.
+    Message(BStr<'a>),
+}
+
+/// Access
+impl<'a> Token<'a> {
+    /// The id of a tree or a parent, borrowed.
+    pub fn id(&self) -> Option<oid<'_>>
+        ensures { MatchOption result (token_id (token_view self.now) ≡ None) (λ id. token_id (token_view self.now) ≡ Some (borrowed_id id)) }
+    {
+        match self {
+            Token::Tree { id } | Token::Parent { id } => Some(id.as_oid()),
+            _ => None,
+        }
+    }
+
+    /// The id of a tree or a parent.
+    pub fn try_into_id(self) -> Option<ObjectId>
+        ensures { result ≡ token_id (token_view self.entry) }
+    {
+        match &self {
+            Token::Tree { id } | Token::Parent { id } => Some(*id),
+            _ => None,
+        }
+    }
+}

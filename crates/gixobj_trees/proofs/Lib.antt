@@ -1,0 +1,5 @@
+mod ModeTexts
+mod NameKeys
+mod OctalNumbers
+mod TreeWrites
+mod WellFormed

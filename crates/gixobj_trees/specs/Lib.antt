@@ -1,0 +1,13 @@
+pub mod Entries
+pub mod EntryOrder
+pub mod EntryOrderLaws
+pub mod Mode
+pub mod ModeNumber
+pub mod TreeText
+pub mod WellFormed
+pub use Rattle.gixobj_fields.specs.Writing
+pub use Rattle.gixobj_ids.specs.Decode
+pub use Rattle.gixobj_ids.specs.Encode
+pub use Rattle.gixobj_ids.specs.Hash
+pub use Rattle.gixobj_ids.specs.Kind
+pub use Rattle.gixobj_ids.specs.Parse

@@ -1,0 +1,97 @@
+//! Blobs: the contents of files.
+ghost use Rattle.std.specs.Prelude.{◌≡◌, IfOk};
+
+use gixobj_fields::streams::Sink;
+use gixobj_fields::{WriteTo, encode};
+use gixobj_ids::Kind;
+use std::alloc::{AllocError, Global};
+
+/// The content of a file, borrowed.
+#[derive(Clone, Copy, Debug, PartialEq, Eq, PartialOrd, Ord, Hash)]
+pub struct BlobRef<'a> {
+    /// The content.
+    pub bytes: &'a [u8],
+}
+
+impl<'a> BlobRef<'a> {
+    /// The blob of these bytes: all bytes are a blob's.
+    pub fn from_bytes(bytes: &'a [u8]) -> BlobRef<'a>
+        ensures { result.bytes.now ≡ bytes.now }
+    {
+        BlobRef { bytes }
+    }
+
+    /// A copy that owns its bytes. The error is want of memory.
+    pub fn into_owned(self, alloc: Global) -> Result<Blob, AllocError>
+        ensures { IfOk result (λ blob. blob.bytes.items ≡ self.entry.bytes.now) }
+    {
+        Ok(Blob {
+            bytes: Vec::from_slice(alloc, self.bytes)?,
+        })
+    }
+}
+
+/// The content of a file, owned.
+#[derive(Debug, Drop, PartialEq, Eq, PartialOrd, Ord, Hash)]
+pub struct Blob {
+    /// The content.
+    pub bytes: Vec<u8>,
+}
+
+impl Blob {
+    /// The same blob, borrowed.
+    pub fn to_ref(&self) -> BlobRef<'_>
+        ensures { result.bytes.now ≡ self.now.bytes.items }
+    {
+        BlobRef {
+            bytes: self.bytes.as_slice(),
+        }
+    }
+}
+
+/// A blob is written as its bytes. Nothing is refused.
+impl WriteTo for BlobRef<'_> {
+    ghost use Rattle.gixobj_ids.specs.declared.kind.Kind.TheVariants as kind;
+
+    ghost object_kind = { λ _. kind.Blob };
+
+    ghost text = { λ blob. blob.bytes.now };
+
+    ghost refuses = { λ _ _ _. ⊥ };
+
+    fn write_into<S: Sink>(&self, alloc: Global, sink: &mut S) -> Result<(), encode::Error> {
+        sink.put(self.bytes)?;
+        Ok(())
+    }
+
+    fn kind(&self) -> Kind {
+        Kind::Blob
+    }
+
+    fn size(&self) -> Option<u64> {
+        Some(self.bytes.len() as u64)
+    }
+}
+
+/// A blob is written as its bytes. Nothing is refused.
+impl WriteTo for Blob {
+    ghost use Rattle.gixobj_ids.specs.declared.kind.Kind.TheVariants as kind;
+
+    ghost object_kind = { λ _. kind.Blob };
+
+    ghost text = { λ blob. blob.bytes.items };
+
+    ghost refuses = { λ _ _ _. ⊥ };
+
+    fn write_into<S: Sink>(&self, alloc: Global, sink: &mut S) -> Result<(), encode::Error> {
+        self.to_ref().write_into(alloc, sink)
+    }
+
+    fn kind(&self) -> Kind {
+        self.to_ref().kind()
+    }
+
+    fn size(&self) -> Option<u64> {
+        self.to_ref().size()
+    }
+}

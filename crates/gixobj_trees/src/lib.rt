@@ -1,0 +1,8 @@
+//! Trees and blobs, made and written.
+#![tactic(auto)]
+
+mod blob;
+pub mod tree;
+
+pub use blob::{Blob, BlobRef};
+pub use tree::Tree;

@@ -1,0 +1,131 @@
+//! Entries of trees (gitdatamodel, "trees").
+ghost use Rattle.std.specs.Prelude.{◌≡◌, length};
+ghost use Rattle.std.specs.Cmp.Lexicographic.{slice_cmp};
+ghost use Rattle.std.specs.Ordering.{nat_cmp};
+ghost use Rattle.bstr.specs.Owned.{bstring_bytes};
+ghost use Rattle.gixobj_trees.specs.Entries.{entry_key, key_of};
+ghost use Rattle.gixobj_trees.specs.EntryOrder.{entry_cmp, entry_feed, same_entry};
+ghost use Rattle.gixobj_trees.specs.EntryOrderLaws.{entry_cmp_total, entry_equiv, entry_ties};
+
+use super::{EntryMode, name_order};
+use bstr::BString;
+use gixobj_ids::hash::ObjectId;
+use std::cmp::Ordering;
+use std::hash::{Hash, Hasher};
+use std::marker::Model;
+
+/// An entry of a tree: the file or the directory of a name.
+#[derive(Debug, Drop)]
+pub struct Entry {
+    /// What kind of object the entry names, and a file's permissions.
+    pub mode: EntryMode,
+    /// The name, one part of a path.
+    pub filename: BString,
+    /// The id of the object.
+    pub oid: ObjectId,
+}
+
+impl Model for Entry {
+    ghost use Rattle.bstr.specs.Owned.{bstring_bytes};
+    ghost use Rattle.gixobj_trees.specs.Entries.{EntryView};
+
+    ghost Value = { EntryView };
+
+    ghost view = { λ e. record { mode = e.mode; name = bstring_bytes e.filename; id = e.oid } };
+}
+
+impl Entry {
+    /// The order of the keys alone.
+    pub(super) fn key_order(&self, other: &Entry) -> Ordering
+        ensures { result ≡ slice_cmp nat_cmp (entry_key self.now) (entry_key other.now) }
+    {
+        self.key_order_with(other.filename.as_bytes(), other.mode.is_tree())
+    }
+
+    /// The order of the key and the key of such a name.
+    pub(super) fn key_order_with(&self, name: &[u8], is_tree: bool) -> Ordering
+        ensures { result ≡ slice_cmp nat_cmp (entry_key self.now) (key_of name.now is_tree) }
+    {
+        let own_name = self.filename.as_bytes();
+        let own_is_tree = self.mode.is_tree();
+        let names = name_order(own_name, own_is_tree, name, is_tree);
+        let lengths = key_len(own_name, own_is_tree).cmp(&key_len(name, is_tree));
+        names.then(lengths)
+    }
+}
+
+/// The length of the key: of the name, and one more for a tree.
+fn key_len(name: &[u8], is_tree: bool) -> usize
+    ensures { result ≡ length (key_of name.now is_tree) }
+{
+    name.len() + usize::from(is_tree)
+}
+
+/// The same mode, name and id.
+impl PartialEq for Entry {
+    ghost use Rattle.std.specs.Cmp.{partial_equiv_from_equiv};
+
+    ghost eq = { same_entry };
+
+    ghost laws = { partial_equiv_from_equiv entry_equiv };
+
+    fn eq(&self, other: &Entry) -> bool {
+        self.mode == other.mode
+            && self.filename == other.filename
+            && self.oid.cmp(&other.oid).is_eq()
+    }
+}
+
+impl Eq for Entry {
+    ghost laws = { entry_equiv };
+}
+
+/// By the name, with a `/` behind a tree's, as in a tree. Where two of these tie, the mode, the name
+/// and the id decide.
+impl Ord for Entry {
+    ghost use Rattle.std.specs.Prelude.{refl};
+
+    ghost cmp = { entry_cmp };
+
+    ghost total = { entry_cmp_total };
+
+    ghost matches_partial_cmp = { λ x y. refl };
+
+    ghost matches_eq = { entry_ties };
+
+    fn cmp(&self, other: &Entry) -> Ordering {
+        let modes = self.mode.cmp(&other.mode);
+        let names = self.filename.cmp(&other.filename);
+        let ids = self.oid.cmp(&other.oid);
+        self.key_order(other).then(modes.then(names.then(ids)))
+    }
+}
+
+impl PartialOrd for Entry {
+    ghost use Rattle.std.specs.Prelude.{refl};
+    ghost use Rattle.std.specs.Cmp.{partial_order_from_agreeing_total};
+    ghost use Rattle.std.specs.Ordering.{as_partial_cmp};
+
+    ghost partial_cmp = { as_partial_cmp entry_cmp };
+
+    ghost laws = { partial_order_from_agreeing_total entry_cmp entry_cmp_total (λ x y. refl) entry_ties };
+
+    fn partial_cmp(&self, other: &Entry) -> Option<Ordering> {
+        Some(self.cmp(other))
+    }
+}
+
+/// Hashes the mode, the name and the id.
+impl Hash for Entry {
+    ghost use Rattle.gixobj_trees.specs.EntryOrderLaws.{entries_alike};
+
+    ghost hash_input = { entry_feed };
+
+    ghost respects_eq = { entries_alike };
+
+    fn hash<H: Hasher>(&self, state: &mut H) {
+        self.mode.hash(state);
+        self.filename.hash(state);
+        self.oid.hash(state);
+    }
+}

@@ -1,0 +1,36 @@
+//! The order of names in a tree (gitdatamodel, "trees").
+ghost use Rattle.std.specs.Prelude.{◌≡◌};
+ghost use Rattle.std.specs.Cmp.Lexicographic.{slice_cmp};
+ghost use Rattle.std.specs.Ordering.{nat_cmp};
+ghost use Rattle.gixobj_trees.specs.Entries.{key_of, name_cmp, next_byte};
+ghost use Rattle.gixobj_ids.specs.Parse.{IsFree};
+
+use std::cmp::Ordering;
+
+/// The order of two names in a tree: the common length bytewise, and then the next byte, where a
+/// tree's end counts as `/`, and any other end comes before every byte.
+///
+/// For names without `/` that is the order of the names with a `/` behind a tree's. It takes no
+/// memory.
+pub fn name_order(left: &[u8], left_is_tree: bool, right: &[u8], right_is_tree: bool) -> Ordering
+    ensures rule { result ≡ name_cmp left.now left_is_tree right.now right_is_tree }
+    ensures by_keys { IsFree 47 left.now → IsFree 47 right.now → result ≡ slice_cmp nat_cmp (key_of left.now left_is_tree) (key_of right.now right_is_tree) }
+{
+    let common = left.len().min(right.len());
+    let (front, rest) = left.split_at(common);
+    let (other_front, other_rest) = right.split_at(common);
+    front.cmp(other_front).then(next_byte(rest, left_is_tree).cmp(&next_byte(
+        other_rest,
+        right_is_tree,
+    )))
+}
+
+/// The first byte of the rest of a name, where a tree's end counts as `/`.
+fn next_byte(rest: &[u8], is_tree: bool) -> Option<u8>
+    ensures { result ≡ next_byte rest.now is_tree }
+{
+    match rest.first() {
+        Some(byte) => Some(*byte),
+        None => is_tree.then_some(b'/'),
+    }
+}

@@ -1,0 +1,82 @@
+//! Trees, written (gitdatamodel, "trees").
+ghost use Rattle.std.specs.Prelude.{◌≡◌, ◌<◌, ◌+◌, ◌^◌, length, IfErr, OnOk};
+ghost use Rattle.std.specs.Io.KnownBytes.{Appends};
+ghost use Rattle.std.specs.Option.{SomeIff};
+ghost use Rattle.gixobj_ids.specs.Parse.{IsFree};
+ghost use Rattle.gixobj_trees.specs.TreeText.{RefusesEntry, entry_text};
+ghost use Rattle.gixobj_fields.specs.Writing.{Lasts, MayRefuse, SaysWhy};
+
+use super::{Entry, Tree};
+use bstr::BString;
+use gixobj_fields::WriteTo;
+use gixobj_fields::encode::Error;
+use gixobj_fields::streams::Sink;
+use gixobj_ids::Kind;
+use gixobj_ids::parse::has_byte;
+use std::alloc::Global;
+
+/// A tree is written as its entries in the order in which they stand, whatever that is.
+///
+/// A name with a zero byte is refused as `NullbyteInFilename`, after its entry's mode and space.
+impl WriteTo for Tree {
+    ghost use Rattle.gixobj_trees.specs.TreeText.{RefusesTree, tree_text};
+    ghost use Rattle.gixobj_ids.specs.declared.kind.Kind.TheVariants as kind;
+
+    ghost object_kind = { λ _. kind.Tree };
+
+    ghost text = { tree_text };
+
+    ghost refuses = { RefusesTree };
+
+    fn write_into<S: Sink>(&self, alloc: Global, sink: &mut S) -> Result<(), Error> {
+        for entry in &self.entries {
+            put_entry(alloc, entry, sink)?;
+        }
+        Ok(())
+    }
+
+    fn kind(&self) -> Kind {
+        Kind::Tree
+    }
+
+    fn size(&self) -> Option<u64> {
+        let mut size = 0u64;
+        for entry in &self.entries {
+            size = size_with(size, entry)?;
+        }
+        Some(size)
+    }
+}
+
+/// Puts one entry.
+fn put_entry<S: Sink>(alloc: Global, entry: &Entry, sink: &mut S) -> Result<(), Error>
+    ensures written { OnOk result (Appends (S.held sink.old) (S.held sink.new) (entry_text entry.now)) }
+    ensures free { OnOk result (IsFree 0 entry.now.name) }
+    ensures lasting { OnOk result (Lasts (S.may_refuse sink.old) (S.may_refuse sink.new) (entry_text entry.now)) }
+    ensures refusal { IfErr result (SaysWhy (RefusesEntry entry.now) (S.held sink.old) (S.held sink.new) (MayRefuse (S.may_refuse sink.old) (entry_text entry.now))) }
+    ensures same_loan { S.loan sink.new ≡ S.loan sink.old }
+{
+    let name = entry.filename.as_bytes();
+    let mut backing = [0; 6];
+    sink.put(entry.mode.as_bytes(&mut backing).as_bytes())?;
+    sink.put(b" ")?;
+    if has_byte(name, 0) {
+        let name = BString::from_slice(alloc, name)?;
+        return Err(Error::NullbyteInFilename { name });
+    }
+    sink.put(name)?;
+    sink.put(b"\0")?;
+    sink.put(entry.oid.as_bytes())?;
+    Ok(())
+}
+
+/// The size and that of the entry, or none past 64 bits.
+fn size_with(size: u64, entry: &Entry) -> Option<u64>
+    ensures { SomeIff result (size + length (entry_text entry.now) < 2 ^ 64) (size + length (entry_text entry.now)) }
+{
+    let mut backing = [0; 6];
+    let mode = entry.mode.as_bytes(&mut backing).as_bytes().len() as u64;
+    let with_mode = size.checked_add(mode)?.checked_add(2)?;
+    let with_name = with_mode.checked_add(entry.filename.len() as u64)?;
+    with_name.checked_add(entry.oid.as_bytes().len() as u64)
+}
