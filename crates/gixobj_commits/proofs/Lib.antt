@@ -1,6 +1,6 @@
-pub mod CommitChains
-pub mod CommitHeaders
-pub mod CommitParts
+mod CommitChains
+mod CommitHeaders
+mod CommitParts
 mod CommitWrites
 mod ParentHexes
 mod WritingBack
