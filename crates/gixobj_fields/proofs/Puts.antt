@@ -50,6 +50,13 @@ front_more a b c x y first part =
 pub front_within : (a b c : SinkView) (x y z : List ℕ) → Puts a b x → PutsFront b c y → PutsFront a c (x ++ (y ++ z))
 front_within a b c x y z first part = front_more a b c x (y ++ z) first (front_first b c y z part)
 
+-- the same of two parts that were put as one
+pub front_of_two : (a b : SinkView) (x y z : List ℕ) → PutsFront a b (x ++ y) → PutsFront a b (x ++ (y ++ z))
+front_of_two a b x y z part = rw (← append_assoc x y z) (front_first a b (x ++ y) z part)
+
+pub front_behind_two : (a b c : SinkView) (x y z : List ℕ) → Puts a b (x ++ y) → PutsFront b c z → PutsFront a c (x ++ (y ++ z))
+front_behind_two a b c x y z first part = rw (← append_assoc x y z) (front_more a b c (x ++ y) z first part)
+
 -- what is left of a list behind a front of it
 pub cut_behind : (front all rest : List ℕ) (n : ℕ) → all ≡ front ++ rest → n ≤ length rest → all ≡ (front ++ take n rest) ++ take (length rest - n) (drop n rest)
 cut_behind front all rest n joined short =

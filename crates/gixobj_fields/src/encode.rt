@@ -8,7 +8,7 @@ ghost use Rattle.gixobj_fields.specs.HeaderText.{field_text};
 ghost use Rattle.gixobj_fields.specs.Streams.{Puts, PutsFront};
 ghost use Rattle.gixobj_fields.specs.Writing.{RefusesNothing, SaysWhy};
 
-use crate::streams::Sink;
+use crate::streams::{Sink, put_parts};
 use bstr::BString;
 use gixobj_ids::hash::ObjectId;
 use gixobj_ids::parse::{has_byte, split_at_byte};
@@ -114,10 +114,7 @@ pub fn trusted_header_field<S: Sink>(
     ensures err { OnErr result (PutsFront (S.view sink.old) (S.view sink.new) (field_text name.now value.now)) }
     ensures same_loan { S.loan sink.new ≡ S.loan sink.old }
 {
-    sink.put(name)?;
-    sink.put(b" ")?;
-    sink.put(value)?;
-    sink.put(b"\n")
+    put_parts(&[name, b" ", value, b"\n"], sink)
 }
 
 /// Puts the field of an id, in lower case.
@@ -164,8 +161,7 @@ pub fn header_field_multi_line<S: Sink>(
     ensures err { OnErr result (PutsFront (S.view sink.old) (S.view sink.new) (name.now ++ 32 ∷ folded value.now)) }
     ensures same_loan { S.loan sink.new ≡ S.loan sink.old }
 {
-    sink.put(name)?;
-    sink.put(b" ")?;
+    put_parts(&[name, b" "], sink)?;
     put_folded(value, sink)
 }
 
@@ -184,18 +180,15 @@ fn put_folded<S: Sink>(value: &[u8], sink: &mut S) -> io::Result<()>
 }
 
 /// Puts a line, and the space before the next.
-#[tactic(auto, using(crate::proofs::Puts::front_first, crate::proofs::Puts::front_more))]
 fn put_line<S: Sink>(line: &[u8], sink: &mut S) -> io::Result<()>
     ensures written { OnOk result (Puts (S.view sink.old) (S.view sink.new) (line.now ++ 10 ∷ 32 ∷ [])) }
     ensures err { OnErr result (PutsFront (S.view sink.old) (S.view sink.new) (line.now ++ 10 ∷ 32 ∷ [])) }
     ensures same_loan { S.loan sink.new ≡ S.loan sink.old }
 {
-    sink.put(line)?;
-    sink.put(b"\n ")
+    put_parts(&[line, b"\n "], sink)
 }
 
 /// Puts the last line, with its newline.
-#[tactic(auto, using(crate::proofs::Puts::front_first, crate::proofs::Puts::front_more))]
 fn put_last_line<S: Sink>(line: &[u8], sink: &mut S) -> io::Result<()>
     requires { IsLastLine line.now }
     ensures written { OnOk result (Puts (S.view sink.old) (S.view sink.new) (folded line.now)) }
@@ -203,13 +196,12 @@ fn put_last_line<S: Sink>(line: &[u8], sink: &mut S) -> io::Result<()>
     ensures same_loan { S.loan sink.new ≡ S.loan sink.old }
 {
     let end = missing_newline(line);
-    sink.put(line)?;
-    sink.put(end)
+    put_parts(&[line, end], sink)
 }
 
 /// The newline, where the last line has none.
 #[tactic(auto, using(crate::proofs::FieldWrites::folded_with_newline, crate::proofs::FieldWrites::folded_without_newline))]
-fn missing_newline(line: &[u8]) -> &'static [u8]
+fn missing_newline(line: &[u8]) -> &[u8]
     requires { IsLastLine line.now }
     ensures { folded line.now ≡ line.now ++ result.now }
 {

@@ -7,6 +7,7 @@
 ghost use Rattle.std.specs.Prelude.{◌≡◌, ℕ, List, Option, Some, OnOk, OnErr, ⊤};
 ghost use Rattle.std.specs.Io.{ReadsAtMost, WritesAtMost};
 ghost use Rattle.std.specs.Io.KnownBytes.{ReadConsumes, WriteAppends};
+ghost use Rattle.std.specs.List.{flat_map};
 ghost use Rattle.gixobj_fields.specs.Streams.{Puts, PutsFront, list_view, writer_view};
 
 use std::io;
@@ -135,4 +136,16 @@ impl<W: Write> ToWrite<'_, W> {
         }
         Err(io::Error::from(ErrorKind::Interrupted))
     }
+}
+
+/// Puts texts at the end of a sink, one after the other. Where it fails, a front of them has been put.
+pub fn put_parts<S: Sink>(parts: &[&[u8]], sink: &mut S) -> io::Result<()>
+    ensures ok { OnOk result (Puts (S.view sink.old) (S.view sink.new) (flat_map (λ part. part.now) parts.now)) }
+    ensures err { OnErr result (PutsFront (S.view sink.old) (S.view sink.new) (flat_map (λ part. part.now) parts.now)) }
+    ensures same_loan { S.loan sink.new ≡ S.loan sink.old }
+{
+    for part in parts {
+        sink.put(part)?;
+    }
+    Ok(())
 }
