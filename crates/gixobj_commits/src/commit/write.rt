@@ -7,12 +7,13 @@ ghost use Rattle.gixobj_ids.specs.Hash.{hex_text};
 ghost use Rattle.gixobj_fields.specs.HeaderText.{field_text};
 ghost use Rattle.gixobj_fields.specs.Writing.{Lasts, MayRefuse, RefusesNothing, SaysWhy};
 ghost use Rattle.gixobj_commits.specs.Commit.{encoding_text};
-ghost use Rattle.gixobj_commits.specs.CommitViews.{bytes_if_some, owned_bytes_if_some};
+ghost use Rattle.gixobj_commits.specs.CommitViews.{bytes_if_some};
 ghost use Rattle.gixobj_commits.specs.CommitWriting.{RefusesEncodingLine};
 
-use super::{Commit, CommitRef};
+mod owned;
+
+use super::CommitRef;
 use bstr::{BStr, BString};
-use gixobj_actors::encode::{size_with_signature, trusted_header_signature};
 use gixobj_fields::WriteTo;
 use gixobj_fields::encode::{
     Error, header_field, header_field_multi_line, size_with_field, size_with_id,
@@ -66,47 +67,6 @@ impl WriteTo for CommitRef<'_> {
         let with_author = size_with_field(ids, b"author", author)?;
         let lines = size_with_field(with_author, b"committer", committer)?;
         let all = size_with_rest(lines, self.encoding, headers, message)?;
-        Some(all)
-    }
-}
-
-/// A commit is written with its actors and their times as these are written.
-///
-/// An author whose name or email has a `<`, a `>` or a newline is refused as `IllegalActor` behind
-/// `author` and a space, and so is a committer behind `committer` and a space. An empty encoding is
-/// refused as `EmptyValue`, and one with a newline as `NewlineInHeaderValue`, before any byte of its line.
-impl WriteTo for Commit {
-    ghost use Rattle.gixobj_ids.specs.declared.kind.Kind.TheVariants as kind;
-    ghost use Rattle.gixobj_commits.specs.CommitViews.{owned_lines};
-    ghost use Rattle.gixobj_commits.specs.CommitWriting.{RefusesOwned, commit_text};
-
-    ghost object_kind = { λ _. kind.Commit };
-
-    ghost text = { λ commit. commit_text (owned_lines commit) };
-
-    ghost refuses = { RefusesOwned };
-
-    fn write_into<S: Sink>(&self, alloc: Global, sink: &mut S) -> Result<(), Error> {
-        let (parents, encoding) = (self.parents.as_slice(), borrowed(&self.encoding));
-        let (headers, message) = (self.extra_headers.as_slice(), self.message.as_bytes());
-        put_ids(&self.tree, parents, sink)?;
-        trusted_header_signature(b"author", &self.author, sink)?;
-        trusted_header_signature(b"committer", &self.committer, sink)?;
-        put_rest(alloc, encoding, headers, message, sink)?;
-        Ok(())
-    }
-
-    fn kind(&self) -> Kind {
-        Kind::Commit
-    }
-
-    fn size(&self) -> Option<u64> {
-        let (parents, encoding) = (self.parents.as_slice(), borrowed(&self.encoding));
-        let (headers, message) = (self.extra_headers.as_slice(), self.message.as_bytes());
-        let ids = ids_size(&self.tree, parents)?;
-        let with_author = size_with_signature(ids, b"author", &self.author)?;
-        let lines = size_with_signature(with_author, b"committer", &self.committer)?;
-        let all = size_with_rest(lines, encoding, headers, message)?;
         Some(all)
     }
 }
@@ -263,11 +223,40 @@ fn put_rest<T: Field, S: Sink>(
         (MayRefuse (S.may_refuse sink.old) (encoding_text (bytes_if_some encoding.entry) ++ flat_map T.written headers.now ++ 10 ∷ message.now))) }
     ensures same_loan { S.loan sink.new ≡ S.loan sink.old }
 {
+    put_front(alloc, encoding, headers, sink)?;
+    put_message(message, sink)?;
+    Ok(())
+}
+
+/// Puts the encoding and the extra headers.
+fn put_front<T: Field, S: Sink>(
+    alloc: Global,
+    encoding: Option<BStr<'_>>,
+    headers: &[T],
+    sink: &mut S,
+) -> Result<(), Error>
+    requires { All T.can_put headers.now }
+    ensures written { OnOk result (Appends (S.held sink.old) (S.held sink.new) (encoding_text (bytes_if_some encoding.entry) ++ flat_map T.written headers.now)) }
+    ensures nothing_refused { OnOk result (RefusesNothing (RefusesEncodingLine (bytes_if_some encoding.entry))) }
+    ensures lasting { OnOk result (Lasts (S.may_refuse sink.old) (S.may_refuse sink.new) (encoding_text (bytes_if_some encoding.entry) ++ flat_map T.written headers.now)) }
+    ensures refusal { IfErr result (SaysWhy (RefusesEncodingLine (bytes_if_some encoding.entry)) (S.held sink.old) (S.held sink.new)
+        (MayRefuse (S.may_refuse sink.old) (encoding_text (bytes_if_some encoding.entry) ++ flat_map T.written headers.now))) }
+    ensures same_loan { S.loan sink.new ≡ S.loan sink.old }
+{
     put_encoding(alloc, encoding, sink)?;
     put_all(headers, sink)?;
-    sink.put(b"\n")?;
-    sink.put(message)?;
     Ok(())
+}
+
+/// Puts an empty line and the message.
+fn put_message<S: Sink>(message: &[u8], sink: &mut S) -> io::Result<()>
+    ensures ok { OnOk result (Appends (S.held sink.old) (S.held sink.new) (10 ∷ message.now)) }
+    ensures err { OnErr result (MayRefuse (S.may_refuse sink.old) (10 ∷ message.now)) }
+    ensures lasting { OnOk result (Lasts (S.may_refuse sink.old) (S.may_refuse sink.new) (10 ∷ message.now)) }
+    ensures same_loan { S.loan sink.new ≡ S.loan sink.old }
+{
+    sink.put(b"\n")?;
+    sink.put(message)
 }
 
 /// Puts the line of an encoding, or nothing where there is none.
@@ -313,15 +302,5 @@ fn size_with_encoding(size: u64, encoding: Option<BStr<'_>>) -> Option<u64>
     match encoding {
         Some(encoding) => size_with_field(size, b"encoding", encoding.as_bytes()),
         None => Some(size),
-    }
-}
-
-/// The encoding, borrowed.
-fn borrowed(encoding: &Option<BString>) -> Option<BStr<'_>>
-    ensures { bytes_if_some result ≡ owned_bytes_if_some encoding.now }
-{
-    match encoding {
-        Some(encoding) => Some(encoding.as_bstr()),
-        None => None,
     }
 }

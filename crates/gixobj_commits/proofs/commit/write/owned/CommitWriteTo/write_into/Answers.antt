@@ -7,7 +7,7 @@ use Rattle.gixobj_fields.proofs.Steps.{all_lasting, all_written, first_refused, 
 use Rattle.gixobj_commits.specs.CommitViews.{bytes_if_some}
 use Rattle.gixobj_commits.specs.CommitWriting.{RefusesOwned, RefusesEncodingLine}
 use Rattle.gixobj_actors.specs.ActorWriting.{RefusesSignature}
-use Rattle.gixobj_commits.proofs.commit.write.CommitWriteTo.write_into.Goals as goal
+use Rattle.gixobj_commits.proofs.commit.write.owned.CommitWriteTo.write_into.Goals as goal
 
 pub returns-in_err-put_ids-clause-refusal : goal.returns-in_err-put_ids-clause-refusal
 returns-in_err-put_ids-clause-refusal g c =

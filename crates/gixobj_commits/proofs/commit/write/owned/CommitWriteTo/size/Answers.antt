@@ -2,7 +2,7 @@
 use Rattle.std.proofs.Common.{◌^◌}
 use Rattle.gixobj_commits.proofs.CommitWrites.{owned_as_put}
 use Rattle.gixobj_fields.proofs.Steps.{all_counted, first_too_long, fourth_too_long, second_too_long, third_too_long}
-use Rattle.gixobj_commits.proofs.commit.write.CommitWriteTo.size.Goals as goal
+use Rattle.gixobj_commits.proofs.commit.write.owned.CommitWriteTo.size.Goals as goal
 
 pub returns-in_err-ids : goal.returns-in_err-ids
 returns-in_err-ids c =
