@@ -15,7 +15,7 @@ ghost use Rattle.gixobj_ids.specs.declared.decode.Error.TheVariants.{Malformed};
 use crate::date::{Time, TimeBuf, parse_header};
 use bstr::{BStr, BString, ByteSlice};
 use gixobj_fields::encode::Error;
-use gixobj_fields::streams::{Sink, ToWrite};
+use gixobj_fields::streams::{Sink, ToWrite, put_parts};
 use gixobj_ids::decode;
 use gixobj_ids::parse::{has_byte, split_at_byte, split_at_last_byte};
 use std::alloc::{AllocError, Global};
@@ -235,11 +235,7 @@ fn put_actor<S: Sink>(name: &[u8], email: &[u8], time: &[u8], sink: &mut S) -> i
     ensures lasting { OnOk result (Lasts (S.may_refuse sink.old) (S.may_refuse sink.new) (actor_text name.now email.now time.now)) }
     ensures same_loan { S.loan sink.new ≡ S.loan sink.old }
 {
-    sink.put(name)?;
-    sink.put(b" <")?;
-    sink.put(email)?;
-    sink.put(b"> ")?;
-    sink.put(time)
+    put_parts(&[name, b" <", email, b"> ", time], sink)
 }
 
 /// How many bytes an actor takes, or none past 64 bits.

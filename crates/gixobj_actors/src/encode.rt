@@ -8,7 +8,7 @@ ghost use Rattle.gixobj_actors.specs.ActorWriting.{IsLegal, RefusesSignature, ow
 
 use crate::actor::Signature;
 use gixobj_fields::encode::Error;
-use gixobj_fields::streams::Sink;
+use gixobj_fields::streams::{Sink, put_parts};
 
 /// Puts the field of an actor, which is refused behind the name and a space where it is illegal.
 pub fn trusted_header_signature<S: Sink>(
@@ -22,8 +22,7 @@ pub fn trusted_header_signature<S: Sink>(
     ensures refusal { IfErr result (SaysWhy (RefusesSignature name.now actor.now) (S.held sink.old) (S.held sink.new) (MayRefuse (S.may_refuse sink.old) (field_text name.now (owned_text actor.now)))) }
     ensures same_loan { S.loan sink.new ≡ S.loan sink.old }
 {
-    sink.put(name)?;
-    sink.put(b" ")?;
+    put_parts(&[name, b" "], sink)?;
     actor.write_into(sink)?;
     sink.put(b"\n")?;
     Ok(())

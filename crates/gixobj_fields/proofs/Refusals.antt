@@ -1,5 +1,5 @@
 -- What a writer appends and refuses behind what was written before.
-use Rattle.std.proofs.Common.{ℕ, List, ◌++◌, Option, Some, None, append_assoc, inl, inr}
+use Rattle.std.proofs.Common.{◌≡◌, ℕ, List, ◌++◌, Option, Some, None, append_assoc, inl, inr}
 use Rattle.std.specs.Io.KnownBytes.{Appends}
 use Rattle.gixobj_fields.specs.declared.encode.Error.{Error}
 use Rattle.gixobj_fields.specs.declared.encode.Error.TheVariants as error
@@ -13,6 +13,10 @@ appends_more (Some a) (Some b) (Some c) x y p q = rw (q, p) (append_assoc a x y)
 
 pub lasts_more : (F G H : List ℕ → Type 0) (x y : List ℕ) → Lasts F G x → Lasts G H y → Lasts F H (x ++ y)
 lasts_more F G H x y p q more h = rw (append_assoc x y more) (p (y ++ more) (q more h))
+
+-- who may refuse a front might have refused all of it
+pub refused_in_front : (F : List ℕ → Type 0) (x y text : List ℕ) → text ≡ x ++ y → MayRefuse F x → MayRefuse F text
+refused_in_front F x y text whole p = rw whole (λ more. rw (append_assoc x y more) (p (y ++ more)))
 
 -- who may refuse a part behind what was put might have refused all of it
 pub refused_behind : (F G : List ℕ → Type 0) (x y z : List ℕ) → Lasts F G x → MayRefuse G y → MayRefuse F (x ++ (y ++ z))

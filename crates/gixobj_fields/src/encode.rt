@@ -8,7 +8,7 @@ ghost use Rattle.gixobj_fields.specs.FieldWriting.{IsLastLine, RefusesField, fol
 ghost use Rattle.gixobj_fields.specs.HeaderText.{field_text};
 ghost use Rattle.gixobj_fields.specs.Writing.{Lasts, MayRefuse, RefusesNothing, SaysWhy};
 
-use crate::streams::Sink;
+use crate::streams::{Sink, put_parts};
 use bstr::BString;
 use gixobj_ids::hash::ObjectId;
 use gixobj_ids::parse::{has_byte, split_at_byte};
@@ -105,20 +105,13 @@ impl From<AllocError> for Error {
 }
 
 /// Puts a field of one line, whatever its value is.
-pub fn trusted_header_field<S: Sink>(
-    name: &[u8],
-    value: &[u8],
-    sink: &mut S,
-) -> io::Result<()>
+pub fn trusted_header_field<S: Sink>(name: &[u8], value: &[u8], sink: &mut S) -> io::Result<()>
     ensures written { OnOk result (Appends (S.held sink.old) (S.held sink.new) (field_text name.now value.now)) }
     ensures err { OnErr result (MayRefuse (S.may_refuse sink.old) (field_text name.now value.now)) }
     ensures lasting { OnOk result (Lasts (S.may_refuse sink.old) (S.may_refuse sink.new) (field_text name.now value.now)) }
     ensures same_loan { S.loan sink.new ≡ S.loan sink.old }
 {
-    sink.put(name)?;
-    sink.put(b" ")?;
-    sink.put(value)?;
-    sink.put(b"\n")
+    put_parts(&[name, b" ", value, b"\n"], sink)
 }
 
 /// Puts the field of an id, in lower case.
@@ -158,18 +151,13 @@ pub fn header_field<S: Sink>(
 }
 
 /// Puts a header, with a space before each line of its value but the first, and a newline at the end.
-pub fn header_field_multi_line<S: Sink>(
-    name: &[u8],
-    value: &[u8],
-    sink: &mut S,
-) -> io::Result<()>
+pub fn header_field_multi_line<S: Sink>(name: &[u8], value: &[u8], sink: &mut S) -> io::Result<()>
     ensures written { OnOk result (Appends (S.held sink.old) (S.held sink.new) (name.now ++ 32 ∷ folded value.now)) }
     ensures err { OnErr result (MayRefuse (S.may_refuse sink.old) (name.now ++ 32 ∷ folded value.now)) }
     ensures lasting { OnOk result (Lasts (S.may_refuse sink.old) (S.may_refuse sink.new) (name.now ++ 32 ∷ folded value.now)) }
     ensures same_loan { S.loan sink.new ≡ S.loan sink.old }
 {
-    sink.put(name)?;
-    sink.put(b" ")?;
+    put_parts(&[name, b" "], sink)?;
     put_folded(value, sink)
 }
 
@@ -195,8 +183,7 @@ fn put_line<S: Sink>(line: &[u8], sink: &mut S) -> io::Result<()>
     ensures lasting { OnOk result (Lasts (S.may_refuse sink.old) (S.may_refuse sink.new) (line.now ++ 10 ∷ 32 ∷ [])) }
     ensures same_loan { S.loan sink.new ≡ S.loan sink.old }
 {
-    sink.put(line)?;
-    sink.put(b"\n ")
+    put_parts(&[line, b"\n "], sink)
 }
 
 /// Puts the last line, with its newline.
@@ -208,13 +195,12 @@ fn put_last_line<S: Sink>(line: &[u8], sink: &mut S) -> io::Result<()>
     ensures same_loan { S.loan sink.new ≡ S.loan sink.old }
 {
     let end = missing_newline(line);
-    sink.put(line)?;
-    sink.put(end)
+    put_parts(&[line, end], sink)
 }
 
 /// The newline, where the last line has none.
 #[tactic(auto, using(crate::proofs::FieldWrites::folded_with_newline, crate::proofs::FieldWrites::folded_without_newline))]
-fn missing_newline(line: &[u8]) -> &'static [u8]
+fn missing_newline(line: &[u8]) -> &[u8]
     requires { IsLastLine line.now }
     ensures { folded line.now ≡ line.now ++ result.now }
 {

@@ -7,6 +7,8 @@
 ghost use Rattle.std.specs.Prelude.{◌≡◌, ◌<◌, ◌+◌, ◌++◌, ℕ, List, Option, Some, length, OnOk, OnErr, vec_len, vec_capacity, ⊤};
 ghost use Rattle.std.specs.Io.{ReadsAtMost};
 ghost use Rattle.std.specs.Io.KnownBytes.{Appends, ReadConsumes};
+ghost use Rattle.std.specs.List.{flat_map};
+ghost use Rattle.gixobj_fields.specs.Writing.{Lasts, MayRefuse};
 
 use std::io;
 use std::io::{ErrorKind, Read, Write};
@@ -116,4 +118,17 @@ impl<W: Write> Sink for ToWrite<'_, W> {
     fn put(&mut self, bytes: &[u8]) -> io::Result<()> {
         self.0.write_all(bytes)
     }
+}
+
+/// Puts texts at the end of a sink, one after the other.
+pub fn put_parts<S: Sink>(parts: &[&[u8]], sink: &mut S) -> io::Result<()>
+    ensures ok { OnOk result (Appends (S.held sink.old) (S.held sink.new) (flat_map (λ part. part.now) parts.now)) }
+    ensures err { OnErr result (MayRefuse (S.may_refuse sink.old) (flat_map (λ part. part.now) parts.now)) }
+    ensures lasting { OnOk result (Lasts (S.may_refuse sink.old) (S.may_refuse sink.new) (flat_map (λ part. part.now) parts.now)) }
+    ensures same_loan { S.loan sink.new ≡ S.loan sink.old }
+{
+    for part in parts {
+        sink.put(part)?;
+    }
+    Ok(())
 }

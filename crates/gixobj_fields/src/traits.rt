@@ -5,8 +5,8 @@ ghost use Rattle.std.specs.Option.{SomeIff};
 ghost use Rattle.gixobj_ids.specs.Encode.{loose_header_text};
 ghost use Rattle.gixobj_fields.specs.Writing.{Lasts, MayRefuse, RefusesNothing, SaysWhy};
 
-use crate::streams::{Sink, ToWrite};
 use crate::encode;
+use crate::streams::{Sink, ToWrite};
 use gixobj_ids::Kind;
 use gixobj_ids::encode::loose_header;
 use smallvec::SmallVec;
