@@ -105,11 +105,7 @@ impl From<AllocError> for Error {
 }
 
 /// Puts a field of one line, whatever its value is.
-pub fn trusted_header_field<S: Sink>(
-    name: &[u8],
-    value: &[u8],
-    sink: &mut S,
-) -> io::Result<()>
+pub fn trusted_header_field<S: Sink>(name: &[u8], value: &[u8], sink: &mut S) -> io::Result<()>
     ensures written { OnOk result (Puts (S.view sink.old) (S.view sink.new) (field_text name.now value.now)) }
     ensures err { OnErr result (PutsFront (S.view sink.old) (S.view sink.new) (field_text name.now value.now)) }
     ensures same_loan { S.loan sink.new ≡ S.loan sink.old }
@@ -152,11 +148,7 @@ pub fn header_field<S: Sink>(
 }
 
 /// Puts a header, with a space before each line of its value but the first, and a newline at the end.
-pub fn header_field_multi_line<S: Sink>(
-    name: &[u8],
-    value: &[u8],
-    sink: &mut S,
-) -> io::Result<()>
+pub fn header_field_multi_line<S: Sink>(name: &[u8], value: &[u8], sink: &mut S) -> io::Result<()>
     ensures written { OnOk result (Puts (S.view sink.old) (S.view sink.new) (name.now ++ 32 ∷ folded value.now)) }
     ensures err { OnErr result (PutsFront (S.view sink.old) (S.view sink.new) (name.now ++ 32 ∷ folded value.now)) }
     ensures same_loan { S.loan sink.new ≡ S.loan sink.old }

@@ -6,8 +6,8 @@ ghost use Rattle.gixobj_ids.specs.Encode.{loose_header_text};
 ghost use Rattle.gixobj_fields.specs.Streams.{Puts, list_view, writer_view};
 ghost use Rattle.gixobj_fields.specs.Writing.{RefusesNothing, SaysWhy};
 
-use crate::streams::{Sink, ToWrite};
 use crate::encode;
+use crate::streams::{Sink, ToWrite};
 use gixobj_ids::Kind;
 use gixobj_ids::encode::loose_header;
 use smallvec::SmallVec;
