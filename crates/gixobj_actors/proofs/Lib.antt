@@ -1,5 +1,4 @@
 pub mod ActorLines
 mod ActorTexts
-mod SignatureFields
 mod TimeTexts
 pub mod SignatureFields

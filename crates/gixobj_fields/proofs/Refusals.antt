@@ -4,24 +4,42 @@ use Rattle.gixobj_fields.specs.Streams.{Puts, PutsFront, SinkView}
 use Rattle.gixobj_fields.specs.declared.encode.Error.{Error}
 use Rattle.gixobj_fields.specs.declared.encode.Error.TheVariants as error
 use Rattle.gixobj_fields.specs.Writing.{FailsAsSink, Refused, RefusesNothing, SaysWhy, StopsAt}
-use Rattle.gixobj_fields.proofs.Puts.{front_first, front_more, puts_more}
+use Rattle.gixobj_fields.proofs.Puts.{front_within, puts_more}
 
 stops_behind : (R Q : Refused → List ℕ → Type 0) (a b c : SinkView) (front : List ℕ) → Puts a b front
     → ((value : Refused) (parts : List ℕ) → R value parts → Q value (front ++ parts)) → (value : Refused) → StopsAt R b c value → StopsAt Q a c value
 stops_behind R Q a b c front p step value s = (front ++ s.0, step value s.0 s.1, puts_more a b c front s.0 p s.2)
 
--- what an error says of a part behind a front, it says of the front, the part and what follows
+-- what an error says of a part behind a front, it says of the whole
+pub says_why_behind : (R Q : Refused → List ℕ → Type 0) (a b c : SinkView) (front part whole : List ℕ) → Puts a b front
+    → ((value : Refused) (parts : List ℕ) → R value parts → Q value (front ++ parts)) → (PutsFront b c part → PutsFront a c whole)
+    → (e : Error) → SaysWhy R b c part e → SaysWhy Q a c whole e
+says_why_behind R Q a b c front part whole p step fails (error.Writer cause) s = fails s
+says_why_behind R Q a b c front part whole p step fails (error.NewlineInHeaderValue value) s = stops_behind R Q a b c front p step _ s
+says_why_behind R Q a b c front part whole p step fails error.EmptyValue s = stops_behind R Q a b c front p step _ s
+says_why_behind R Q a b c front part whole p step fails error.StartsWithDash s = stops_behind R Q a b c front p step _ s
+says_why_behind R Q a b c front part whole p step fails (error.InvalidRefName fault) s = stops_behind R Q a b c front p step _ s
+says_why_behind R Q a b c front part whole p step fails (error.NullbyteInFilename name) s = stops_behind R Q a b c front p step _ s
+says_why_behind R Q a b c front part whole p step fails error.IllegalActor s = stops_behind R Q a b c front p step _ s
+says_why_behind R Q a b c front part whole p step fails error.OutOfMemory (value, inl s) = (value, inl (stops_behind R Q a b c front p step _ s))
+says_why_behind R Q a b c front part whole p step fails error.OutOfMemory (value, inr s) = (value, inr (stops_behind R Q a b c front p step _ s))
+
+-- the same of a front, the part and what follows
 pub says_why_within : (R Q : Refused → List ℕ → Type 0) (a b c : SinkView) (front part rest : List ℕ) → Puts a b front
     → ((value : Refused) (parts : List ℕ) → R value parts → Q value (front ++ parts)) → (e : Error) → SaysWhy R b c part e → SaysWhy Q a c (front ++ (part ++ rest)) e
-says_why_within R Q a b c front part rest p step (error.Writer cause) s = front_more a b c front (part ++ rest) p (front_first b c part rest s)
-says_why_within R Q a b c front part rest p step (error.NewlineInHeaderValue value) s = stops_behind R Q a b c front p step _ s
-says_why_within R Q a b c front part rest p step error.EmptyValue s = stops_behind R Q a b c front p step _ s
-says_why_within R Q a b c front part rest p step error.StartsWithDash s = stops_behind R Q a b c front p step _ s
-says_why_within R Q a b c front part rest p step (error.InvalidRefName fault) s = stops_behind R Q a b c front p step _ s
-says_why_within R Q a b c front part rest p step (error.NullbyteInFilename name) s = stops_behind R Q a b c front p step _ s
-says_why_within R Q a b c front part rest p step error.IllegalActor s = stops_behind R Q a b c front p step _ s
-says_why_within R Q a b c front part rest p step error.OutOfMemory (value, inl s) = (value, inl (stops_behind R Q a b c front p step _ s))
-says_why_within R Q a b c front part rest p step error.OutOfMemory (value, inr s) = (value, inr (stops_behind R Q a b c front p step _ s))
+says_why_within R Q a b c front part rest p step e s =
+    says_why_behind R Q a b c front part (front ++ (part ++ rest)) p step (front_within a b c front part rest p) e s
+
+-- what an error says of a text, it says of a longer one
+pub says_why_longer : (R : Refused → List ℕ → Type 0) (a b : SinkView) (part whole : List ℕ) → (PutsFront a b part → PutsFront a b whole) → (e : Error) → SaysWhy R a b part e → SaysWhy R a b whole e
+says_why_longer R a b part whole fails (error.Writer cause) s = fails s
+says_why_longer R a b part whole fails (error.NewlineInHeaderValue value) s = s
+says_why_longer R a b part whole fails error.EmptyValue s = s
+says_why_longer R a b part whole fails error.StartsWithDash s = s
+says_why_longer R a b part whole fails (error.InvalidRefName fault) s = s
+says_why_longer R a b part whole fails (error.NullbyteInFilename name) s = s
+says_why_longer R a b part whole fails error.IllegalActor s = s
+says_why_longer R a b part whole fails error.OutOfMemory s = s
 
 none_stops : (R : Refused → List ℕ → Type 0) (a b : SinkView) (value : Refused) → RefusesNothing R → StopsAt R a b value → ⊥
 none_stops R a b value nothing s = nothing value s.0 s.1

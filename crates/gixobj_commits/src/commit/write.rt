@@ -1,11 +1,11 @@
 //! Commits, written (gitdatamodel, "commits").
 ghost use Rattle.std.specs.Prelude.{◌≡◌, ◌<◌, ◌+◌, ◌^◌, ◌++◌, ◌∷◌, All, codes, length, IfErr, OnErr, OnOk};
-ghost use Rattle.std.specs.Io.KnownBytes.{Appends};
 ghost use Rattle.std.specs.List.{flat_map};
 ghost use Rattle.std.specs.Option.{SomeIff};
 ghost use Rattle.gixobj_ids.specs.Hash.{hex_text};
 ghost use Rattle.gixobj_fields.specs.HeaderText.{field_text};
-ghost use Rattle.gixobj_fields.specs.Writing.{Lasts, MayRefuse, RefusesNothing, SaysWhy};
+ghost use Rattle.gixobj_fields.specs.Streams.{Puts, PutsFront};
+ghost use Rattle.gixobj_fields.specs.Writing.{RefusesNothing, SaysWhy};
 ghost use Rattle.gixobj_commits.specs.Commit.{encoding_text};
 ghost use Rattle.gixobj_commits.specs.CommitViews.{bytes_if_some};
 ghost use Rattle.gixobj_commits.specs.CommitWriting.{RefusesEncodingLine};
@@ -19,7 +19,7 @@ use gixobj_fields::encode::{
     Error, header_field, header_field_multi_line, size_with_field, size_with_id,
     size_with_multi_line, trusted_header_field, trusted_header_id,
 };
-use gixobj_fields::streams::Sink;
+use gixobj_fields::streams::{Sink, put_parts};
 use gixobj_ids::Kind;
 use gixobj_ids::hash::ObjectId;
 use gixobj_ids::parse::id_of_hex;
@@ -74,9 +74,8 @@ impl WriteTo for CommitRef<'_> {
 /// Puts the lines of the tree and of the parents.
 fn put_ids<T: Field, S: Sink>(tree: &ObjectId, parents: &[T], sink: &mut S) -> io::Result<()>
     requires { All T.can_put parents.now }
-    ensures ok { OnOk result (Appends (S.held sink.old) (S.held sink.new) (field_text (codes "tree") (hex_text tree.now) ++ flat_map T.written parents.now)) }
-    ensures err { OnErr result (MayRefuse (S.may_refuse sink.old) (field_text (codes "tree") (hex_text tree.now) ++ flat_map T.written parents.now)) }
-    ensures lasting { OnOk result (Lasts (S.may_refuse sink.old) (S.may_refuse sink.new) (field_text (codes "tree") (hex_text tree.now) ++ flat_map T.written parents.now)) }
+    ensures ok { OnOk result (Puts (S.view sink.old) (S.view sink.new) (field_text (codes "tree") (hex_text tree.now) ++ flat_map T.written parents.now)) }
+    ensures err { OnErr result (PutsFront (S.view sink.old) (S.view sink.new) (field_text (codes "tree") (hex_text tree.now) ++ flat_map T.written parents.now)) }
     ensures same_loan { S.loan sink.new ≡ S.loan sink.old }
 {
     trusted_header_id(b"tree", tree, sink)?;
@@ -104,9 +103,8 @@ trait Field {
     /// Puts the field.
     fn put<S: Sink>(&self, sink: &mut S) -> io::Result<()>
         requires { can_put self.now }
-        ensures ok { OnOk result (Appends (S.held sink.old) (S.held sink.new) (written self.now)) }
-        ensures err { OnErr result (MayRefuse (S.may_refuse sink.old) (written self.now)) }
-        ensures lasting { OnOk result (Lasts (S.may_refuse sink.old) (S.may_refuse sink.new) (written self.now)) }
+        ensures ok { OnOk result (Puts (S.view sink.old) (S.view sink.new) (written self.now)) }
+        ensures err { OnErr result (PutsFront (S.view sink.old) (S.view sink.new) (written self.now)) }
         ensures same_loan { S.loan sink.new ≡ S.loan sink.old };
 
     /// The size with that of the field, or none past 64 bits.
@@ -185,9 +183,8 @@ impl Field for (BString, BString) {
 /// Puts fields, one after the other.
 fn put_all<T: Field, S: Sink>(fields: &[T], sink: &mut S) -> io::Result<()>
     requires { All T.can_put fields.now }
-    ensures ok { OnOk result (Appends (S.held sink.old) (S.held sink.new) (flat_map T.written fields.now)) }
-    ensures err { OnErr result (MayRefuse (S.may_refuse sink.old) (flat_map T.written fields.now)) }
-    ensures lasting { OnOk result (Lasts (S.may_refuse sink.old) (S.may_refuse sink.new) (flat_map T.written fields.now)) }
+    ensures ok { OnOk result (Puts (S.view sink.old) (S.view sink.new) (flat_map T.written fields.now)) }
+    ensures err { OnErr result (PutsFront (S.view sink.old) (S.view sink.new) (flat_map T.written fields.now)) }
     ensures same_loan { S.loan sink.new ≡ S.loan sink.old }
 {
     for field in fields {
@@ -216,47 +213,15 @@ fn put_rest<T: Field, S: Sink>(
     sink: &mut S,
 ) -> Result<(), Error>
     requires { All T.can_put headers.now }
-    ensures written { OnOk result (Appends (S.held sink.old) (S.held sink.new) (encoding_text (bytes_if_some encoding.entry) ++ flat_map T.written headers.now ++ 10 ∷ message.now)) }
+    ensures written { OnOk result (Puts (S.view sink.old) (S.view sink.new) (encoding_text (bytes_if_some encoding.entry) ++ flat_map T.written headers.now ++ 10 ∷ message.now)) }
     ensures nothing_refused { OnOk result (RefusesNothing (RefusesEncodingLine (bytes_if_some encoding.entry))) }
-    ensures lasting { OnOk result (Lasts (S.may_refuse sink.old) (S.may_refuse sink.new) (encoding_text (bytes_if_some encoding.entry) ++ flat_map T.written headers.now ++ 10 ∷ message.now)) }
-    ensures refusal { IfErr result (SaysWhy (RefusesEncodingLine (bytes_if_some encoding.entry)) (S.held sink.old) (S.held sink.new)
-        (MayRefuse (S.may_refuse sink.old) (encoding_text (bytes_if_some encoding.entry) ++ flat_map T.written headers.now ++ 10 ∷ message.now))) }
-    ensures same_loan { S.loan sink.new ≡ S.loan sink.old }
-{
-    put_front(alloc, encoding, headers, sink)?;
-    put_message(message, sink)?;
-    Ok(())
-}
-
-/// Puts the encoding and the extra headers.
-fn put_front<T: Field, S: Sink>(
-    alloc: Global,
-    encoding: Option<BStr<'_>>,
-    headers: &[T],
-    sink: &mut S,
-) -> Result<(), Error>
-    requires { All T.can_put headers.now }
-    ensures written { OnOk result (Appends (S.held sink.old) (S.held sink.new) (encoding_text (bytes_if_some encoding.entry) ++ flat_map T.written headers.now)) }
-    ensures nothing_refused { OnOk result (RefusesNothing (RefusesEncodingLine (bytes_if_some encoding.entry))) }
-    ensures lasting { OnOk result (Lasts (S.may_refuse sink.old) (S.may_refuse sink.new) (encoding_text (bytes_if_some encoding.entry) ++ flat_map T.written headers.now)) }
-    ensures refusal { IfErr result (SaysWhy (RefusesEncodingLine (bytes_if_some encoding.entry)) (S.held sink.old) (S.held sink.new)
-        (MayRefuse (S.may_refuse sink.old) (encoding_text (bytes_if_some encoding.entry) ++ flat_map T.written headers.now))) }
+    ensures refusal { IfErr result (SaysWhy (RefusesEncodingLine (bytes_if_some encoding.entry)) (S.view sink.old) (S.view sink.new) (encoding_text (bytes_if_some encoding.entry) ++ flat_map T.written headers.now ++ 10 ∷ message.now)) }
     ensures same_loan { S.loan sink.new ≡ S.loan sink.old }
 {
     put_encoding(alloc, encoding, sink)?;
     put_all(headers, sink)?;
+    put_parts(&[b"\n", message], sink)?;
     Ok(())
-}
-
-/// Puts an empty line and the message.
-fn put_message<S: Sink>(message: &[u8], sink: &mut S) -> io::Result<()>
-    ensures ok { OnOk result (Appends (S.held sink.old) (S.held sink.new) (10 ∷ message.now)) }
-    ensures err { OnErr result (MayRefuse (S.may_refuse sink.old) (10 ∷ message.now)) }
-    ensures lasting { OnOk result (Lasts (S.may_refuse sink.old) (S.may_refuse sink.new) (10 ∷ message.now)) }
-    ensures same_loan { S.loan sink.new ≡ S.loan sink.old }
-{
-    sink.put(b"\n")?;
-    sink.put(message)
 }
 
 /// Puts the line of an encoding, or nothing where there is none.
@@ -265,11 +230,9 @@ fn put_encoding<S: Sink>(
     encoding: Option<BStr<'_>>,
     sink: &mut S,
 ) -> Result<(), Error>
-    ensures written { OnOk result (Appends (S.held sink.old) (S.held sink.new) (encoding_text (bytes_if_some encoding.entry))) }
+    ensures written { OnOk result (Puts (S.view sink.old) (S.view sink.new) (encoding_text (bytes_if_some encoding.entry))) }
     ensures nothing_refused { OnOk result (RefusesNothing (RefusesEncodingLine (bytes_if_some encoding.entry))) }
-    ensures lasting { OnOk result (Lasts (S.may_refuse sink.old) (S.may_refuse sink.new) (encoding_text (bytes_if_some encoding.entry))) }
-    ensures refusal { IfErr result (SaysWhy (RefusesEncodingLine (bytes_if_some encoding.entry)) (S.held sink.old) (S.held sink.new)
-        (MayRefuse (S.may_refuse sink.old) (encoding_text (bytes_if_some encoding.entry)))) }
+    ensures refusal { IfErr result (SaysWhy (RefusesEncodingLine (bytes_if_some encoding.entry)) (S.view sink.old) (S.view sink.new) (encoding_text (bytes_if_some encoding.entry))) }
     ensures same_loan { S.loan sink.new ≡ S.loan sink.old }
 {
     match encoding {
