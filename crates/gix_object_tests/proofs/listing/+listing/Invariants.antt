@@ -1,7 +1,8 @@
 use Rattle.std.proofs.Common.{◌+◌, ◌*◌, take}
 use Rattle.gix_object.specs.Files.{Files, SameFiles, Table}
-use Rattle.gix_object.specs.Listing.{IsTableOf, Lists}
-use Rattle.gix_object.proofs.tree.editor.listing.+listing.Given as goal
+use Rattle.gix_object.specs.Listing.{IsTableOf}
+use Rattle.gix_object_tests.specs.Lists.{Lists}
+use Rattle.gix_object_tests.proofs.listing.+listing.Given as goal
 
 abbrev pub decreases-files_of : goal.decreases-files_of
 decreases-files_of l = 2 * l.depth

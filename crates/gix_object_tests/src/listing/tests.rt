@@ -1,10 +1,10 @@
 //! Worked examples.
 
 use super::files_of;
-use crate::tree::{Entry, EntryKind};
 use bstr::BString;
-use gixobj_base::Tree;
-use gixobj_base::hash::{Kind, ObjectId};
+use gix_object::Tree;
+use gix_object::hash::{Kind, ObjectId};
+use gix_object::tree::{Entry, EntryKind};
 use std::alloc::{AllocError, Global};
 use std::test::Fail;
 

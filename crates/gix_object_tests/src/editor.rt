@@ -6,12 +6,12 @@ ghost use Rattle.gix_object.specs.EditorCalls.{EditorFiles, IsCallableOnTrees, n
 ghost use Rattle.gix_object.specs.Files.{Agrees, NamedFiles, SameFiles, Table};
 ghost use Rattle.gix_object.specs.History.{History, remove, upsert};
 
-use super::listing::files_of;
-use super::{Editor, Error, WriteError, Written};
-use crate::hash::{Kind as HashKind, ObjectId};
-use crate::tree::{Entry, EntryKind};
-use crate::{Kind, Tree, WriteTo, compute_hash, encode};
+use crate::listing::files_of;
 use bstr::BString;
+use gix_object::hash::{Kind as HashKind, ObjectId};
+use gix_object::tree::editor::{Editor, Error, WriteError, Written};
+use gix_object::tree::{Entry, EntryKind};
+use gix_object::{Kind, Tree, WriteTo, compute_hash, encode};
 use std::alloc::{AllocError, Global};
 use std::test::Fail;
 

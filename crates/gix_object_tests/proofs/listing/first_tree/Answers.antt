@@ -1,6 +1,6 @@
 use Rattle.std.proofs.Common.{◌≡◌, ◌≢◌, rules}
-use Rattle.gix_object.proofs.Listings.{first_here, first_later}
-use Rattle.gix_object.proofs.tree.editor.listing.first_tree.Goals as goal
+use Rattle.gix_object_tests.proofs.Listings.{first_here, first_later}
+use Rattle.gix_object_tests.proofs.listing.first_tree.Goals as goal
 
 pub returns-then-eq : goal.returns-then-eq
 returns-then-eq c =

@@ -3,15 +3,16 @@ ghost use Rattle.std.specs.Prelude.{◌≡◌, ◌++◌, ◌∷◌, [], IfOk, On
 ghost use Rattle.std.specs.Option.{option_copied};
 ghost use Rattle.bstr.specs.Owned.{bstring_bytes};
 ghost use Rattle.gix_object.specs.Files.{Below, Files, SameFiles, Table};
-ghost use Rattle.gix_object.specs.Listing.{IsFirst, IsTableOf, Lists, in_front};
+ghost use Rattle.gix_object.specs.Listing.{IsFirst, IsTableOf};
+ghost use Rattle.gix_object_tests.specs.Lists.{Lists, in_front};
 
 #[cfg(test)]
 mod tests;
 
-use crate::tree::{Entry, EntryMode};
 use bstr::BString;
-use gixobj_base::Tree;
-use gixobj_base::hash::ObjectId;
+use gix_object::Tree;
+use gix_object::hash::ObjectId;
+use gix_object::tree::{Entry, EntryMode};
 use std::alloc::{AllocError, Global};
 use std::marker::Model;
 
@@ -28,7 +29,7 @@ pub(crate) struct Listed {
 
 impl Model for Listed {
     ghost use Rattle.gix_object.specs.EditorCalls.{names_of};
-    ghost use Rattle.gix_object.specs.Listing.{FileView};
+    ghost use Rattle.gix_object_tests.specs.Lists.{FileView};
 
     ghost Value = { FileView };
 

@@ -11,7 +11,8 @@ use Rattle.gixobj_base.specs.ids.hash.object_id.ObjectId.{ObjectId}
 use Rattle.gixobj_base.specs.ids.kind.Kind.TheVariants.{Tree}
 use Rattle.gix_object.specs.Files.{Below, FileSet, Files, Path, SameFiles, Table, is_null, stands_for}
 use Rattle.gix_object.specs.HandingOut.{Pair}
-use Rattle.gix_object.specs.Listing.{FileView, IsFirst, IsTableOf, Lists, in_front}
+use Rattle.gix_object.specs.Listing.{IsFirst, IsTableOf}
+use Rattle.gix_object_tests.specs.Lists.{FileView, Lists, in_front}
 use Rattle.gix_object.proofs.EditedFiles.{Has-append, Has-left, Has-right}
 use Rattle.gix_object.proofs.NullIds.{null_tested}
 
