@@ -1,3 +1,4 @@
+mod EntryWrites
 mod ModeTexts
 mod NameKeys
 mod OctalNumbers

@@ -19,6 +19,10 @@ entry_text e = before_name e ++ e.name ++ 0 ∷ id_bytes e.id
 abbrev pub tree_text : List EntryView → List ℕ
 tree_text entries = flat_map entry_text entries
 
+-- a name with a zero byte is refused before anything of it
+abbrev pub RefusesName : List ℕ → Refused → List ℕ → Type 0
+RefusesName name value parts = Contains name 0 × (value ≡ name_with_zero_byte name) × (parts ≡ [])
+
 -- an entry is refused for a name with a zero byte, after its mode and space
 abbrev pub RefusesEntry : EntryView → Refused → List ℕ → Type 0
 RefusesEntry e value parts = Contains e.name 0 × (value ≡ name_with_zero_byte e.name) × (parts ≡ before_name e)
