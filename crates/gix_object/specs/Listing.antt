@@ -1,27 +1,12 @@
--- Lists of files, and the table of trees that a list of ids and trees makes.
-use Rattle.std.specs.Prelude.{◌≡◌, ◌≢◌, ◌⊎◌, ℕ, List, [], ◌∷◌, IsFalse, Option, Some, None}
+-- The table of trees that a list of ids and trees makes.
+use Rattle.std.specs.Prelude.{◌≡◌, ◌≢◌, ◌⊎◌, List, [], ◌∷◌, IsFalse, Option, Some, None}
 use Rattle.gixobj_base.specs.Entries.{EntryView}
 use Rattle.gixobj_base.specs.Hash.{id_of}
 use Rattle.gixobj_base.specs.ids.hash.kind.Kind.{Kind}
 use Rattle.gixobj_base.specs.ids.hash.object_id.ObjectId.{ObjectId}
 use Rattle.gixobj_base.specs.ids.kind.Kind.TheVariants.{Tree}
-use Rattle.gix_object.specs.Files.{FileSet, Path, Table, is_null}
+use Rattle.gix_object.specs.Files.{Table, is_null}
 use Rattle.gix_object.specs.HandingOut.{Pair}
-
--- a file as contracts see it
-pub record FileView : Type 0 where
-  pub path : Path
-  pub mode : ℕ
-  pub id : ObjectId
-
--- the files of a list
-abbrev pub Lists : List FileView → FileSet
-Lists [] path mode id = ⊥
-Lists (file ∷ files) path mode id = ((path ≡ file.path) × (mode ≡ file.mode) × (id ≡ file.id)) ⊎ Lists files path mode id
-
--- the file with a name in front of its path
-abbrev pub in_front : List ℕ → FileView → FileView
-in_front name file = record { path = name ∷ file.path; mode = file.mode; id = file.id }
 
 -- what the first pair of this id has, and nothing where there is none
 abbrev pub IsFirst : List Pair → ObjectId → Option (List EntryView) → Type 0

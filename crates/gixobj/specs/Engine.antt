@@ -1,6 +1,7 @@
 -- A run of the program: what it reads, what it writes, and its status.
 use Rattle.std.specs.Prelude.{◌≡◌, ◌⊎◌, ℕ, List, Option}
-use Rattle.std.specs.Io.KnownBytes.{Appends, Consumes, IsAtEnd}
+use Rattle.std.specs.Io.KnownBytes.{Consumes, IsAtEnd}
+use Rattle.gixobj_base.specs.Streams.{Puts, PutsFront, SinkView}
 use Rattle.gixobj_base.specs.ids.hash.kind.Kind as hash
 use Rattle.gixobj_base.specs.ids.hash.object_id.ObjectId.{ObjectId}
 use Rattle.gixobj_base.specs.ids.kind.Kind.{Kind}
@@ -23,21 +24,31 @@ IsAnswer words input line =
 abbrev pub Asks : List (List ℕ) → Type 0
 Asks words = (hash : hash.Kind) × AsksToShow words hash
 
--- the input was read to its end, and the line that answers was written
-abbrev pub Answered : List (List ℕ) → Option (List ℕ) → Option (List ℕ) → Option (List ℕ) → Option (List ℕ) → Type 0
-Answered words rest rest' held held' =
-    (input line : List ℕ) × ReadsAll rest rest' input × IsAnswer words input line × Appends held held' line
+-- the input was read to its end, and the line that answers was put
+abbrev pub Answered : List (List ℕ) → Option (List ℕ) → Option (List ℕ) → SinkView → SinkView → Type 0
+Answered words rest rest' out out' =
+    (input line : List ℕ) × ReadsAll rest rest' input × IsAnswer words input line × Puts out out' line
 
--- why there is no answer. The input may fail, and the output may refuse a line, as far as the two facts say
-abbrev pub Refuses : List (List ℕ) → Option (List ℕ) → Option (List ℕ) → Type 0 → (List ℕ → Type 0) → Refusal → Type 0
-Refuses words rest rest' may_fail may_refuse Usage = AsksForNothing words
-Refuses words rest rest' may_fail may_refuse InputFailed = Asks words × may_fail
-Refuses words rest rest' may_fail may_refuse OutputFailed =
-    (input line : List ℕ) × ReadsAll rest rest' input × IsAnswer words input line × may_refuse line
-Refuses words rest rest' may_fail may_refuse OutOfMemory = Asks words
-Refuses words rest rest' may_fail may_refuse BadHeader = Asks words × (input : List ℕ) × ReadsAll rest rest' input × HasNoHeader input
-Refuses words rest rest' may_fail may_refuse ShortData = Asks words × (input : List ℕ) × ReadsAll rest rest' input × IsShort input
+-- why there is no answer; where the output failed, a front of the line that answers was put
+abbrev pub Refuses : List (List ℕ) → Option (List ℕ) → Option (List ℕ) → Type 0 → SinkView → SinkView → Refusal → Type 0
+Refuses words rest rest' may_fail out out' Usage = AsksForNothing words
+Refuses words rest rest' may_fail out out' InputFailed = Asks words × may_fail
+Refuses words rest rest' may_fail out out' OutputFailed =
+    (input line : List ℕ) × ReadsAll rest rest' input × IsAnswer words input line × PutsFront out out' line
+Refuses words rest rest' may_fail out out' OutOfMemory = Asks words
+Refuses words rest rest' may_fail out out' BadHeader = Asks words × (input : List ℕ) × ReadsAll rest rest' input × HasNoHeader input
+Refuses words rest rest' may_fail out out' ShortData = Asks words × (input : List ℕ) × ReadsAll rest rest' input × IsShort input
 
--- the line was written, or the writer may have refused it
-abbrev pub Told : Option (List ℕ) → Option (List ℕ) → (List ℕ → Type 0) → List ℕ → Type 0
-Told held held' may_refuse line = Appends held held' line ⊎ may_refuse line
+-- nothing was read where the words ask for nothing
+abbrev pub Unread : Type 0 → Refusal → Type 0
+Unread unchanged Usage = unchanged
+Unread unchanged _ = Unit {0}
+
+-- nothing was put on standard output, but where it failed
+abbrev pub Unwritten : Type 0 → Refusal → Type 0
+Unwritten unchanged OutputFailed = Unit {0}
+Unwritten unchanged _ = unchanged
+
+-- the line was put, or a front of it for which there was no room
+abbrev pub Told : SinkView → SinkView → List ℕ → Type 0
+Told errors errors' line = Puts errors errors' line ⊎ PutsFront errors errors' line

@@ -1,8 +1,8 @@
 //! The program, over any reader and any two writers.
 ghost use Rattle.std.specs.Prelude.{◌≡◌, ◌≢◌, map, OnOk, IfErr, ⊤};
-ghost use Rattle.std.specs.Io.KnownBytes.{Keeps};
 ghost use Rattle.std.specs.String.{string_bytes};
-ghost use Rattle.gixobj.specs.Engine.{Answered, Refuses, Told};
+ghost use Rattle.gixobj.specs.Engine.{Answered, Refuses, Told, Unread, Unwritten};
+ghost use Rattle.gixobj_base.specs.Streams.{writer_view};
 ghost use Rattle.gixobj.specs.Refusal.{line_of, status_of};
 ghost use Rattle.gixobj.specs.declared.refusal.Refusal.{Refusal};
 
@@ -30,10 +30,12 @@ pub fn engine<R: Read, O: Write, E: Write>(
     output: &mut O,
     errors: &mut E,
 ) -> u8
-    ensures answer { result ≡ 0 → Answered (map string_bytes words.now) (R.remaining input.old) (R.remaining input.new) (O.contents output.old) (O.contents output.new) }
-    ensures no_error { result ≡ 0 → Keeps (E.contents errors.old) (E.contents errors.new) }
+    ensures answer { result ≡ 0 → Answered (map string_bytes words.now) (R.remaining input.old) (R.remaining input.new) (writer_view (O.contents output.old)) (writer_view (O.contents output.new)) }
+    ensures no_error { result ≡ 0 → errors.new ≡ errors.old }
     ensures refusal { result ≢ 0 → (refusal : Refusal) × (result ≡ status_of refusal)
-        × Refuses (map string_bytes words.now) (R.remaining input.old) (R.remaining input.new) ⊤ (λ _. ⊤) refusal }
+        × Refuses (map string_bytes words.now) (R.remaining input.old) (R.remaining input.new) ⊤ (writer_view (O.contents output.old)) (writer_view (O.contents output.new)) refusal
+        × Told (writer_view (E.contents errors.old)) (writer_view (E.contents errors.new)) (line_of refusal)
+        × Unread (input.new ≡ input.old) refusal × Unwritten (output.new ≡ output.old) refusal }
 {
     run(
         alloc,
@@ -53,11 +55,12 @@ pub fn run<S: Source, O: Sink, E: Sink>(
     output: &mut O,
     errors: &mut E,
 ) -> u8
-    ensures answer { result ≡ 0 → Answered (map string_bytes words.now) (S.rest input.old) (S.rest input.new) (O.held output.old) (O.held output.new) }
+    ensures answer { result ≡ 0 → Answered (map string_bytes words.now) (S.rest input.old) (S.rest input.new) (O.view output.old) (O.view output.new) }
     ensures no_error { result ≡ 0 → errors.new ≡ errors.old }
     ensures refusal { result ≢ 0 → (refusal : Refusal) × (result ≡ status_of refusal)
-        × Refuses (map string_bytes words.now) (S.rest input.old) (S.rest input.new) (S.may_fail input.old) (O.may_refuse output.old) refusal
-        × Told (E.held errors.old) (E.held errors.new) (E.may_refuse errors.old) (line_of refusal) }
+        × Refuses (map string_bytes words.now) (S.rest input.old) (S.rest input.new) (S.may_fail input.old) (O.view output.old) (O.view output.new) refusal
+        × Told (E.view errors.old) (E.view errors.new) (line_of refusal)
+        × Unread (input.new ≡ input.old) refusal × Unwritten (output.new ≡ output.old) refusal }
     ensures same_loans { (S.loan input.new ≡ S.loan input.old) × (O.loan output.new ≡ O.loan output.old) × (E.loan errors.new ≡ E.loan errors.old) }
 {
     match answer(alloc, words, input, output) {
@@ -73,8 +76,10 @@ fn answer<S: Source, O: Sink>(
     input: &mut S,
     output: &mut O,
 ) -> Result<(), Refusal>
-    ensures answer { OnOk result (Answered (map string_bytes words.now) (S.rest input.old) (S.rest input.new) (O.held output.old) (O.held output.new)) }
-    ensures refusal { IfErr result (Refuses (map string_bytes words.now) (S.rest input.old) (S.rest input.new) (S.may_fail input.old) (O.may_refuse output.old)) }
+    ensures answer { OnOk result (Answered (map string_bytes words.now) (S.rest input.old) (S.rest input.new) (O.view output.old) (O.view output.new)) }
+    ensures refusal { IfErr result (Refuses (map string_bytes words.now) (S.rest input.old) (S.rest input.new) (S.may_fail input.old) (O.view output.old) (O.view output.new)) }
+    ensures unread { IfErr result (Unread (input.new ≡ input.old)) }
+    ensures unwritten { IfErr result (Unwritten (output.new ≡ output.old)) }
     ensures same_loans { (S.loan input.new ≡ S.loan input.old) × (O.loan output.new ≡ O.loan output.old) }
 {
     let Some(hash) = show_hash(words) else {
@@ -91,7 +96,7 @@ fn answer<S: Source, O: Sink>(
 /// Says what is wrong, and answers the exit status. Where that can't be said, the status alone says it.
 pub fn tell<E: Sink>(refusal: Refusal, errors: &mut E) -> u8
     ensures status { result ≡ status_of refusal }
-    ensures told { Told (E.held errors.old) (E.held errors.new) (E.may_refuse errors.old) (line_of refusal) }
+    ensures told { Told (E.view errors.old) (E.view errors.new) (line_of refusal) }
     ensures same_loan { E.loan errors.new ≡ E.loan errors.old }
 {
     let _ = errors.put(refusal.line());

@@ -1,5 +1,6 @@
 //! `show`: the kind, the size and the id of a loose object.
-ghost use Rattle.std.specs.Prelude.{◌≡◌, IfOk, IfErr};
+ghost use Rattle.std.specs.Prelude.{◌≡◌, ◌≤◌, ◌<◌, ◌+◌, IfOk, IfErr, IfSome, IfNone, drop, length, take};
+ghost use Rattle.gixobj_base.specs.Decode.{HasLooseHeader};
 ghost use Rattle.gixobj.specs.Show.{IsObject, RefusesObject, show_line};
 
 #[cfg(test)]
@@ -34,17 +35,40 @@ pub fn show(alloc: Global, hash: hash::Kind, input: &[u8]) -> Result<Shown, Refu
     ensures found { IfOk result (λ shown. IsObject hash input.now shown.kind shown.size shown.id) }
     ensures refusal { IfErr result (RefusesObject input.now) }
 {
-    let (kind, size, used) = match loose_header(alloc, input) {
-        Ok(header) => header,
-        Err(LooseHeaderDecodeError::OutOfMemory) => return Err(Refusal::OutOfMemory),
-        Err(_) => return Err(Refusal::BadHeader),
-    };
+    let (kind, size, used) = header_of(alloc, input)?;
+    match content_of(input, size, used) {
+        Some(content) => Ok(Shown {
+            kind,
+            size,
+            id: compute_hash(hash, kind, content),
+        }),
+        None => Err(Refusal::ShortData),
+    }
+}
+
+/// The loose header that the input begins with: the kind, the size, and how many bytes it takes.
+fn header_of(alloc: Global, input: &[u8]) -> Result<(Kind, u64, usize), Refusal>
+    ensures found { IfOk result (λ header. HasLooseHeader input.now header.0 header.1 header.2) }
+    ensures refusal { IfErr result (RefusesObject input.now) }
+{
+    match loose_header(alloc, input) {
+        Ok(header) => Ok(header),
+        Err(LooseHeaderDecodeError::OutOfMemory) => Err(Refusal::OutOfMemory),
+        Err(_) => Err(Refusal::BadHeader),
+    }
+}
+
+/// The content of this size behind a header of so many bytes, or none where fewer bytes follow.
+fn content_of(input: &[u8], size: u64, used: usize) -> Option<&[u8]>
+    requires { used ≤ length input.now }
+    ensures found { IfSome result (λ content. (used + size ≤ length input.now) × (content.now ≡ take size (drop used input.now))) }
+    ensures none { IfNone result (length input.now < used + size) }
+{
     let rest = &input[used..];
     if size > rest.len() as u64 {
-        return Err(Refusal::ShortData);
+        return None;
     }
-    let id = compute_hash(hash, kind, &rest[..size as usize]);
-    Ok(Shown { kind, size, id })
+    Some(&rest[..size as usize])
 }
 
 impl Shown {

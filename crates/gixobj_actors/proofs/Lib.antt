@@ -1,3 +1,4 @@
 pub mod ActorLines
 mod ActorTexts
 mod TimeTexts
+pub mod SignatureFields

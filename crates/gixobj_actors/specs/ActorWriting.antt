@@ -33,11 +33,11 @@ IsLegal actor = IsLegalActor (bstring_bytes actor.name) (bstring_bytes actor.ema
 abbrev pub IsIllegal : Signature → Type 0
 IsIllegal actor = IsIllegalActor (bstring_bytes actor.name) (bstring_bytes actor.email)
 
--- why an actor is not written: it cannot be, and nothing is written; or the writer may refuse it
+-- why an actor is not written: it cannot be, and all is unchanged; or there was no room, and a front of it was put
 abbrev pub RefusesActor : List ℕ → List ℕ → Type 0 → Type 0 → Error → Type 0
-RefusesActor name email unchanged may_refuse IllegalActor = IsIllegalActor name email × unchanged
-RefusesActor name email unchanged may_refuse (Writer error) = IsLegalActor name email × may_refuse
-RefusesActor name email unchanged may_refuse other = ⊥
+RefusesActor name email unchanged puts_front IllegalActor = IsIllegalActor name email × unchanged
+RefusesActor name email unchanged puts_front (Writer error) = IsLegalActor name email × puts_front
+RefusesActor name email unchanged puts_front other = ⊥
 
 -- an actor is refused behind the name of its field and a space
 abbrev pub RefusesSignature : List ℕ → Signature → Refused → List ℕ → Type 0

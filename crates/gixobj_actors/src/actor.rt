@@ -1,6 +1,6 @@
 //! Actors: who made an object, and when (`git-commit-tree`, "Commit Information"; `git-fast-import`,
 //! "author" and "committer").
-ghost use Rattle.std.specs.Prelude.{◌≡◌, ◌<◌, ◌+◌, ◌-◌, ◌*◌, ◌^◌, ◌++◌, ℕ, List, length, IfErr, IfNone, IfOk, IfSome, MatchBool, OnErr, OnOk, ⊤};
+ghost use Rattle.std.specs.Prelude.{◌≡◌, ◌<◌, ◌+◌, ◌-◌, ◌*◌, ◌^◌, ◌++◌, ℕ, List, length, IfErr, IfNone, IfOk, IfSome, MatchBool, OnErr, OnOk};
 ghost use Rattle.std.specs.Io.KnownBytes.{Appends};
 ghost use Rattle.std.specs.List.{AllPass};
 ghost use Rattle.std.specs.Option.{SomeIff};
@@ -9,13 +9,13 @@ ghost use Rattle.bstr.specs.Owned.{bstring_bytes};
 ghost use Rattle.gixobj_actors.specs.Actor.{EndsTime, IsActorLine, IsGap, IsNameOf, IsNoActorLine, IsTimeOrDefault, IsWritable, HasIllegalByte, actor_text, is_time_byte as is_time_byte_of, trimmed};
 ghost use Rattle.gixobj_actors.specs.ActorWriting.{IsIllegalActor, IsLegalActor, RefusesActor, borrowed_text, owned_text};
 ghost use Rattle.gixobj_actors.specs.Date.{IsNoTimeText, IsTimeText, time_text};
-ghost use Rattle.gixobj_fields.specs.Writing.{Lasts, MayRefuse};
+ghost use Rattle.gixobj_fields.specs.Streams.{Puts, PutsFront, writer_view};
 ghost use Rattle.gixobj_ids.specs.declared.decode.Error.TheVariants.{Malformed};
 
 use crate::date::{Time, TimeBuf, parse_header};
 use bstr::{BStr, BString, ByteSlice};
 use gixobj_fields::encode::Error;
-use gixobj_fields::streams::{Sink, ToWrite};
+use gixobj_fields::streams::{Sink, ToWrite, put_parts};
 use gixobj_ids::decode;
 use gixobj_ids::parse::{has_byte, split_at_byte, split_at_last_byte};
 use std::alloc::{AllocError, Global};
@@ -143,7 +143,8 @@ impl SignatureRef<'_> {
     pub fn write_to<W: Write>(&self, out: &mut W) -> Result<(), Error>
         ensures ok { OnOk result (IsLegalActor (bstr_bytes self.now.name) (bstr_bytes self.now.email)
             × Appends (W.contents out.old) (W.contents out.new) (borrowed_text self.now)) }
-        ensures refusal { IfErr result (RefusesActor (bstr_bytes self.now.name) (bstr_bytes self.now.email) (out.new ≡ out.old) ⊤) }
+        ensures refusal { IfErr result (RefusesActor (bstr_bytes self.now.name) (bstr_bytes self.now.email) (out.new ≡ out.old)
+            (PutsFront (writer_view (W.contents out.old)) (writer_view (W.contents out.new)) (borrowed_text self.now))) }
     {
         self.write_into(&mut ToWrite(out))
     }
@@ -151,10 +152,9 @@ impl SignatureRef<'_> {
     /// Puts what [`SignatureRef::write_to`] writes into a sink, and refuses it as that does.
     pub fn write_into<S: Sink>(&self, sink: &mut S) -> Result<(), Error>
         ensures ok { OnOk result (IsLegalActor (bstr_bytes self.now.name) (bstr_bytes self.now.email)
-            × Appends (S.held sink.old) (S.held sink.new) (borrowed_text self.now)) }
+            × Puts (S.view sink.old) (S.view sink.new) (borrowed_text self.now)) }
         ensures refusal { IfErr result (RefusesActor (bstr_bytes self.now.name) (bstr_bytes self.now.email) (sink.new ≡ sink.old)
-            (MayRefuse (S.may_refuse sink.old) (borrowed_text self.now))) }
-        ensures lasting { OnOk result (Lasts (S.may_refuse sink.old) (S.may_refuse sink.new) (borrowed_text self.now)) }
+            (PutsFront (S.view sink.old) (S.view sink.new) (borrowed_text self.now))) }
         ensures same_loan { S.loan sink.new ≡ S.loan sink.old }
     {
         if !self.is_legal() {
@@ -193,7 +193,8 @@ impl Signature {
     pub fn write_to<W: Write>(&self, out: &mut W) -> Result<(), Error>
         ensures ok { OnOk result (IsLegalActor (bstring_bytes self.now.name) (bstring_bytes self.now.email)
             × Appends (W.contents out.old) (W.contents out.new) (owned_text self.now)) }
-        ensures refusal { IfErr result (RefusesActor (bstring_bytes self.now.name) (bstring_bytes self.now.email) (out.new ≡ out.old) ⊤) }
+        ensures refusal { IfErr result (RefusesActor (bstring_bytes self.now.name) (bstring_bytes self.now.email) (out.new ≡ out.old)
+            (PutsFront (writer_view (W.contents out.old)) (writer_view (W.contents out.new)) (owned_text self.now))) }
     {
         let mut time_buf = TimeBuf::new();
         self.to_ref(&mut time_buf).write_to(out)
@@ -202,10 +203,9 @@ impl Signature {
     /// Puts what [`Signature::write_to`] writes into a sink, and refuses it as that does.
     pub fn write_into<S: Sink>(&self, sink: &mut S) -> Result<(), Error>
         ensures ok { OnOk result (IsLegalActor (bstring_bytes self.now.name) (bstring_bytes self.now.email)
-            × Appends (S.held sink.old) (S.held sink.new) (owned_text self.now)) }
+            × Puts (S.view sink.old) (S.view sink.new) (owned_text self.now)) }
         ensures refusal { IfErr result (RefusesActor (bstring_bytes self.now.name) (bstring_bytes self.now.email) (sink.new ≡ sink.old)
-            (MayRefuse (S.may_refuse sink.old) (owned_text self.now))) }
-        ensures lasting { OnOk result (Lasts (S.may_refuse sink.old) (S.may_refuse sink.new) (owned_text self.now)) }
+            (PutsFront (S.view sink.old) (S.view sink.new) (owned_text self.now))) }
         ensures same_loan { S.loan sink.new ≡ S.loan sink.old }
     {
         let mut time_buf = TimeBuf::new();
@@ -230,16 +230,11 @@ fn is_writable(text: &[u8]) -> bool
 
 /// Writes an actor, whatever its bytes are.
 fn put_actor<S: Sink>(name: &[u8], email: &[u8], time: &[u8], sink: &mut S) -> io::Result<()>
-    ensures ok { OnOk result (Appends (S.held sink.old) (S.held sink.new) (actor_text name.now email.now time.now)) }
-    ensures err { OnErr result (MayRefuse (S.may_refuse sink.old) (actor_text name.now email.now time.now)) }
-    ensures lasting { OnOk result (Lasts (S.may_refuse sink.old) (S.may_refuse sink.new) (actor_text name.now email.now time.now)) }
+    ensures ok { OnOk result (Puts (S.view sink.old) (S.view sink.new) (actor_text name.now email.now time.now)) }
+    ensures err { OnErr result (PutsFront (S.view sink.old) (S.view sink.new) (actor_text name.now email.now time.now)) }
     ensures same_loan { S.loan sink.new ≡ S.loan sink.old }
 {
-    sink.put(name)?;
-    sink.put(b" <")?;
-    sink.put(email)?;
-    sink.put(b"> ")?;
-    sink.put(time)
+    put_parts(&[name, b" <", email, b"> ", time], sink)
 }
 
 /// How many bytes an actor takes, or none past 64 bits.

@@ -1,14 +1,14 @@
 //! Header fields of actors, written (gitdatamodel, "commits").
 ghost use Rattle.std.specs.Prelude.{◌<◌, ◌+◌, ◌^◌, ◌≡◌, length, IfErr, OnOk};
-ghost use Rattle.std.specs.Io.KnownBytes.{Appends};
 ghost use Rattle.std.specs.Option.{SomeIff};
 ghost use Rattle.gixobj_fields.specs.HeaderText.{field_text};
-ghost use Rattle.gixobj_fields.specs.Writing.{Lasts, MayRefuse, SaysWhy};
+ghost use Rattle.gixobj_fields.specs.Streams.{Puts};
+ghost use Rattle.gixobj_fields.specs.Writing.{SaysWhy};
 ghost use Rattle.gixobj_actors.specs.ActorWriting.{IsLegal, RefusesSignature, owned_text};
 
 use crate::actor::Signature;
 use gixobj_fields::encode::Error;
-use gixobj_fields::streams::Sink;
+use gixobj_fields::streams::{Sink, put_parts};
 
 /// Puts the field of an actor, which is refused behind the name and a space where it is illegal.
 pub fn trusted_header_signature<S: Sink>(
@@ -16,14 +16,12 @@ pub fn trusted_header_signature<S: Sink>(
     actor: &Signature,
     sink: &mut S,
 ) -> Result<(), Error>
-    ensures written { OnOk result (Appends (S.held sink.old) (S.held sink.new) (field_text name.now (owned_text actor.now))) }
+    ensures written { OnOk result (Puts (S.view sink.old) (S.view sink.new) (field_text name.now (owned_text actor.now))) }
     ensures legal { OnOk result (IsLegal actor.now) }
-    ensures lasting { OnOk result (Lasts (S.may_refuse sink.old) (S.may_refuse sink.new) (field_text name.now (owned_text actor.now))) }
-    ensures refusal { IfErr result (SaysWhy (RefusesSignature name.now actor.now) (S.held sink.old) (S.held sink.new) (MayRefuse (S.may_refuse sink.old) (field_text name.now (owned_text actor.now)))) }
+    ensures refusal { IfErr result (SaysWhy (RefusesSignature name.now actor.now) (S.view sink.old) (S.view sink.new) (field_text name.now (owned_text actor.now))) }
     ensures same_loan { S.loan sink.new ≡ S.loan sink.old }
 {
-    sink.put(name)?;
-    sink.put(b" ")?;
+    put_parts(&[name, b" "], sink)?;
     actor.write_into(sink)?;
     sink.put(b"\n")?;
     Ok(())

@@ -1,6 +1,8 @@
 //! Blobs.
 
-use gixobj_base::{Blob, BlobRef};
+use crate::limited::Limited;
+use gixobj_base::encode::Error;
+use gixobj_base::{Blob, BlobRef, Kind, WriteTo};
 use std::alloc::AllocError;
 use std::test::Fail;
 
@@ -21,5 +23,29 @@ fn a_blob_borrowed_and_owned(rt: HostRuntime) -> Result<(), Fail> {
             bytes: Vec::new(rt.alloc())
         } < copy
     );
+    Ok(())
+}
+
+#[test]
+fn an_owned_blob_written(rt: HostRuntime) -> Result<(), Fail> {
+    let alloc = rt.alloc();
+    let owned = BlobRef::from_bytes(b"hello").into_owned(alloc)?;
+    assert!(rt; owned.kind() == Kind::Blob);
+    assert!(rt; owned.size() == Some(5));
+    let mut out = Vec::new(alloc);
+    owned.write_to(alloc, &mut out)?;
+    assert!(rt; out.as_slice() == b"hello".as_slice());
+    Ok(())
+}
+
+/// A writer that takes so many bytes and then fails holds exactly those.
+#[test]
+fn a_writer_that_fails(rt: HostRuntime) -> Result<(), Fail> {
+    let alloc = rt.alloc();
+    let owned = BlobRef::from_bytes(b"hello").into_owned(alloc)?;
+    let held = Vec::with_capacity(alloc, 5)?;
+    let mut writer = Limited { held, room: 4 };
+    assert!(rt; matches!(&owned.write_to(alloc, &mut writer), Err(Error::Writer(_))));
+    assert!(rt; writer.held.as_slice() == b"hell".as_slice());
     Ok(())
 }

@@ -19,6 +19,8 @@ pub mod limited;
 #[cfg(test)]
 mod parse;
 #[cfg(test)]
+mod public_paths;
+#[cfg(test)]
 mod streams;
 #[cfg(test)]
 mod traits;

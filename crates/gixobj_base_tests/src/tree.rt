@@ -36,6 +36,8 @@ fn odd_mode_texts(rt: HostRuntime) {
         b"100648 a",
         b"-40000 a",
         b"+40000",
+        b" a\0\x01\x01\x01\x20\x01",
+        b"12345677 a\0",
     ] {
         assert!(rt; EntryMode::from_bytes(text).is_none(), "{text:?}");
         assert!(rt; EntryMode::extract_from_bytes(text).is_none(), "{text:?}");
@@ -101,31 +103,64 @@ const KINDS: [(EntryKind, u16, &str, &str); 5] = [
 
 #[test]
 fn kinds_and_their_modes(rt: HostRuntime) {
-    let mut buffer = [0; 6];
-    for (kind, value, word, text) in KINDS {
+    for (kind, value, word, _) in KINDS {
         let mode = EntryMode::from(kind);
         assert!(rt; EntryKind::from(mode) == kind, "{word}");
         assert!(rt; mode.kind() == kind, "{word}");
         assert_eq!(rt; mode.value(), value);
         assert_eq!(rt; mode.as_str(), word);
+    }
+}
+
+#[test]
+fn texts_of_kinds(rt: HostRuntime) {
+    let mut buffer = [0; 6];
+    for (kind, _, word, text) in KINDS {
+        let mode = EntryMode::from(kind);
         assert!(rt; kind.as_octal_str().as_bytes() == text.as_bytes(), "{word}");
         assert!(rt;
             mode.as_bytes(&mut buffer).as_bytes() == text.as_bytes(),
             "{word}"
         );
-        assert!(rt; mode.is_tree() == (word == "tree"), "{word}");
-        assert!(rt; mode.is_no_tree() == (word != "tree"), "{word}");
-        assert!(rt; mode.is_link() == (word == "link"), "{word}");
-        assert!(rt;
-            mode.is_blob() == (word == "blob" || word == "exe"),
-            "{word}"
-        );
-        assert!(rt; mode.is_commit() == (word == "commit"), "{word}");
-        assert!(rt; mode.is_executable() == (word == "exe"), "{word}");
-        assert!(rt;
-            mode.is_blob_or_symlink() == (word != "tree" && word != "commit"),
-            "{word}"
-        );
+    }
+}
+
+/// A kind's word, and whether it is a tree, is none, is a link and is a file.
+const TYPES: [(EntryKind, &str, bool, bool, bool, bool); 5] = [
+    (EntryKind::Tree, "tree", true, false, false, false),
+    (EntryKind::Blob, "blob", false, true, false, true),
+    (EntryKind::BlobExecutable, "exe", false, true, false, true),
+    (EntryKind::Link, "link", false, true, true, false),
+    (EntryKind::Commit, "commit", false, true, false, false),
+];
+
+#[test]
+fn trees_links_and_files(rt: HostRuntime) {
+    for (kind, word, tree, no_tree, link, blob) in TYPES {
+        let mode = EntryMode::from(kind);
+        assert!(rt; mode.is_tree() == tree, "{word}");
+        assert!(rt; mode.is_no_tree() == no_tree, "{word}");
+        assert!(rt; mode.is_link() == link, "{word}");
+        assert!(rt; mode.is_blob() == blob, "{word}");
+    }
+}
+
+/// A kind's word, and whether it is a submodule, may be run, and is a file or a link.
+const USES: [(EntryKind, &str, bool, bool, bool); 5] = [
+    (EntryKind::Tree, "tree", false, false, false),
+    (EntryKind::Blob, "blob", false, false, true),
+    (EntryKind::BlobExecutable, "exe", false, true, true),
+    (EntryKind::Link, "link", false, false, true),
+    (EntryKind::Commit, "commit", true, false, false),
+];
+
+#[test]
+fn submodules_and_programs(rt: HostRuntime) {
+    for (kind, word, commit, executable, blob_or_symlink) in USES {
+        let mode = EntryMode::from(kind);
+        assert!(rt; mode.is_commit() == commit, "{word}");
+        assert!(rt; mode.is_executable() == executable, "{word}");
+        assert!(rt; mode.is_blob_or_symlink() == blob_or_symlink, "{word}");
     }
 }
 
@@ -151,29 +186,29 @@ fn near_names(rt: HostRuntime) {
 }
 
 /// Each entry comes before the next one.
-#[test]
-fn entries_in_order(rt: HostRuntime) -> Result<(), Fail> {
-    let alloc = rt.alloc();
+fn ascending(alloc: Global) -> Result<Tree, AllocError> {
     let null = ObjectId::null(Kind::Sha1);
     let empty = ObjectId::empty_blob(Kind::Sha1);
+    let rows: [(EntryKind, &[u8], ObjectId); 8] = [
+        (EntryKind::Blob, b"a", null),
+        (EntryKind::Blob, b"a", empty),
+        (EntryKind::BlobExecutable, b"a", null),
+        (EntryKind::Blob, b"a.b", null),
+        (EntryKind::Tree, b"a", null),
+        (EntryKind::Blob, b"a/", null),
+        (EntryKind::Blob, b"a/x", null),
+        (EntryKind::Blob, b"a0", null),
+    ];
     let mut tree = Tree::empty(alloc);
-    assert!(rt; tree.entries.is_empty());
-    tree.entries
-        .push(entry(alloc, EntryKind::Blob, b"a", null)?)?;
-    tree.entries
-        .push(entry(alloc, EntryKind::Blob, b"a", empty)?)?;
-    tree.entries
-        .push(entry(alloc, EntryKind::BlobExecutable, b"a", null)?)?;
-    tree.entries
-        .push(entry(alloc, EntryKind::Blob, b"a.b", null)?)?;
-    tree.entries
-        .push(entry(alloc, EntryKind::Tree, b"a", null)?)?;
-    tree.entries
-        .push(entry(alloc, EntryKind::Blob, b"a/", null)?)?;
-    tree.entries
-        .push(entry(alloc, EntryKind::Blob, b"a/x", null)?)?;
-    tree.entries
-        .push(entry(alloc, EntryKind::Blob, b"a0", null)?)?;
+    for (kind, name, oid) in rows {
+        tree.entries.push(entry(alloc, kind, name, oid)?)?;
+    }
+    Ok(tree)
+}
+
+#[test]
+fn entries_in_order(rt: HostRuntime) -> Result<(), Fail> {
+    let tree = ascending(rt.alloc())?;
     for (at, first) in tree.entries.iter().enumerate() {
         for (other_at, second) in tree.entries.iter().enumerate() {
             assert!(rt; first.cmp(second) == at.cmp(&other_at), "{at} {other_at}");
@@ -181,6 +216,16 @@ fn entries_in_order(rt: HostRuntime) -> Result<(), Fail> {
                 first.partial_cmp(second) == Some(at.cmp(&other_at)),
                 "{at} {other_at}"
             );
+        }
+    }
+    Ok(())
+}
+
+#[test]
+fn entries_are_like_themselves_alone(rt: HostRuntime) -> Result<(), Fail> {
+    let tree = ascending(rt.alloc())?;
+    for (at, first) in tree.entries.iter().enumerate() {
+        for (other_at, second) in tree.entries.iter().enumerate() {
             assert!(rt; (first == second) == (at == other_at), "{at} {other_at}");
             assert!(rt;
                 (hash_of(first) == hash_of(second)) == (at == other_at),

@@ -7,3 +7,5 @@ mod commit;
 mod data;
 #[cfg(test)]
 mod laws;
+#[cfg(test)]
+mod public_paths;

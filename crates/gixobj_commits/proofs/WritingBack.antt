@@ -8,6 +8,7 @@ use Rattle.bstr.specs.Owned.{bstring_bytes}
 use Rattle.gixobj_actors.specs.ActorWriting.{IsIllegal, owned_text}
 use Rattle.gixobj_ids.specs.Hash.{Spells, hex_text}
 use Rattle.gixobj_fields.specs.HeaderText.{Header}
+use Rattle.gixobj_fields.specs.Streams.{SinkView}
 use Rattle.gixobj_fields.specs.Writing.{Refused, SaysWhy, bad_name, empty_header, header_with_newline, illegal_actor, name_with_dash, name_with_zero_byte}
 use Rattle.gixobj_ids.specs.declared.decode.Error as decode
 use Rattle.gixobj_ids.specs.declared.decode.Error.TheVariants.{Malformed, OutOfMemory}
@@ -81,22 +82,22 @@ its_encoding : (lines : CommitLines) → WhatIsRefused lines empty_header → Ha
 its_encoding lines (inl (is, actor)) = cc
 its_encoding lines (inr (is, encoding)) = encoding
 
-pub refused_owned : (kind : Kind) (bytes : List ℕ) (lines : CommitLines) (commit : Commit) (a b : Option (List ℕ)) (F : Type 0) (why : Error) → IsCommitText kind bytes lines → IsOwnedForm lines commit
-    → SaysWhy (RefusesOwned commit) a b F why → RefusesOwnBack kind bytes (Write why)
-refused_owned kind bytes lines commit a b F (encode.Writer cause) read own says = tt
-refused_owned kind bytes lines commit a b F encode.IllegalActor read own (parts, refused, appends) = (lines, read, its_actor lines (what_is_refused kind bytes lines commit illegal_actor parts read own refused))
-refused_owned kind bytes lines commit a b F encode.EmptyValue read own (parts, refused, appends) = (lines, read, its_encoding lines (what_is_refused kind bytes lines commit empty_header parts read own refused))
-refused_owned kind bytes lines commit a b F (encode.NewlineInHeaderValue value) read own (parts, refused, appends) =
+pub refused_owned : (kind : Kind) (bytes : List ℕ) (lines : CommitLines) (commit : Commit) (a b : SinkView) (text : List ℕ) (why : Error) → IsCommitText kind bytes lines → IsOwnedForm lines commit
+    → SaysWhy (RefusesOwned commit) a b text why → RefusesOwnBack kind bytes (Write why)
+refused_owned kind bytes lines commit a b text (encode.Writer cause) read own says = tt
+refused_owned kind bytes lines commit a b text encode.IllegalActor read own (parts, refused, appends) = (lines, read, its_actor lines (what_is_refused kind bytes lines commit illegal_actor parts read own refused))
+refused_owned kind bytes lines commit a b text encode.EmptyValue read own (parts, refused, appends) = (lines, read, its_encoding lines (what_is_refused kind bytes lines commit empty_header parts read own refused))
+refused_owned kind bytes lines commit a b text (encode.NewlineInHeaderValue value) read own (parts, refused, appends) =
     no_other lines _ (what_is_refused kind bytes lines commit (header_with_newline (bstring_bytes value)) parts read own refused) (λ e. cc) (λ e. cc)
-refused_owned kind bytes lines commit a b F encode.StartsWithDash read own (parts, refused, appends) =
+refused_owned kind bytes lines commit a b text encode.StartsWithDash read own (parts, refused, appends) =
     no_other lines _ (what_is_refused kind bytes lines commit name_with_dash parts read own refused) (λ e. cc) (λ e. cc)
-refused_owned kind bytes lines commit a b F (encode.InvalidRefName fault) read own (parts, refused, appends) =
+refused_owned kind bytes lines commit a b text (encode.InvalidRefName fault) read own (parts, refused, appends) =
     no_other lines _ (what_is_refused kind bytes lines commit (bad_name fault) parts read own refused) (λ e. cc) (λ e. cc)
-refused_owned kind bytes lines commit a b F (encode.NullbyteInFilename name) read own (parts, refused, appends) =
+refused_owned kind bytes lines commit a b text (encode.NullbyteInFilename name) read own (parts, refused, appends) =
     no_other lines _ (what_is_refused kind bytes lines commit (name_with_zero_byte (bstring_bytes name)) parts read own refused) (λ e. cc) (λ e. cc)
-refused_owned kind bytes lines commit a b F encode.OutOfMemory read own (value, inl (parts, refused, appends)) =
+refused_owned kind bytes lines commit a b text encode.OutOfMemory read own (value, inl (parts, refused, appends)) =
     no_other lines _ (what_is_refused kind bytes lines commit (header_with_newline value) parts read own refused) (λ e. cc) (λ e. cc)
-refused_owned kind bytes lines commit a b F encode.OutOfMemory read own (value, inr (parts, refused, appends)) =
+refused_owned kind bytes lines commit a b text encode.OutOfMemory read own (value, inr (parts, refused, appends)) =
     no_other lines _ (what_is_refused kind bytes lines commit (name_with_zero_byte value) parts read own refused) (λ e. cc) (λ e. cc)
 
 -- a line that is an actor is not none

@@ -9,9 +9,7 @@ use Rattle.std.proofs.lemmas.List.Elements.{All-head, All-tail}
 use Rattle.gixobj_ids.specs.Hash.{is_lower_hex_digit}
 use Rattle.gixobj_fields.specs.HeaderText.{Header, IsHeaderText, field_text, following_text, line_text, value_of_lines}
 use Rattle.gixobj_ids.specs.Parse.{IsFree}
-use Rattle.gixobj_fields.specs.Writing.{FailsOnlyWhere, Refused, RefusesNothing, SaysWhy, StopsAt}
-use Rattle.gixobj_fields.specs.declared.encode.Error.{Error}
-use Rattle.gixobj_fields.specs.declared.encode.Error.TheVariants as error
+use Rattle.gixobj_fields.specs.Writing.{Refused, RefusesNothing}
 use Rattle.gixobj_ids.specs.declared.hash.kind.Kind.{Kind}
 use Rattle.gixobj_fields.proofs.FieldWrites.{holds_none}
 use Rattle.gixobj_fields.proofs.HeadersBack.{header_reads_back}
@@ -61,18 +59,3 @@ encoding_not_refused (Some encoding) headers is some value (inr (has, same)) = h
 pub read_commit_not_refused : (kind : Kind) (text : List ℕ) (commit : CommitLines) → IsCommitText kind text commit → commit.encoding ≢ Some []
     → RefusesNothing (RefusesLines (in_lower_case commit))
 read_commit_not_refused kind text commit it some value parts refused = encoding_not_refused commit.encoding commit.extra_headers it.encoding some value refused.0
-
-none_stops : (R : Refused → List ℕ → Type 0) (before after : Option (List ℕ)) (value : Refused) → RefusesNothing R → StopsAt R before after value → ⊥
-none_stops R before after value none stops = none value stops.0 stops.1
-
--- a writer that refuses nothing fails only where its sink does
-pub fails_as_the_writer : (R : Refused → List ℕ → Type 0) (before after : Option (List ℕ)) (F : Type 0) (why : Error) → RefusesNothing R → SaysWhy R before after F why → FailsOnlyWhere F why
-fails_as_the_writer R before after F (error.Writer cause) none says = says
-fails_as_the_writer R before after F (error.NewlineInHeaderValue value) none says = none_stops R before after _ none says
-fails_as_the_writer R before after F error.EmptyValue none says = none_stops R before after _ none says
-fails_as_the_writer R before after F error.StartsWithDash none says = none_stops R before after _ none says
-fails_as_the_writer R before after F (error.InvalidRefName fault) none says = none_stops R before after _ none says
-fails_as_the_writer R before after F (error.NullbyteInFilename name) none says = none_stops R before after _ none says
-fails_as_the_writer R before after F error.IllegalActor none says = none_stops R before after _ none says
-fails_as_the_writer R before after F error.OutOfMemory none (value, inl says) = none_stops R before after _ none says
-fails_as_the_writer R before after F error.OutOfMemory none (value, inr says) = none_stops R before after _ none says

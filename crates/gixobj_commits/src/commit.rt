@@ -149,15 +149,7 @@ impl CommitRef<'_> {
     {
         let author = actor_of_line(self.author)?;
         let committer = actor_of_line(self.committer)?;
-        Ok(Commit {
-            tree: self.tree(),
-            parents: owned::ids(alloc, self.parents.as_slice())?,
-            author: author.to_owned(alloc)?,
-            committer: committer.to_owned(alloc)?,
-            encoding: owned::encoding(alloc, self.encoding)?,
-            message: BString::from_slice(alloc, self.message.as_bytes())?,
-            extra_headers: owned::headers(alloc, &self.extra_headers)?,
-        })
+        Ok(owned::commit(alloc, &self, author, committer)?)
     }
 
     /// What [`CommitRef::into_owned`] gives.

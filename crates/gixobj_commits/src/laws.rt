@@ -3,7 +3,8 @@
 ghost use Rattle.std.specs.Prelude.{◌≡◌, ◌≢◌, ◌<◌, ◌+◌, ◌++◌, ℕ, All, IfErr, List, [], OnOk, Some, length, vec_capacity, vec_len};
 ghost use Rattle.std.specs.List.{AllPass};
 ghost use Rattle.gixobj_ids.specs.Hash.{is_lower_hex_digit};
-ghost use Rattle.gixobj_fields.specs.Writing.{FailsOnlyWhere, RefusesNothing};
+ghost use Rattle.gixobj_fields.specs.Streams.{list_view};
+ghost use Rattle.gixobj_fields.specs.Writing.{FailsAsSink, RefusesNothing};
 ghost use Rattle.gixobj_ids.specs.declared.hash.kind.Kind.{Kind};
 ghost use Rattle.gixobj_commits.specs.Commit.{CommitLines, IsCommitText};
 ghost use Rattle.gixobj_commits.specs.CommitViews.{commit_lines};
@@ -33,7 +34,7 @@ pub fn commit_writes_back()
 
 /// A commit is written behind the bytes of a list: where it was read from a text, and its ids were in
 /// lower case, the text is written back. Where it was read and its encoding is not empty, it fails only
-/// as `Writer`, and only where the list has no room for the text.
+/// as `Writer`, and only where the list has no room for the text, of which it then holds a front.
 pub fn commit_reads_and_writes(
     alloc: Global,
     commit: &CommitRef<'_>,
@@ -44,7 +45,7 @@ pub fn commit_reads_and_writes(
         AllPass is_lower_hex_digit (commit_lines commit.now).tree → All (λ hex. AllPass is_lower_hex_digit hex) (commit_lines commit.now).parents →
         out.new.items ≡ out.old.items ++ text) }
     ensures refusal { IfErr result (λ error. (kind : Kind) (text : List ℕ) → IsCommitText kind text (commit_lines commit.now) → (commit_lines commit.now).encoding ≢ Some [] →
-        FailsOnlyWhere (vec_capacity out.old < vec_len out.old + length (commit_text (in_lower_case (commit_lines commit.now)))) error) }
+        FailsAsSink (list_view out.old) (list_view out.new) (commit_text (in_lower_case (commit_lines commit.now))) error) }
 {
     match commit.write_to_vec(alloc, out) {
         Ok(()) => Ok(()),

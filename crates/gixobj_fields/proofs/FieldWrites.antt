@@ -1,23 +1,19 @@
 -- Fields as they are written.
 use Rattle.std.proofs.Common.{◌≡◌, ◌≢◌, ◌+◌, ◌<◌, ◌*◌, ℕ, suc, List, [], ◌∷◌, ◌++◌, true, false, Option, Some, None, length, arith, refl, sym, ap, ◌∙◌, inl, inr, append_assoc, length-append}
 use Rattle.std.specs.Prelude.{Contains, ◌==◌}
-use Rattle.std.specs.Io.KnownBytes.{Appends}
 use Rattle.std.proofs.lemmas.Bool.{eqb-true, true≢false}
 use Rattle.std.proofs.lemmas.List.{append-nil}
 use Rattle.std.proofs.lemmas.List.Elements.{All-contains, All-head, All-tail}
 use Rattle.hex.proofs.HexLemmas.{length-encode_with}
 use Rattle.hex.specs.Hex.{lower_digits}
-use Rattle.gixobj_fields.proofs.Refusals.{refused_behind}
 use Rattle.gixobj_ids.specs.Hash.{hex_text, id_bytes}
 use Rattle.gixobj_ids.specs.declared.hash.object_id.ObjectId.{ObjectId}
 use Rattle.gixobj_fields.specs.HeaderText.{field_text, line_text}
 use Rattle.gixobj_ids.specs.Parse.{IsFree, SplitsAt}
-use Rattle.gixobj_fields.specs.Writing.{Lasts, MayRefuse, RefusesNothing}
+use Rattle.gixobj_fields.specs.Streams.{Puts, PutsFront, SinkView}
+use Rattle.gixobj_fields.specs.Writing.{RefusesNothing}
+use Rattle.gixobj_fields.proofs.Puts.{front_within}
 use Rattle.gixobj_fields.specs.FieldWriting.{IsLastLine, RefusesField, folded}
-
-pub appends_nothing : (held : Option (List ℕ)) → Appends held held []
-appends_nothing None = tt
-appends_nothing (Some bytes) = sym (append-nil bytes)
 
 -- a text without the byte does not hold it
 pub holds_none : (byte : ℕ) (text : List ℕ) → IsFree byte text → Contains text byte → ⊥
@@ -80,10 +76,11 @@ pub folded_more : (value front rest line after : List ℕ) → folded value ≡ 
 folded_more value front rest line after so_far one =
     so_far ∙ ap (λ (it : List ℕ). front ++ it) (one ∙ sym (append_assoc line (10 ∷ 32 ∷ []) (folded after))) ∙ sym (append_assoc front (line ++ 10 ∷ 32 ∷ []) (folded after))
 
-pub line_refused : (F G : List ℕ → Type 0) (value front rest line after : List ℕ) → Lasts F G front → folded value ≡ front ++ folded rest → folded rest ≡ line ++ 10 ∷ 32 ∷ folded after
-    → MayRefuse G (line ++ 10 ∷ 32 ∷ []) → MayRefuse F (folded value)
-line_refused F G value front rest line after lasting so_far one refused =
-    rw (folded_more value front rest line after so_far one ∙ append_assoc front (line ++ 10 ∷ 32 ∷ []) (folded after)) (refused_behind F G front (line ++ 10 ∷ 32 ∷ []) (folded after) lasting refused)
+-- a front of one line more is a front of the value
+pub line_front : (a b c : SinkView) (value front rest line after : List ℕ) → Puts a b front → folded value ≡ front ++ folded rest → folded rest ≡ line ++ 10 ∷ 32 ∷ folded after
+    → PutsFront b c (line ++ 10 ∷ 32 ∷ []) → PutsFront a c (folded value)
+line_front a b c value front rest line after put so_far one part =
+    rw (folded_more value front rest line after so_far one, append_assoc front (line ++ 10 ∷ 32 ∷ []) (folded after)) (front_within a b c front (line ++ 10 ∷ 32 ∷ []) (folded after) put part)
 
 -- ---- sizes
 

@@ -3,8 +3,8 @@ use Rattle.std.proofs.Common.{◌≡◌, ℕ, ◌+◌, ◌<◌, ◌≤◌, ◌^�
 use Rattle.std.specs.List.{flat_map}
 use Rattle.std.proofs.lemmas.List.{append-nil, take_all, take_more, take-append-drop, drop_more}
 use Rattle.std.proofs.lemmas.List.Concat.{flat_map-append}
-use Rattle.gixobj_fields.proofs.Refusals.{refused_behind}
-use Rattle.gixobj_fields.specs.Writing.{Lasts, MayRefuse}
+use Rattle.gixobj_fields.proofs.Puts.{front_within}
+use Rattle.gixobj_fields.specs.Streams.{Puts, PutsFront, SinkView}
 
 pub joined_more : {X : Type 0} (text : X → List ℕ) (items : List X) (i : ℕ) (e : X) → i < length items → e ≡ get_or items i e
     → flat_map text (take (i + 1) items) ≡ flat_map text (take i items) ++ text e
@@ -19,11 +19,11 @@ joined_at : {X : Type 0} (text : X → List ℕ) (items : List X) (i : ℕ) (e :
     → flat_map text items ≡ flat_map text (take i items) ++ (text e ++ flat_map text (drop (i + 1) items))
 joined_at text items i e h is = ap (flat_map text) (cut_at items i e h is) ∙ flat_map-append text (take i items) (e ∷ drop (i + 1) items)
 
--- who may refuse an item might have refused them all
-pub item_refused : {X : Type 0} (text : X → List ℕ) (F G : List ℕ → Type 0) (items : List X) (i : ℕ) (e : X) → i < length items → e ≡ get_or items i e
-    → Lasts F G (flat_map text (take i items)) → MayRefuse G (text e) → MayRefuse F (flat_map text items)
-item_refused text F G items i e h is lasting refused =
-    rw (joined_at text items i e h is) (refused_behind F G (flat_map text (take i items)) (text e) (flat_map text (drop (i + 1) items)) lasting refused)
+-- a front of an item is a front of all items
+pub item_front : {X : Type 0} (text : X → List ℕ) (a b c : SinkView) (items : List X) (i : ℕ) (e : X) → i < length items → e ≡ get_or items i e
+    → Puts a b (flat_map text (take i items)) → PutsFront b c (text e) → PutsFront a c (flat_map text items)
+item_front text a b c items i e h is put part =
+    rw (joined_at text items i e h is) (front_within a b c (flat_map text (take i items)) (text e) (flat_map text (drop (i + 1) items)) put part)
 
 -- items are as long as a front of them at least
 pub joined_too_long : {X : Type 0} (text : X → List ℕ) (items : List X) (i : ℕ) (e : X) (start n : ℕ) → i < length items → e ≡ get_or items i e

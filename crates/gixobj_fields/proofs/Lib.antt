@@ -2,5 +2,6 @@ pub mod FieldWrites
 pub mod HeaderFields
 pub mod HeadersBack
 pub mod Joins
+pub mod Puts
 pub mod Refusals
 pub mod Steps

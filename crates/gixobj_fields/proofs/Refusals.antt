@@ -1,47 +1,57 @@
--- What a writer appends and refuses behind what was written before.
-use Rattle.std.proofs.Common.{ℕ, List, ◌++◌, Option, Some, None, append_assoc, inl, inr}
-use Rattle.std.specs.Io.KnownBytes.{Appends}
+-- What an error says of a part, it says of the whole.
+use Rattle.std.proofs.Common.{ℕ, List, ◌++◌, inl, inr}
+use Rattle.gixobj_fields.specs.Streams.{Puts, PutsFront, SinkView}
 use Rattle.gixobj_fields.specs.declared.encode.Error.{Error}
 use Rattle.gixobj_fields.specs.declared.encode.Error.TheVariants as error
-use Rattle.gixobj_fields.specs.Writing.{Lasts, MayRefuse, Refused, SaysWhy, StopsAt}
+use Rattle.gixobj_fields.specs.Writing.{FailsAsSink, Refused, RefusesNothing, SaysWhy, StopsAt}
+use Rattle.gixobj_fields.proofs.Puts.{front_within, puts_more}
 
-pub appends_more : (a b c : Option (List ℕ)) (x y : List ℕ) → Appends a b x → Appends b c y → Appends a c (x ++ y)
-appends_more None b c x y p q = tt
-appends_more (Some a) None c x y p q = absurd p
-appends_more (Some a) (Some b) None x y p q = absurd q
-appends_more (Some a) (Some b) (Some c) x y p q = rw (q, p) (append_assoc a x y)
-
-pub lasts_more : (F G H : List ℕ → Type 0) (x y : List ℕ) → Lasts F G x → Lasts G H y → Lasts F H (x ++ y)
-lasts_more F G H x y p q more h = rw (append_assoc x y more) (p (y ++ more) (q more h))
-
--- who may refuse a part behind what was put might have refused all of it
-pub refused_behind : (F G : List ℕ → Type 0) (x y z : List ℕ) → Lasts F G x → MayRefuse G y → MayRefuse F (x ++ (y ++ z))
-refused_behind F G x y z p q more = rw (append_assoc x (y ++ z) more, append_assoc y z more) (p (y ++ (z ++ more)) (q (z ++ more)))
-
-stops_behind : (R Q : Refused → List ℕ → Type 0) (a b c : Option (List ℕ)) (front : List ℕ) → Appends a b front
+stops_behind : (R Q : Refused → List ℕ → Type 0) (a b c : SinkView) (front : List ℕ) → Puts a b front
     → ((value : Refused) (parts : List ℕ) → R value parts → Q value (front ++ parts)) → (value : Refused) → StopsAt R b c value → StopsAt Q a c value
-stops_behind R Q a b c front p step value s = (front ++ s.0, step value s.0 s.1, appends_more a b c front s.0 p s.2)
+stops_behind R Q a b c front p step value s = (front ++ s.0, step value s.0 s.1, puts_more a b c front s.0 p s.2)
 
--- what an error says of a part, it says of all of it
-pub says_why_behind : (R Q : Refused → List ℕ → Type 0) (a b c : Option (List ℕ)) (front : List ℕ) (F G : Type 0) → Appends a b front
-    → ((value : Refused) (parts : List ℕ) → R value parts → Q value (front ++ parts)) → (F → G) → (e : Error) → SaysWhy R b c F e → SaysWhy Q a c G e
-says_why_behind R Q a b c front F G p step fails (error.Writer cause) s = fails s
-says_why_behind R Q a b c front F G p step fails (error.NewlineInHeaderValue value) s = stops_behind R Q a b c front p step _ s
-says_why_behind R Q a b c front F G p step fails error.EmptyValue s = stops_behind R Q a b c front p step _ s
-says_why_behind R Q a b c front F G p step fails error.StartsWithDash s = stops_behind R Q a b c front p step _ s
-says_why_behind R Q a b c front F G p step fails (error.InvalidRefName fault) s = stops_behind R Q a b c front p step _ s
-says_why_behind R Q a b c front F G p step fails (error.NullbyteInFilename name) s = stops_behind R Q a b c front p step _ s
-says_why_behind R Q a b c front F G p step fails error.IllegalActor s = stops_behind R Q a b c front p step _ s
-says_why_behind R Q a b c front F G p step fails error.OutOfMemory (value, inl s) = (value, inl (stops_behind R Q a b c front p step _ s))
-says_why_behind R Q a b c front F G p step fails error.OutOfMemory (value, inr s) = (value, inr (stops_behind R Q a b c front p step _ s))
+-- what an error says of a part behind a front, it says of the whole
+pub says_why_behind : (R Q : Refused → List ℕ → Type 0) (a b c : SinkView) (front part whole : List ℕ) → Puts a b front
+    → ((value : Refused) (parts : List ℕ) → R value parts → Q value (front ++ parts)) → (PutsFront b c part → PutsFront a c whole)
+    → (e : Error) → SaysWhy R b c part e → SaysWhy Q a c whole e
+says_why_behind R Q a b c front part whole p step fails (error.Writer cause) s = fails s
+says_why_behind R Q a b c front part whole p step fails (error.NewlineInHeaderValue value) s = stops_behind R Q a b c front p step _ s
+says_why_behind R Q a b c front part whole p step fails error.EmptyValue s = stops_behind R Q a b c front p step _ s
+says_why_behind R Q a b c front part whole p step fails error.StartsWithDash s = stops_behind R Q a b c front p step _ s
+says_why_behind R Q a b c front part whole p step fails (error.InvalidRefName fault) s = stops_behind R Q a b c front p step _ s
+says_why_behind R Q a b c front part whole p step fails (error.NullbyteInFilename name) s = stops_behind R Q a b c front p step _ s
+says_why_behind R Q a b c front part whole p step fails error.IllegalActor s = stops_behind R Q a b c front p step _ s
+says_why_behind R Q a b c front part whole p step fails error.OutOfMemory (value, inl s) = (value, inl (stops_behind R Q a b c front p step _ s))
+says_why_behind R Q a b c front part whole p step fails error.OutOfMemory (value, inr s) = (value, inr (stops_behind R Q a b c front p step _ s))
 
--- an error of a writer of which more is known where it may fail
-pub says_why_weaker : (R : Refused → List ℕ → Type 0) (a b : Option (List ℕ)) (F G : Type 0) → (F → G) → (e : Error) → SaysWhy R a b F e → SaysWhy R a b G e
-says_why_weaker R a b F G step (error.Writer cause) s = step s
-says_why_weaker R a b F G step (error.NewlineInHeaderValue value) s = s
-says_why_weaker R a b F G step error.EmptyValue s = s
-says_why_weaker R a b F G step error.StartsWithDash s = s
-says_why_weaker R a b F G step (error.InvalidRefName fault) s = s
-says_why_weaker R a b F G step (error.NullbyteInFilename name) s = s
-says_why_weaker R a b F G step error.IllegalActor s = s
-says_why_weaker R a b F G step error.OutOfMemory s = s
+-- the same of a front, the part and what follows
+pub says_why_within : (R Q : Refused → List ℕ → Type 0) (a b c : SinkView) (front part rest : List ℕ) → Puts a b front
+    → ((value : Refused) (parts : List ℕ) → R value parts → Q value (front ++ parts)) → (e : Error) → SaysWhy R b c part e → SaysWhy Q a c (front ++ (part ++ rest)) e
+says_why_within R Q a b c front part rest p step e s =
+    says_why_behind R Q a b c front part (front ++ (part ++ rest)) p step (front_within a b c front part rest p) e s
+
+-- what an error says of a text, it says of a longer one
+pub says_why_longer : (R : Refused → List ℕ → Type 0) (a b : SinkView) (part whole : List ℕ) → (PutsFront a b part → PutsFront a b whole) → (e : Error) → SaysWhy R a b part e → SaysWhy R a b whole e
+says_why_longer R a b part whole fails (error.Writer cause) s = fails s
+says_why_longer R a b part whole fails (error.NewlineInHeaderValue value) s = s
+says_why_longer R a b part whole fails error.EmptyValue s = s
+says_why_longer R a b part whole fails error.StartsWithDash s = s
+says_why_longer R a b part whole fails (error.InvalidRefName fault) s = s
+says_why_longer R a b part whole fails (error.NullbyteInFilename name) s = s
+says_why_longer R a b part whole fails error.IllegalActor s = s
+says_why_longer R a b part whole fails error.OutOfMemory s = s
+
+none_stops : (R : Refused → List ℕ → Type 0) (a b : SinkView) (value : Refused) → RefusesNothing R → StopsAt R a b value → ⊥
+none_stops R a b value nothing s = nothing value s.0 s.1
+
+-- a writer that refuses nothing fails as its sink does
+pub fails_as_sink : (R : Refused → List ℕ → Type 0) (a b : SinkView) (text : List ℕ) (e : Error) → RefusesNothing R → SaysWhy R a b text e → FailsAsSink a b text e
+fails_as_sink R a b text (error.Writer cause) nothing s = s
+fails_as_sink R a b text (error.NewlineInHeaderValue value) nothing s = none_stops R a b _ nothing s
+fails_as_sink R a b text error.EmptyValue nothing s = none_stops R a b _ nothing s
+fails_as_sink R a b text error.StartsWithDash nothing s = none_stops R a b _ nothing s
+fails_as_sink R a b text (error.InvalidRefName fault) nothing s = none_stops R a b _ nothing s
+fails_as_sink R a b text (error.NullbyteInFilename name) nothing s = none_stops R a b _ nothing s
+fails_as_sink R a b text error.IllegalActor nothing s = none_stops R a b _ nothing s
+fails_as_sink R a b text error.OutOfMemory nothing (value, inl s) = none_stops R a b _ nothing s
+fails_as_sink R a b text error.OutOfMemory nothing (value, inr s) = none_stops R a b _ nothing s

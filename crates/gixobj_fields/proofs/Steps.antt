@@ -1,8 +1,7 @@
 -- Texts that are written, or counted, in several steps.
-use Rattle.std.proofs.Common.{◌≡◌, ◌+◌, ◌<◌, ℕ, List, ◌++◌, Option, arith, length, ap, append_assoc, length-append}
-use Rattle.std.specs.Io.KnownBytes.{Appends}
-use Rattle.gixobj_fields.proofs.Refusals.{appends_more, lasts_more}
-use Rattle.gixobj_fields.specs.Writing.{Lasts, MayRefuse}
+use Rattle.std.proofs.Common.{◌≡◌, ◌+◌, ◌<◌, ℕ, List, ◌++◌, arith, length, ap, length-append}
+use Rattle.gixobj_fields.proofs.Puts.{front_first, front_more, puts_more}
+use Rattle.gixobj_fields.specs.Streams.{Puts, PutsFront, SinkView}
 
 -- four parts, one after the other
 abbrev pub in_parts : List ℕ → List ℕ → List ℕ → List ℕ → List ℕ
@@ -12,47 +11,32 @@ in_parts first second third fourth = ((first ++ second) ++ third) ++ fourth
 pub record IsInParts (text first second third fourth : List ℕ) : Type 0 where
   pub joined : text ≡ in_parts first second third fourth
 
--- who may refuse a part might have refused all that it begins
-refused_first : (F : List ℕ → Type 0) (x y : List ℕ) → MayRefuse F x → MayRefuse F (x ++ y)
-refused_first F x y refused more = rw (append_assoc x y more) (refused (y ++ more))
+-- ---- a text of four parts p, q, r, s, put one after the other
 
-refused_second : (F G : List ℕ → Type 0) (x y : List ℕ) → Lasts F G x → MayRefuse G y → MayRefuse F (x ++ y)
-refused_second F G x y lasting refused more = rw (append_assoc x y more) (lasting (y ++ more) (refused more))
+front_as : (a b : SinkView) (x y : List ℕ) → y ≡ x → PutsFront a b x → PutsFront a b y
+front_as a b x y same part = rw same part
 
-refused_as : (F : List ℕ → Type 0) (x y : List ℕ) → y ≡ x → MayRefuse F x → MayRefuse F y
-refused_as F x y same refused = rw same refused
+pub first_front : (a b : SinkView) (text p q r s : List ℕ) → IsInParts text p q r s → PutsFront a b p → PutsFront a b text
+first_front a b text p q r s whole part =
+    front_as a b (in_parts p q r s) text whole.joined (front_first a b ((p ++ q) ++ r) s (front_first a b (p ++ q) r (front_first a b p q part)))
 
--- ---- a text of four parts p, q, r, s
+pub second_front : (a b c : SinkView) (text p q r s : List ℕ) → IsInParts text p q r s → Puts a b p → PutsFront b c q → PutsFront a c text
+second_front a b c text p q r s whole one part =
+    front_as a c (in_parts p q r s) text whole.joined (front_first a c ((p ++ q) ++ r) s (front_first a c (p ++ q) r (front_more a b c p q one part)))
 
-pub first_refused : (F : List ℕ → Type 0) (text p q r s : List ℕ) → IsInParts text p q r s → MayRefuse F p → MayRefuse F text
-first_refused F text p q r s whole refused =
-    refused_as F (in_parts p q r s) text whole.joined (refused_first F ((p ++ q) ++ r) s (refused_first F (p ++ q) r (refused_first F p q refused)))
+pub third_front : (a b c d : SinkView) (text p q r s : List ℕ) → IsInParts text p q r s → Puts a b p → Puts b c q → PutsFront c d r → PutsFront a d text
+third_front a b c d text p q r s whole one two part =
+    front_as a d (in_parts p q r s) text whole.joined (front_first a d ((p ++ q) ++ r) s (front_more a c d (p ++ q) r (puts_more a b c p q one two) part))
 
-pub second_refused : (F G : List ℕ → Type 0) (text p q r s : List ℕ) → IsInParts text p q r s → Lasts F G p → MayRefuse G q → MayRefuse F text
-second_refused F G text p q r s whole one refused =
-    refused_as F (in_parts p q r s) text whole.joined (refused_first F ((p ++ q) ++ r) s (refused_first F (p ++ q) r (refused_second F G p q one refused)))
+pub three_put : (a b c d : SinkView) (p q r : List ℕ) → Puts a b p → Puts b c q → Puts c d r → Puts a d ((p ++ q) ++ r)
+three_put a b c d p q r one two three = puts_more a c d (p ++ q) r (puts_more a b c p q one two) three
 
-pub third_refused : (F G H : List ℕ → Type 0) (text p q r s : List ℕ) → IsInParts text p q r s → Lasts F G p → Lasts G H q → MayRefuse H r → MayRefuse F text
-third_refused F G H text p q r s whole one two refused =
-    refused_as F (in_parts p q r s) text whole.joined (refused_first F ((p ++ q) ++ r) s (refused_second F H (p ++ q) r (lasts_more F G H p q one two) refused))
+pub fourth_front : (a b c d e : SinkView) (text p q r s : List ℕ) → IsInParts text p q r s → Puts a b p → Puts b c q → Puts c d r → PutsFront d e s → PutsFront a e text
+fourth_front a b c d e text p q r s whole one two three part =
+    front_as a e (in_parts p q r s) text whole.joined (front_more a d e ((p ++ q) ++ r) s (three_put a b c d p q r one two three) part)
 
-pub front_lasting : (F G H K : List ℕ → Type 0) (p q r : List ℕ) → Lasts F G p → Lasts G H q → Lasts H K r → Lasts F K ((p ++ q) ++ r)
-front_lasting F G H K p q r one two three = lasts_more F H K (p ++ q) r (lasts_more F G H p q one two) three
-
-pub fourth_refused : (F G H K : List ℕ → Type 0) (text p q r s : List ℕ) → IsInParts text p q r s → Lasts F G p → Lasts G H q → Lasts H K r → MayRefuse K s → MayRefuse F text
-fourth_refused F G H K text p q r s whole one two three refused =
-    refused_as F (in_parts p q r s) text whole.joined (refused_second F K ((p ++ q) ++ r) s (front_lasting F G H K p q r one two three) refused)
-
-pub all_lasting : (F G H K L : List ℕ → Type 0) (text p q r s : List ℕ) → IsInParts text p q r s → Lasts F G p → Lasts G H q → Lasts H K r → Lasts K L s → Lasts F L text
-all_lasting F G H K L text p q r s whole one two three four =
-    rw whole.joined (lasts_more F K L ((p ++ q) ++ r) s (front_lasting F G H K p q r one two three) four)
-
-pub front_written : (a b c d : Option (List ℕ)) (p q r : List ℕ) → Appends a b p → Appends b c q → Appends c d r → Appends a d ((p ++ q) ++ r)
-front_written a b c d p q r one two three = appends_more a c d (p ++ q) r (appends_more a b c p q one two) three
-
-pub all_written : (a b c d e : Option (List ℕ)) (text p q r s : List ℕ) → IsInParts text p q r s → Appends a b p → Appends b c q → Appends c d r → Appends d e s → Appends a e text
-all_written a b c d e text p q r s whole one two three four =
-    rw whole.joined (appends_more a d e ((p ++ q) ++ r) s (front_written a b c d p q r one two three) four)
+pub all_put : (a b c d e : SinkView) (text p q r s : List ℕ) → IsInParts text p q r s → Puts a b p → Puts b c q → Puts c d r → Puts d e s → Puts a e text
+all_put a b c d e text p q r s whole one two three four = rw whole.joined (puts_more a d e ((p ++ q) ++ r) s (three_put a b c d p q r one two three) four)
 
 -- the same, counted
 

@@ -1,14 +1,14 @@
 //! What is refused of objects that are written, and header fields, written (gitdatamodel, "commits";
 //! gitformat-signature, "Commit signatures").
 ghost use Rattle.std.specs.Prelude.{◌≡◌, ◌<◌, ◌+◌, ◌^◌, ◌++◌, ◌∷◌, [], length, IfErr, MatchOption, OnErr, OnOk};
-ghost use Rattle.std.specs.Io.KnownBytes.{Appends};
 ghost use Rattle.std.specs.Option.{SomeIff};
 ghost use Rattle.gixobj_ids.specs.Hash.{hex_text};
 ghost use Rattle.gixobj_fields.specs.FieldWriting.{IsLastLine, RefusesField, folded};
 ghost use Rattle.gixobj_fields.specs.HeaderText.{field_text};
-ghost use Rattle.gixobj_fields.specs.Writing.{Lasts, MayRefuse, RefusesNothing, SaysWhy};
+ghost use Rattle.gixobj_fields.specs.Streams.{Puts, PutsFront};
+ghost use Rattle.gixobj_fields.specs.Writing.{RefusesNothing, SaysWhy};
 
-use crate::streams::Sink;
+use crate::streams::{Sink, put_parts};
 use bstr::BString;
 use gixobj_ids::hash::ObjectId;
 use gixobj_ids::parse::{has_byte, split_at_byte};
@@ -17,10 +17,10 @@ use std::io;
 
 /// The refusal of a writer of objects.
 ///
-/// But for `Writer`, exactly the parts before the refused value have been written.
+/// Exactly the parts before the refused value have been written.
 #[derive(Debug, Drop, thiserror::Error)]
 pub enum Error {
-    /// The writer failed. What it took before that is not known.
+    /// The writer failed, after a front of the text.
     #[error("the writer failed: {0}")]
     Writer(io::Error),
     /// The value of a header that has one line has a newline.
@@ -105,27 +105,18 @@ impl From<AllocError> for Error {
 }
 
 /// Puts a field of one line, whatever its value is.
-pub fn trusted_header_field<S: Sink>(
-    name: &[u8],
-    value: &[u8],
-    sink: &mut S,
-) -> io::Result<()>
-    ensures written { OnOk result (Appends (S.held sink.old) (S.held sink.new) (field_text name.now value.now)) }
-    ensures err { OnErr result (MayRefuse (S.may_refuse sink.old) (field_text name.now value.now)) }
-    ensures lasting { OnOk result (Lasts (S.may_refuse sink.old) (S.may_refuse sink.new) (field_text name.now value.now)) }
+pub fn trusted_header_field<S: Sink>(name: &[u8], value: &[u8], sink: &mut S) -> io::Result<()>
+    ensures written { OnOk result (Puts (S.view sink.old) (S.view sink.new) (field_text name.now value.now)) }
+    ensures err { OnErr result (PutsFront (S.view sink.old) (S.view sink.new) (field_text name.now value.now)) }
     ensures same_loan { S.loan sink.new ≡ S.loan sink.old }
 {
-    sink.put(name)?;
-    sink.put(b" ")?;
-    sink.put(value)?;
-    sink.put(b"\n")
+    put_parts(&[name, b" ", value, b"\n"], sink)
 }
 
 /// Puts the field of an id, in lower case.
 pub fn trusted_header_id<S: Sink>(name: &[u8], id: &ObjectId, sink: &mut S) -> io::Result<()>
-    ensures written { OnOk result (Appends (S.held sink.old) (S.held sink.new) (field_text name.now (hex_text id.now))) }
-    ensures err { OnErr result (MayRefuse (S.may_refuse sink.old) (field_text name.now (hex_text id.now))) }
-    ensures lasting { OnOk result (Lasts (S.may_refuse sink.old) (S.may_refuse sink.new) (field_text name.now (hex_text id.now))) }
+    ensures written { OnOk result (Puts (S.view sink.old) (S.view sink.new) (field_text name.now (hex_text id.now))) }
+    ensures err { OnErr result (PutsFront (S.view sink.old) (S.view sink.new) (field_text name.now (hex_text id.now))) }
     ensures same_loan { S.loan sink.new ≡ S.loan sink.old }
 {
     let mut buffer = [0; 64];
@@ -133,17 +124,16 @@ pub fn trusted_header_id<S: Sink>(name: &[u8], id: &ObjectId, sink: &mut S) -> i
 }
 
 /// Puts a field of one line, and refuses a value that is empty or has a newline.
-#[tactic(auto, using(crate::proofs::FieldWrites::appends_nothing))]
+#[tactic(auto, using(crate::proofs::Puts::puts_nothing))]
 pub fn header_field<S: Sink>(
     alloc: Global,
     name: &[u8],
     value: &[u8],
     sink: &mut S,
 ) -> Result<(), Error>
-    ensures written { OnOk result (Appends (S.held sink.old) (S.held sink.new) (field_text name.now value.now)) }
+    ensures written { OnOk result (Puts (S.view sink.old) (S.view sink.new) (field_text name.now value.now)) }
     ensures nothing_refused { OnOk result (RefusesNothing (RefusesField value.now)) }
-    ensures lasting { OnOk result (Lasts (S.may_refuse sink.old) (S.may_refuse sink.new) (field_text name.now value.now)) }
-    ensures refusal { IfErr result (SaysWhy (RefusesField value.now) (S.held sink.old) (S.held sink.new) (MayRefuse (S.may_refuse sink.old) (field_text name.now value.now))) }
+    ensures refusal { IfErr result (SaysWhy (RefusesField value.now) (S.view sink.old) (S.view sink.new) (field_text name.now value.now)) }
     ensures same_loan { S.loan sink.new ≡ S.loan sink.old }
 {
     if value.is_empty() {
@@ -158,26 +148,19 @@ pub fn header_field<S: Sink>(
 }
 
 /// Puts a header, with a space before each line of its value but the first, and a newline at the end.
-pub fn header_field_multi_line<S: Sink>(
-    name: &[u8],
-    value: &[u8],
-    sink: &mut S,
-) -> io::Result<()>
-    ensures written { OnOk result (Appends (S.held sink.old) (S.held sink.new) (name.now ++ 32 ∷ folded value.now)) }
-    ensures err { OnErr result (MayRefuse (S.may_refuse sink.old) (name.now ++ 32 ∷ folded value.now)) }
-    ensures lasting { OnOk result (Lasts (S.may_refuse sink.old) (S.may_refuse sink.new) (name.now ++ 32 ∷ folded value.now)) }
+pub fn header_field_multi_line<S: Sink>(name: &[u8], value: &[u8], sink: &mut S) -> io::Result<()>
+    ensures written { OnOk result (Puts (S.view sink.old) (S.view sink.new) (name.now ++ 32 ∷ folded value.now)) }
+    ensures err { OnErr result (PutsFront (S.view sink.old) (S.view sink.new) (name.now ++ 32 ∷ folded value.now)) }
     ensures same_loan { S.loan sink.new ≡ S.loan sink.old }
 {
-    sink.put(name)?;
-    sink.put(b" ")?;
+    put_parts(&[name, b" "], sink)?;
     put_folded(value, sink)
 }
 
 /// Puts the lines of a value.
 fn put_folded<S: Sink>(value: &[u8], sink: &mut S) -> io::Result<()>
-    ensures written { OnOk result (Appends (S.held sink.old) (S.held sink.new) (folded value.now)) }
-    ensures err { OnErr result (MayRefuse (S.may_refuse sink.old) (folded value.now)) }
-    ensures lasting { OnOk result (Lasts (S.may_refuse sink.old) (S.may_refuse sink.new) (folded value.now)) }
+    ensures written { OnOk result (Puts (S.view sink.old) (S.view sink.new) (folded value.now)) }
+    ensures err { OnErr result (PutsFront (S.view sink.old) (S.view sink.new) (folded value.now)) }
     ensures same_loan { S.loan sink.new ≡ S.loan sink.old }
 {
     let mut rest = value;
@@ -190,31 +173,27 @@ fn put_folded<S: Sink>(value: &[u8], sink: &mut S) -> io::Result<()>
 
 /// Puts a line, and the space before the next.
 fn put_line<S: Sink>(line: &[u8], sink: &mut S) -> io::Result<()>
-    ensures written { OnOk result (Appends (S.held sink.old) (S.held sink.new) (line.now ++ 10 ∷ 32 ∷ [])) }
-    ensures err { OnErr result (MayRefuse (S.may_refuse sink.old) (line.now ++ 10 ∷ 32 ∷ [])) }
-    ensures lasting { OnOk result (Lasts (S.may_refuse sink.old) (S.may_refuse sink.new) (line.now ++ 10 ∷ 32 ∷ [])) }
+    ensures written { OnOk result (Puts (S.view sink.old) (S.view sink.new) (line.now ++ 10 ∷ 32 ∷ [])) }
+    ensures err { OnErr result (PutsFront (S.view sink.old) (S.view sink.new) (line.now ++ 10 ∷ 32 ∷ [])) }
     ensures same_loan { S.loan sink.new ≡ S.loan sink.old }
 {
-    sink.put(line)?;
-    sink.put(b"\n ")
+    put_parts(&[line, b"\n "], sink)
 }
 
 /// Puts the last line, with its newline.
 fn put_last_line<S: Sink>(line: &[u8], sink: &mut S) -> io::Result<()>
     requires { IsLastLine line.now }
-    ensures written { OnOk result (Appends (S.held sink.old) (S.held sink.new) (folded line.now)) }
-    ensures err { OnErr result (MayRefuse (S.may_refuse sink.old) (folded line.now)) }
-    ensures lasting { OnOk result (Lasts (S.may_refuse sink.old) (S.may_refuse sink.new) (folded line.now)) }
+    ensures written { OnOk result (Puts (S.view sink.old) (S.view sink.new) (folded line.now)) }
+    ensures err { OnErr result (PutsFront (S.view sink.old) (S.view sink.new) (folded line.now)) }
     ensures same_loan { S.loan sink.new ≡ S.loan sink.old }
 {
     let end = missing_newline(line);
-    sink.put(line)?;
-    sink.put(end)
+    put_parts(&[line, end], sink)
 }
 
 /// The newline, where the last line has none.
 #[tactic(auto, using(crate::proofs::FieldWrites::folded_with_newline, crate::proofs::FieldWrites::folded_without_newline))]
-fn missing_newline(line: &[u8]) -> &'static [u8]
+fn missing_newline(line: &[u8]) -> &[u8]
     requires { IsLastLine line.now }
     ensures { folded line.now ≡ line.now ++ result.now }
 {

@@ -1,7 +1,12 @@
-//! Laws of header fields. Each function does nothing: its contract is the law.
+//! Laws of header fields and of writers. Each function does nothing: its contract is the law.
 ghost use Rattle.std.specs.Prelude.{◌≡◌, ℕ, List};
 ghost use Rattle.gixobj_fields.specs.FieldWriting.{header_text};
+ghost use Rattle.gixobj_fields.specs.Streams.{SinkView};
+ghost use Rattle.gixobj_fields.specs.Writing.{FailsAsSink, RefusesNothing, SaysWhy};
+ghost use Rattle.gixobj_fields.specs.declared.encode.Error.{Error};
 ghost use Rattle.gixobj_fields.specs.HeaderText.{HasField, HasHeader, Header, IsHeaderText};
+
+use crate::WriteTo;
 
 /// A text begins with one field of a name at most, and with one header at most.
 pub fn header_fields_have_one_reading()
@@ -14,4 +19,11 @@ pub fn header_fields_have_one_reading()
 /// A header that was read, of one line or of several, is written as it was.
 pub fn header_reads_back()
     ensures { (text : List ℕ) (header : Header) → IsHeaderText text header → header_text header ≡ text }
+{}
+
+/// An object of which nothing is refused is not written only where the sink has no room for it, and
+/// then a front of its text has been put.
+pub fn writers_fail_as_their_sinks<T: WriteTo>(object: &T)
+    ensures { (before after : SinkView) (error : Error) → RefusesNothing (T.refuses object.now) →
+        SaysWhy (T.refuses object.now) before after (T.text object.now) error → FailsAsSink before after (T.text object.now) error }
 {}

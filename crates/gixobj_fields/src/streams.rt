@@ -4,9 +4,11 @@
 //! Over a [`Source`] and a [`Sink`] it says that a slice is always read, and that a `Vec` refuses
 //! bytes only where it has no room for them. [`FromRead`] and [`ToWrite`] make one of any reader or
 //! writer, which may then fail at every call.
-ghost use Rattle.std.specs.Prelude.{◌≡◌, ◌<◌, ◌+◌, ◌++◌, ℕ, List, Option, Some, length, OnOk, OnErr, vec_len, vec_capacity, ⊤};
-ghost use Rattle.std.specs.Io.{ReadsAtMost};
-ghost use Rattle.std.specs.Io.KnownBytes.{Appends, ReadConsumes};
+ghost use Rattle.std.specs.Prelude.{◌≡◌, ℕ, List, Option, Some, OnOk, OnErr, ⊤};
+ghost use Rattle.std.specs.Io.{ReadsAtMost, WritesAtMost};
+ghost use Rattle.std.specs.Io.KnownBytes.{ReadConsumes, WriteAppends};
+ghost use Rattle.std.specs.List.{flat_map};
+ghost use Rattle.gixobj_fields.specs.Streams.{Puts, PutsFront, list_view, writer_view};
 
 use std::io;
 use std::io::{ErrorKind, Read, Write};
@@ -69,30 +71,25 @@ impl<R: Read> Source for FromRead<'_, R> {
 
 /// A writer that says when it may refuse bytes.
 pub trait Sink {
-    /// The bytes that it holds, where they are known.
-    ghost held: { Self → Option (List ℕ) };
+    ghost use Rattle.gixobj_fields.specs.Streams.{SinkView};
 
-    /// Whether it may refuse these bytes.
-    ghost may_refuse: { Self → List ℕ → Type 0 };
+    /// The bytes that it holds, where they are known, and how many more it takes for sure.
+    ghost view: { Self → SinkView };
 
     /// Which loan it holds, where it borrows what it writes to: no call puts another in its place.
     ghost loan: { Self → ℕ };
 
-    /// Puts all the bytes at the end. Who may refuse some bytes may refuse more of them, and what may
-    /// be refused behind them might have been refused with them.
+    /// Puts all the bytes at the end. Where it has no room for them it may fail, and then a front of
+    /// them has been put.
     fn put(&mut self, bytes: &[u8]) -> io::Result<()>
-        ensures ok { OnOk result (Appends (held self.old) (held self.new) bytes.now) }
-        ensures err { OnErr result (may_refuse self.old bytes.now) }
-        ensures longer { OnErr result ((more : List ℕ) → may_refuse self.old (bytes.now ++ more)) }
-        ensures lasting { OnOk result ((more : List ℕ) → may_refuse self.new more → may_refuse self.old (bytes.now ++ more)) }
+        ensures ok { OnOk result (Puts (view self.old) (view self.new) bytes.now) }
+        ensures err { OnErr result (PutsFront (view self.old) (view self.new) bytes.now) }
         ensures same_loan { loan self.new ≡ loan self.old };
 }
 
-/// A `Vec` refuses bytes only where it would have to grow.
+/// A `Vec` refuses bytes only where it would have to grow, and then takes none of them.
 impl Sink for Vec<u8> {
-    ghost held = { λ v. Some v.items };
-
-    ghost may_refuse = { λ v bytes. vec_capacity v < vec_len v + length bytes };
+    ghost view = { list_view };
 
     ghost loan = { λ _. 0 };
 
@@ -102,18 +99,53 @@ impl Sink for Vec<u8> {
     }
 }
 
-/// Any writer as a sink that may refuse everything.
+/// Any writer as a sink that may refuse everything. A write that was interrupted is tried again.
 #[derive(Drop)]
 pub struct ToWrite<'a, W>(pub &'a mut W);
 
 impl<W: Write> Sink for ToWrite<'_, W> {
-    ghost held = { λ s. W.contents s.0.now };
-
-    ghost may_refuse = { λ _ _. ⊤ };
+    ghost view = { λ s. writer_view (W.contents s.0.now) };
 
     ghost loan = { λ s. s.0.ghost_name };
 
     fn put(&mut self, bytes: &[u8]) -> io::Result<()> {
-        self.0.write_all(bytes)
+        let mut rest = bytes;
+        while !rest.is_empty() {
+            let count = self.write_some(rest)?;
+            if count == 0 {
+                return Err(io::Error::from(ErrorKind::WriteZero));
+            }
+            rest = &rest[count..];
+        }
+        Ok(())
     }
+}
+
+impl<W: Write> ToWrite<'_, W> {
+    /// Writes some of the bytes, and answers how many.
+    fn write_some(&mut self, bytes: &[u8]) -> io::Result<usize>
+        ensures bound { WritesAtMost result bytes.now }
+        ensures bytes { WriteAppends (W.contents self.old.0.now) (W.contents self.new.0.now) result bytes.now }
+        ensures same_loan { self.new.0.ghost_name ≡ self.old.0.ghost_name }
+    {
+        for _ in 0..u64::MAX {
+            match self.0.write(bytes) {
+                Err(e) if e.kind() == ErrorKind::Interrupted => {}
+                result => return result,
+            }
+        }
+        Err(io::Error::from(ErrorKind::Interrupted))
+    }
+}
+
+/// Puts texts at the end of a sink, one after the other. Where it fails, a front of them has been put.
+pub fn put_parts<S: Sink>(parts: &[&[u8]], sink: &mut S) -> io::Result<()>
+    ensures ok { OnOk result (Puts (S.view sink.old) (S.view sink.new) (flat_map (λ part. part.now) parts.now)) }
+    ensures err { OnErr result (PutsFront (S.view sink.old) (S.view sink.new) (flat_map (λ part. part.now) parts.now)) }
+    ensures same_loan { S.loan sink.new ≡ S.loan sink.old }
+{
+    for part in parts {
+        sink.put(part)?;
+    }
+    Ok(())
 }

@@ -1,12 +1,13 @@
 //! What objects can do.
-ghost use Rattle.std.specs.Prelude.{◌≡◌, ◌↔◌, ◌<◌, ◌+◌, ◌^◌, ◌++◌, List, Some, length, vec_capacity, vec_len, IfErr, IfSome, IsSome, OnOk, ⊤};
+ghost use Rattle.std.specs.Prelude.{◌≡◌, ◌↔◌, ◌<◌, ◌^◌, ◌++◌, List, length, IfErr, IfSome, IsSome, OnOk};
 ghost use Rattle.std.specs.Io.KnownBytes.{Appends};
 ghost use Rattle.std.specs.Option.{SomeIff};
 ghost use Rattle.gixobj_ids.specs.Encode.{loose_header_text};
-ghost use Rattle.gixobj_fields.specs.Writing.{Lasts, MayRefuse, RefusesNothing, SaysWhy};
+ghost use Rattle.gixobj_fields.specs.Streams.{Puts, list_view, writer_view};
+ghost use Rattle.gixobj_fields.specs.Writing.{RefusesNothing, SaysWhy};
 
-use crate::streams::{Sink, ToWrite};
 use crate::encode;
+use crate::streams::{Sink, ToWrite};
 use gixobj_ids::Kind;
 use gixobj_ids::encode::loose_header;
 use smallvec::SmallVec;
@@ -41,10 +42,9 @@ pub trait WriteTo {
     /// exactly the parts before it have been put; `OutOfMemory` where it couldn't be copied.
     fn write_into<S: Sink>(&self, alloc: Global, sink: &mut S) -> Result<(), encode::Error>
         requires { can_write self.now }
-        ensures written { OnOk result (Appends (S.held sink.old) (S.held sink.new) (text self.now)) }
+        ensures written { OnOk result (Puts (S.view sink.old) (S.view sink.new) (text self.now)) }
         ensures nothing_refused { OnOk result (RefusesNothing (refuses self.now)) }
-        ensures lasting { OnOk result (Lasts (S.may_refuse sink.old) (S.may_refuse sink.new) (text self.now)) }
-        ensures refusal { IfErr result (SaysWhy (refuses self.now) (S.held sink.old) (S.held sink.new) (MayRefuse (S.may_refuse sink.old) (text self.now))) }
+        ensures refusal { IfErr result (SaysWhy (refuses self.now) (S.view sink.old) (S.view sink.new) (text self.now)) }
         ensures same_loan { S.loan sink.new ≡ S.loan sink.old };
 
     /// The kind of the object.
@@ -66,7 +66,7 @@ pub trait WriteTo {
         requires { can_write self.now }
         ensures written { OnOk result (Appends (W.contents out.old) (W.contents out.new) (text self.now)) }
         ensures nothing_refused { OnOk result (RefusesNothing (refuses self.now)) }
-        ensures refusal { IfErr result (SaysWhy (refuses self.now) (W.contents out.old) (W.contents out.new) ⊤) }
+        ensures refusal { IfErr result (SaysWhy (refuses self.now) (writer_view (W.contents out.old)) (writer_view (W.contents out.new)) (text self.now)) }
     {
         self.write_into(alloc, &mut ToWrite(out))
     }
@@ -78,7 +78,7 @@ pub trait WriteTo {
         requires { can_write self.now }
         ensures written { OnOk result (out.new.items ≡ out.old.items ++ text self.now) }
         ensures nothing_refused { OnOk result (RefusesNothing (refuses self.now)) }
-        ensures refusal { IfErr result (SaysWhy (refuses self.now) (Some out.old.items) (Some out.new.items) (vec_capacity out.old < vec_len out.old + length (text self.now))) }
+        ensures refusal { IfErr result (SaysWhy (refuses self.now) (list_view out.old) (list_view out.new) (text self.now)) }
     {
         self.write_into(alloc, out)
     }
@@ -88,6 +88,7 @@ pub trait WriteTo {
     final fn loose_header(&self, alloc: Global) -> Option<SmallVec<u8, 28>>
         requires { can_write self.now }
         ensures found { IsSome result ↔ (length (text self.now) < 2 ^ 64) }
+        ensures inline { IfSome result (λ it. it.capacity ≡ 28) }
         ensures header { IfSome result (λ it. it.items ≡ loose_header_text (object_kind self.now) (length (text self.now))) }
     {
         Some(loose_header(alloc, self.kind(), self.size()?))

@@ -5,7 +5,7 @@ use Rattle.std.proofs.lemmas.List.{take-append-drop, length-take-le}
 use Rattle.bstr.specs.Owned.{bstring_bytes}
 use Rattle.gixobj_ids.proofs.SizeTexts.{no_fault, size_text_free, written_size}
 use Rattle.gixobj_ids.proofs.Splits.{free_by_test, free_of_cut, one_cut}
-use Rattle.std.specs.Prelude.{◌^◌, ◌==◌, decimal, if◌then◌else◌}
+use Rattle.std.specs.Prelude.{◌^◌, ◌==◌, decimal, if◌then◌else◌, IfErr, IfOk, Result, Ok, Err}
 use Rattle.gixobj_ids.specs.Decode.{HasFaultySize, HasLooseHeader, HasSizeFault, HasUnknownKind, IsSizeText, RefusesHeader}
 use Rattle.gixobj_ids.specs.Encode.{loose_header_text}
 use Rattle.gixobj_ids.specs.Kind.{kind_word}
@@ -110,6 +110,15 @@ not_refused input kind size used (ObjectHeader word.OutOfMemory) parts never = n
 not_refused input kind size used (ParseIntegerError fault message copy) parts faulty = good_size input kind size used (bstring_bytes copy) fault parts faulty
 not_refused input kind size used OutOfMemory parts (inl (text, unknown)) = known_kind input kind size used text parts unknown
 not_refused input kind size used OutOfMemory parts (inr faulty) = good_size input kind size used faulty.0 faulty.1 parts faulty.2
+
+-- a reader whose answers are right reads each header
+pub accepts_header : (input : List ℕ) (result : Result (Kind × ℕ × ℕ) LooseHeaderDecodeError)
+    → IfOk result (λ header. HasLooseHeader input header.0 header.1 header.2) → IfErr result (RefusesHeader input)
+    → (kind : Kind) (size used : ℕ) → HasLooseHeader input kind size used → result ≡ Ok (kind, size, used)
+accepts_header input (Ok (kind', size', used')) found refusal kind size used header =
+    let same = one_header _ _ _ _ _ _ _ (parts_of _ kind' size' used' found) (parts_of _ kind size used header) in
+    cc (same.0, same.1, same.2)
+accepts_header input (Err error) found refusal kind size used header = absurd (not_refused _ kind size used error (parts_of _ kind size used header) refusal)
 
 pub written_header : (kind : Kind) (size : ℕ) (rest : List ℕ) → size < 2 ^ 64
     → HasLooseHeader (loose_header_text kind size ++ rest) kind size (length (loose_header_text kind size))

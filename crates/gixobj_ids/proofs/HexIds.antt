@@ -1,11 +1,8 @@
 -- A hex text spells one id.
-use Rattle.std.proofs.Common.{◌≡◌, ℕ, zero, suc, get_or, ◌-◌, ◌<◌, ◌≤◌, ◌==◌, All, List, [], ◌∷◌, map, take, drop, inl, inr, length, if◌then◌else◌, Ok, Result, refl, subst, sym, arith}
-use Rattle.std.proofs.lemmas.List.Elements.{All-head, All-tail, All-weaker}
-use Rattle.std.proofs.lemmas.List.{take_all}
+use Rattle.std.proofs.Common.{◌≡◌, ℕ, ◌==◌, All, List, [], ◌∷◌, map, inl, inr, length, if◌then◌else◌, Ok, Result, refl, subst, sym, arith}
+use Rattle.std.proofs.lemmas.List.Elements.{All-head, All-tail}
 use Rattle.std.specs.List.{AllZip}
 use Rattle.std.specs.Result.{result_unwrap_or}
-use Rattle.bstr.specs.BStr.{bstr_bytes}
-use Rattle.bstr.specs.declared.bstr.BStr.{BStr}
 use Rattle.hex.proofs.HexLemmas.{decode_of-digits}
 use Rattle.hex.specs.Hex.{decode_of}
 use Rattle.hex.specs.declared.error.FromHexError.{FromHexError}

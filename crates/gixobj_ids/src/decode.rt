@@ -2,6 +2,7 @@
 ghost use Rattle.std.specs.Prelude.{◌≡◌, ◌↔◌, ◌<◌, ◌^◌, ℕ, IsTrue, IfOk, IfErr, Ok, MatchResult};
 ghost use Rattle.std.specs.Option.{SomeIff};
 ghost use Rattle.std.specs.Str.Parse.{AllDigits, IsNumeral, digits_value, starts_with_minus};
+ghost use Rattle.gixobj_ids.specs.declared.decode.Error.TheVariants.{OutOfMemory};
 ghost use Rattle.gixobj_ids.specs.declared.kind.Kind.{Kind};
 ghost use Rattle.gixobj_ids.specs.Decode.{HasLooseHeader, HasSizeFault, IsSizeText, RefusesHeader, RefusesSize, size_digits};
 
@@ -22,8 +23,6 @@ pub enum Error {
 }
 
 impl From<AllocError> for Error {
-    ghost use Rattle.gixobj_ids.specs.declared.decode.Error.TheVariants.{OutOfMemory};
-
     ghost from_gives = { λ _ error. error ≡ OutOfMemory };
 
     fn from(_: AllocError) -> Error {
@@ -32,8 +31,6 @@ impl From<AllocError> for Error {
 }
 
 impl<T: Drop> From<AllocFailed<T>> for Error {
-    ghost use Rattle.gixobj_ids.specs.declared.decode.Error.TheVariants.{OutOfMemory};
-
     ghost from_gives = { λ _ error. error ≡ OutOfMemory };
 
     fn from(_: AllocFailed<T>) -> Error {
@@ -93,9 +90,7 @@ impl From<kind::Error> for LooseHeaderDecodeError {
     fn from(error: kind::Error) -> LooseHeaderDecodeError {
         match error {
             kind::Error::OutOfMemory => LooseHeaderDecodeError::OutOfMemory,
-            kind::Error::InvalidObjectKind { kind } => {
-                LooseHeaderDecodeError::ObjectHeader(kind::Error::InvalidObjectKind { kind })
-            }
+            refusal => LooseHeaderDecodeError::ObjectHeader(refusal),
         }
     }
 }
@@ -126,10 +121,7 @@ pub fn loose_header(
     ensures found { IfOk result (λ header. HasLooseHeader input.now header.0 header.1 header.2) }
     ensures refusal { IfErr result (RefusesHeader input.now) }
 {
-    match read_loose_header(alloc, input) {
-        Ok((kind, size, used)) => Ok((kind, size, used)),
-        Err(error) => Err(error),
-    }
+    read_loose_header(alloc, input)
 }
 
 fn read_loose_header(
@@ -140,23 +132,17 @@ fn read_loose_header(
     ensures refusal { IfErr result (RefusesHeader input.now) }
 {
     let Some((word, after)) = split_at_byte(input, b' ') else {
-        return Err(LooseHeaderDecodeError::InvalidHeader { message: NO_SPACE });
+        let message = "no space after the kind of an object";
+        return Err(LooseHeaderDecodeError::InvalidHeader { message });
     };
     let kind = Kind::from_bytes(alloc, word)?;
     let Some((size_text, _)) = split_at_byte(after, 0) else {
-        return Err(LooseHeaderDecodeError::InvalidHeader {
-            message: NO_ZERO_BYTE,
-        });
+        let message = "no zero byte after the size of an object";
+        return Err(LooseHeaderDecodeError::InvalidHeader { message });
     };
     let size = read_size(alloc, size_text)?;
     Ok((kind, size, word.len() + size_text.len() + 2))
 }
-
-const NO_SPACE: &str = "no space after the kind of an object";
-
-const NO_ZERO_BYTE: &str = "no zero byte after the size of an object";
-
-const NO_SIZE: &str = "the size of an object";
 
 /// The size that a text spells, or the refusal with a copy of the text.
 fn read_size(alloc: Global, text: &[u8]) -> Result<u64, LooseHeaderDecodeError>
@@ -167,7 +153,7 @@ fn read_size(alloc: Global, text: &[u8]) -> Result<u64, LooseHeaderDecodeError>
         Ok(size) => Ok(size),
         Err(source) => Err(LooseHeaderDecodeError::ParseIntegerError {
             source,
-            message: NO_SIZE,
+            message: "the size of an object",
             number: BString::from_slice(alloc, text)?,
         }),
     }

@@ -42,18 +42,11 @@ pub fn hex_hash(text: &[u8], kind: Kind) -> Option<BStr<'_>>
     ensures accepts { IsSome result ↔ IsHexOf kind text.now }
     ensures value { IfSome result (λ it. bstr_bytes it ≡ text.now) }
 {
-    if text.len() == kind.len_in_hex() && are_hex_digits(text) {
+    if text.len() == kind.len_in_hex() && text.iter().all(|digit| digit.is_ascii_hexdigit()) {
         Some(BStr::new(text))
     } else {
         None
     }
-}
-
-/// Whether all bytes are hex digits, of either case.
-fn are_hex_digits(text: &[u8]) -> bool
-    ensures { IsTrue result ↔ AllPass is_hex_digit text.now }
-{
-    text.iter().all(|digit| digit.is_ascii_hexdigit())
 }
 
 /// The id that the hex text of an id spells. It takes no memory.

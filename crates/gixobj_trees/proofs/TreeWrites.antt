@@ -1,16 +1,19 @@
 -- Writing a tree entry by entry.
-use Rattle.std.proofs.Common.{◌≡◌, ℕ, ◌+◌, ◌<◌, ◌≤◌, ◌^◌, List, [], ◌∷◌, ◌++◌, length, get_or, take, drop, All, Option, refl, ap, arith, sym, ◌∙◌, length-append}
+use Rattle.std.proofs.Common.{◌≡◌, ℕ, ◌+◌, ◌<◌, ◌≤◌, ◌^◌, List, [], ◌∷◌, ◌++◌, length, get_or, take, drop, All, Option, refl, ap, arith, sym, ◌∙◌, append_assoc, length-append}
 use Rattle.std.specs.Prelude.{Contains}
-use Rattle.std.specs.Io.KnownBytes.{Appends}
 use Rattle.std.proofs.lemmas.List.{append-nil, take_all, take_more, take-append-drop, drop_more}
 use Rattle.std.proofs.lemmas.List.Elements.{All-contains, All-push, Contains-append_right, Contains-get_or}
 use Rattle.std.proofs.lemmas.List.Concat.{flat_map-append}
 use Rattle.gixobj_trees.specs.Entries.{EntryView}
 use Rattle.gixobj_ids.specs.Parse.{IsFree}
-use Rattle.gixobj_trees.specs.TreeText.{RefusesEntry, RefusesTree, entry_text, tree_text}
-use Rattle.gixobj_fields.specs.Writing.{Lasts, MayRefuse, Refused, SaysWhy}
+use Rattle.gixobj_trees.specs.TreeText.{RefusesEntry, RefusesTree, before_name, entry_text, tree_text}
+use Rattle.gixobj_fields.specs.Streams.{Puts, PutsFront, SinkView}
+use Rattle.gixobj_fields.specs.Writing.{Refused, SaysWhy}
 use Rattle.gixobj_fields.specs.declared.encode.Error.{Error}
-use Rattle.gixobj_fields.proofs.Refusals.{refused_behind, says_why_behind}
+use Rattle.gixobj_ids.specs.Hash.{id_bytes}
+use Rattle.gixobj_trees.specs.Mode.{mode_text}
+use Rattle.gixobj_fields.proofs.Puts.{front_first, front_more}
+use Rattle.gixobj_fields.proofs.Refusals.{says_why_within}
 
 -- no name has a zero byte
 abbrev pub AreFree : List EntryView → Type 0
@@ -40,14 +43,12 @@ pub nothing_refused : (items all : List EntryView) (i : ℕ) → items ≡ all �
 nothing_refused items all i same h free value parts r = none_refused items value parts (rw (← take_all i items h) free) (rw same r)
 
 -- an entry that is refused behind entries that are not
-pub refused_at : (a b c : Option (List ℕ)) (F G : List ℕ → Type 0) (items : List EntryView) (i : ℕ) (e : EntryView) → i < length items → e ≡ get_or items i e
-    → Appends a b (tree_text (take i items)) → Lasts F G (tree_text (take i items)) → AreFree (take i items) → (why : Error)
-    → SaysWhy (RefusesEntry e) b c (MayRefuse G (entry_text e)) why → SaysWhy (RefusesTree items) a c (MayRefuse F (tree_text items)) why
-refused_at a b c F G items i e h is p l free why =
-    says_why_behind (RefusesEntry e) (RefusesTree items) a b c (tree_text (take i items)) (MayRefuse G (entry_text e)) (MayRefuse F (tree_text items)) p
+pub refused_at : (a b c : SinkView) (items : List EntryView) (i : ℕ) (e : EntryView) → i < length items → e ≡ get_or items i e
+    → Puts a b (tree_text (take i items)) → AreFree (take i items) → (why : Error) → SaysWhy (RefusesEntry e) b c (entry_text e) why → SaysWhy (RefusesTree items) a c (tree_text items) why
+refused_at a b c items i e h is put free why says =
+    rw (text_at items i e h is) (says_why_within (RefusesEntry e) (RefusesTree items) a b c (tree_text (take i items)) (entry_text e) (tree_text (drop (i + 1) items)) put
     (λ value parts r. record { front = take i items; entry = e; back = drop (i + 1) items; begun = parts; joined = cut_at items i e h is; free = free; refused = r; written = refl })
-    (λ r. rw (text_at items i e h is) (refused_behind F G (tree_text (take i items)) (entry_text e) (tree_text (drop (i + 1) items)) l r))
-    why
+    why says)
 
 front_shorter : (items : List EntryView) (n : ℕ) → length (tree_text (take n items)) ≤ length (tree_text items)
 front_shorter items n =
@@ -59,3 +60,18 @@ pub too_long : (items all : List EntryView) (i : ℕ) (e : EntryView) (n : ℕ) 
     → (n + length (entry_text e) < 2 ^ 64 → ⊥) → length (tree_text all) < 2 ^ 64 → ⊥
 too_long items all i e n same h is len over short =
     over (omega (arith, short, len, ap length (ap tree_text same), ap length (text_more items i e h is), length-append (tree_text (take i items)) (entry_text e), front_shorter items (i + 1)))
+
+-- ---- an entry
+
+-- the mode and its space, put
+pub mode_put : (a b : SinkView) (e : EntryView) (digits : List ℕ) → digits ≡ mode_text e.mode → Puts a b (digits ++ 32 ∷ []) → Puts a b (before_name e)
+mode_put a b e digits same put = rw (← same) put
+
+-- a front of the mode and its space is a front of the entry
+pub mode_front : (a b : SinkView) (e : EntryView) (digits : List ℕ) → digits ≡ mode_text e.mode → PutsFront a b (digits ++ 32 ∷ []) → PutsFront a b (entry_text e)
+mode_front a b e digits same part = rw (← same) (front_first a b ((digits ++ 32 ∷ []) ++ e.name) (0 ∷ id_bytes e.id) (front_first a b (digits ++ 32 ∷ []) e.name part))
+
+-- a front of the name, the zero byte and the id stands behind the mode
+pub name_front : (a b c : SinkView) (e : EntryView) (id : List ℕ) → id ≡ id_bytes e.id → Puts a b (before_name e) → PutsFront b c (e.name ++ 0 ∷ (id ++ [])) → PutsFront a c (entry_text e)
+name_front a b c e id same put part =
+    rw (append_assoc (before_name e) e.name (0 ∷ id_bytes e.id), ← same, ← append-nil id) (front_more a b c (before_name e) (e.name ++ 0 ∷ (id ++ [])) put part)

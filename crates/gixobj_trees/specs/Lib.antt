@@ -5,6 +5,7 @@ pub mod Mode
 pub mod ModeNumber
 pub mod TreeText
 pub mod WellFormed
+pub use Rattle.gixobj_fields.specs.Streams
 pub use Rattle.gixobj_fields.specs.Writing
 pub use Rattle.gixobj_ids.specs.Decode
 pub use Rattle.gixobj_ids.specs.Encode

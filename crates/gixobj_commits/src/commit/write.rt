@@ -1,24 +1,25 @@
 //! Commits, written (gitdatamodel, "commits").
 ghost use Rattle.std.specs.Prelude.{◌≡◌, ◌<◌, ◌+◌, ◌^◌, ◌++◌, ◌∷◌, All, codes, length, IfErr, OnErr, OnOk};
-ghost use Rattle.std.specs.Io.KnownBytes.{Appends};
 ghost use Rattle.std.specs.List.{flat_map};
 ghost use Rattle.std.specs.Option.{SomeIff};
 ghost use Rattle.gixobj_ids.specs.Hash.{hex_text};
 ghost use Rattle.gixobj_fields.specs.HeaderText.{field_text};
-ghost use Rattle.gixobj_fields.specs.Writing.{Lasts, MayRefuse, RefusesNothing, SaysWhy};
+ghost use Rattle.gixobj_fields.specs.Streams.{Puts, PutsFront};
+ghost use Rattle.gixobj_fields.specs.Writing.{RefusesNothing, SaysWhy};
 ghost use Rattle.gixobj_commits.specs.Commit.{encoding_text};
-ghost use Rattle.gixobj_commits.specs.CommitViews.{bytes_if_some, owned_bytes_if_some};
+ghost use Rattle.gixobj_commits.specs.CommitViews.{bytes_if_some};
 ghost use Rattle.gixobj_commits.specs.CommitWriting.{RefusesEncodingLine};
 
-use super::{Commit, CommitRef};
+mod owned;
+
+use super::CommitRef;
 use bstr::{BStr, BString};
-use gixobj_actors::encode::{size_with_signature, trusted_header_signature};
 use gixobj_fields::WriteTo;
 use gixobj_fields::encode::{
     Error, header_field, header_field_multi_line, size_with_field, size_with_id,
     size_with_multi_line, trusted_header_field, trusted_header_id,
 };
-use gixobj_fields::streams::Sink;
+use gixobj_fields::streams::{Sink, put_parts};
 use gixobj_ids::Kind;
 use gixobj_ids::hash::ObjectId;
 use gixobj_ids::parse::id_of_hex;
@@ -70,53 +71,11 @@ impl WriteTo for CommitRef<'_> {
     }
 }
 
-/// A commit is written with its actors and their times as these are written.
-///
-/// An author whose name or email has a `<`, a `>` or a newline is refused as `IllegalActor` behind
-/// `author` and a space, and so is a committer behind `committer` and a space. An empty encoding is
-/// refused as `EmptyValue`, and one with a newline as `NewlineInHeaderValue`, before any byte of its line.
-impl WriteTo for Commit {
-    ghost use Rattle.gixobj_ids.specs.declared.kind.Kind.TheVariants as kind;
-    ghost use Rattle.gixobj_commits.specs.CommitViews.{owned_lines};
-    ghost use Rattle.gixobj_commits.specs.CommitWriting.{RefusesOwned, commit_text};
-
-    ghost object_kind = { λ _. kind.Commit };
-
-    ghost text = { λ commit. commit_text (owned_lines commit) };
-
-    ghost refuses = { RefusesOwned };
-
-    fn write_into<S: Sink>(&self, alloc: Global, sink: &mut S) -> Result<(), Error> {
-        let (parents, encoding) = (self.parents.as_slice(), borrowed(&self.encoding));
-        let (headers, message) = (self.extra_headers.as_slice(), self.message.as_bytes());
-        put_ids(&self.tree, parents, sink)?;
-        trusted_header_signature(b"author", &self.author, sink)?;
-        trusted_header_signature(b"committer", &self.committer, sink)?;
-        put_rest(alloc, encoding, headers, message, sink)?;
-        Ok(())
-    }
-
-    fn kind(&self) -> Kind {
-        Kind::Commit
-    }
-
-    fn size(&self) -> Option<u64> {
-        let (parents, encoding) = (self.parents.as_slice(), borrowed(&self.encoding));
-        let (headers, message) = (self.extra_headers.as_slice(), self.message.as_bytes());
-        let ids = ids_size(&self.tree, parents)?;
-        let with_author = size_with_signature(ids, b"author", &self.author)?;
-        let lines = size_with_signature(with_author, b"committer", &self.committer)?;
-        let all = size_with_rest(lines, encoding, headers, message)?;
-        Some(all)
-    }
-}
-
 /// Puts the lines of the tree and of the parents.
 fn put_ids<T: Field, S: Sink>(tree: &ObjectId, parents: &[T], sink: &mut S) -> io::Result<()>
     requires { All T.can_put parents.now }
-    ensures ok { OnOk result (Appends (S.held sink.old) (S.held sink.new) (field_text (codes "tree") (hex_text tree.now) ++ flat_map T.written parents.now)) }
-    ensures err { OnErr result (MayRefuse (S.may_refuse sink.old) (field_text (codes "tree") (hex_text tree.now) ++ flat_map T.written parents.now)) }
-    ensures lasting { OnOk result (Lasts (S.may_refuse sink.old) (S.may_refuse sink.new) (field_text (codes "tree") (hex_text tree.now) ++ flat_map T.written parents.now)) }
+    ensures ok { OnOk result (Puts (S.view sink.old) (S.view sink.new) (field_text (codes "tree") (hex_text tree.now) ++ flat_map T.written parents.now)) }
+    ensures err { OnErr result (PutsFront (S.view sink.old) (S.view sink.new) (field_text (codes "tree") (hex_text tree.now) ++ flat_map T.written parents.now)) }
     ensures same_loan { S.loan sink.new ≡ S.loan sink.old }
 {
     trusted_header_id(b"tree", tree, sink)?;
@@ -144,9 +103,8 @@ trait Field {
     /// Puts the field.
     fn put<S: Sink>(&self, sink: &mut S) -> io::Result<()>
         requires { can_put self.now }
-        ensures ok { OnOk result (Appends (S.held sink.old) (S.held sink.new) (written self.now)) }
-        ensures err { OnErr result (MayRefuse (S.may_refuse sink.old) (written self.now)) }
-        ensures lasting { OnOk result (Lasts (S.may_refuse sink.old) (S.may_refuse sink.new) (written self.now)) }
+        ensures ok { OnOk result (Puts (S.view sink.old) (S.view sink.new) (written self.now)) }
+        ensures err { OnErr result (PutsFront (S.view sink.old) (S.view sink.new) (written self.now)) }
         ensures same_loan { S.loan sink.new ≡ S.loan sink.old };
 
     /// The size with that of the field, or none past 64 bits.
@@ -225,9 +183,8 @@ impl Field for (BString, BString) {
 /// Puts fields, one after the other.
 fn put_all<T: Field, S: Sink>(fields: &[T], sink: &mut S) -> io::Result<()>
     requires { All T.can_put fields.now }
-    ensures ok { OnOk result (Appends (S.held sink.old) (S.held sink.new) (flat_map T.written fields.now)) }
-    ensures err { OnErr result (MayRefuse (S.may_refuse sink.old) (flat_map T.written fields.now)) }
-    ensures lasting { OnOk result (Lasts (S.may_refuse sink.old) (S.may_refuse sink.new) (flat_map T.written fields.now)) }
+    ensures ok { OnOk result (Puts (S.view sink.old) (S.view sink.new) (flat_map T.written fields.now)) }
+    ensures err { OnErr result (PutsFront (S.view sink.old) (S.view sink.new) (flat_map T.written fields.now)) }
     ensures same_loan { S.loan sink.new ≡ S.loan sink.old }
 {
     for field in fields {
@@ -256,17 +213,14 @@ fn put_rest<T: Field, S: Sink>(
     sink: &mut S,
 ) -> Result<(), Error>
     requires { All T.can_put headers.now }
-    ensures written { OnOk result (Appends (S.held sink.old) (S.held sink.new) (encoding_text (bytes_if_some encoding.entry) ++ flat_map T.written headers.now ++ 10 ∷ message.now)) }
+    ensures written { OnOk result (Puts (S.view sink.old) (S.view sink.new) (encoding_text (bytes_if_some encoding.entry) ++ flat_map T.written headers.now ++ 10 ∷ message.now)) }
     ensures nothing_refused { OnOk result (RefusesNothing (RefusesEncodingLine (bytes_if_some encoding.entry))) }
-    ensures lasting { OnOk result (Lasts (S.may_refuse sink.old) (S.may_refuse sink.new) (encoding_text (bytes_if_some encoding.entry) ++ flat_map T.written headers.now ++ 10 ∷ message.now)) }
-    ensures refusal { IfErr result (SaysWhy (RefusesEncodingLine (bytes_if_some encoding.entry)) (S.held sink.old) (S.held sink.new)
-        (MayRefuse (S.may_refuse sink.old) (encoding_text (bytes_if_some encoding.entry) ++ flat_map T.written headers.now ++ 10 ∷ message.now))) }
+    ensures refusal { IfErr result (SaysWhy (RefusesEncodingLine (bytes_if_some encoding.entry)) (S.view sink.old) (S.view sink.new) (encoding_text (bytes_if_some encoding.entry) ++ flat_map T.written headers.now ++ 10 ∷ message.now)) }
     ensures same_loan { S.loan sink.new ≡ S.loan sink.old }
 {
     put_encoding(alloc, encoding, sink)?;
     put_all(headers, sink)?;
-    sink.put(b"\n")?;
-    sink.put(message)?;
+    put_parts(&[b"\n", message], sink)?;
     Ok(())
 }
 
@@ -276,11 +230,9 @@ fn put_encoding<S: Sink>(
     encoding: Option<BStr<'_>>,
     sink: &mut S,
 ) -> Result<(), Error>
-    ensures written { OnOk result (Appends (S.held sink.old) (S.held sink.new) (encoding_text (bytes_if_some encoding.entry))) }
+    ensures written { OnOk result (Puts (S.view sink.old) (S.view sink.new) (encoding_text (bytes_if_some encoding.entry))) }
     ensures nothing_refused { OnOk result (RefusesNothing (RefusesEncodingLine (bytes_if_some encoding.entry))) }
-    ensures lasting { OnOk result (Lasts (S.may_refuse sink.old) (S.may_refuse sink.new) (encoding_text (bytes_if_some encoding.entry))) }
-    ensures refusal { IfErr result (SaysWhy (RefusesEncodingLine (bytes_if_some encoding.entry)) (S.held sink.old) (S.held sink.new)
-        (MayRefuse (S.may_refuse sink.old) (encoding_text (bytes_if_some encoding.entry)))) }
+    ensures refusal { IfErr result (SaysWhy (RefusesEncodingLine (bytes_if_some encoding.entry)) (S.view sink.old) (S.view sink.new) (encoding_text (bytes_if_some encoding.entry))) }
     ensures same_loan { S.loan sink.new ≡ S.loan sink.old }
 {
     match encoding {
@@ -313,15 +265,5 @@ fn size_with_encoding(size: u64, encoding: Option<BStr<'_>>) -> Option<u64>
     match encoding {
         Some(encoding) => size_with_field(size, b"encoding", encoding.as_bytes()),
         None => Some(size),
-    }
-}
-
-/// The encoding, borrowed.
-fn borrowed(encoding: &Option<BString>) -> Option<BStr<'_>>
-    ensures { bytes_if_some result ≡ owned_bytes_if_some encoding.now }
-{
-    match encoding {
-        Some(encoding) => Some(encoding.as_bstr()),
-        None => None,
     }
 }

@@ -1,7 +1,8 @@
 //! Object ids that are borrowed.
 ghost use Rattle.std.specs.Prelude.{◌≡◌, ◌↔◌, ◌≤◌, ◌⊎◌, [], length, IsSome, IfSome, IsTrue, IsOk, IfErr, OnOk};
 ghost use Rattle.std.specs.Io.KnownBytes.{Appends};
-ghost use Rattle.gixobj_ids.specs.Hash.{IsNull, hash_len, hex_text, id_bytes, id_kind, is_id_length};
+ghost use Rattle.gixobj_ids.specs.Hash.{IsNull, hash_len, hex_text, id_bytes, id_kind, id_of, is_id_length};
+ghost use Rattle.gixobj_ids.specs.declared.kind.Kind.TheVariants.{Tree};
 
 use super::{Kind, ObjectId, verify};
 use std::hash::{Hash, Hasher};
@@ -16,9 +17,7 @@ pub struct oid<'a> {
 }
 
 impl<'a> oid<'a> {
-    ghost use Rattle.gixobj_ids.specs.Hash.{id_of};
     ghost use Rattle.gixobj_ids.specs.Hash.Borrowed.{borrowed_id};
-    ghost use Rattle.gixobj_ids.specs.declared.kind.Kind.TheVariants.{Tree};
 
     /// The id of 20 or 32 bytes.
     pub fn new(bytes: &'a [u8]) -> oid<'a>
@@ -44,11 +43,7 @@ impl<'a> oid<'a> {
     pub fn kind(self) -> Kind
         ensures { result ≡ id_kind (borrowed_id self.entry) }
     {
-        if self.bytes.len() == 20 {
-            Kind::Sha1
-        } else {
-            Kind::Sha256
-        }
+        self.to_owned().kind()
     }
 
     /// The bytes of the digest: as many as [`Kind::len_in_bytes`] says.

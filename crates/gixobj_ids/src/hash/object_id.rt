@@ -3,7 +3,12 @@ ghost use Rattle.std.specs.Prelude.{◌≡◌, ◌↔◌, ◌≤◌, ◌*◌, []
 ghost use Rattle.std.specs.List.{AllPass};
 ghost use Rattle.hex.specs.Hex.{decode_of, is_hex_digit};
 ghost use Rattle.std.specs.Io.KnownBytes.{Appends};
-ghost use Rattle.gixobj_ids.specs.Hash.{IsHexOfAnId, IsNull, Spells, hash_len, hex_text, id_bytes, id_kind, null_id};
+ghost use Rattle.std.proofs.Common.{rules};
+ghost use Rattle.gixobj_ids.specs.Hash.{IsHexOfAnId, IsNull, Spells, hash_len, hex_text, id_bytes, id_kind, id_of, null_id};
+ghost use Rattle.gixobj_ids.specs.Hash.Borrowed.{borrowed_id};
+ghost use Rattle.gixobj_ids.specs.Hash.Order.{id_cmp};
+ghost use Rattle.gixobj_ids.specs.Hash.OrderLaws.{id_alike, id_cmp_total, id_partial_order, id_ties};
+ghost use Rattle.gixobj_ids.specs.declared.kind.Kind.TheVariants.{Blob, Tree};
 
 use super::{Kind, oid, verify};
 use hex::FromHex;
@@ -23,9 +28,6 @@ pub enum ObjectId {
 
 /// Initialization
 impl ObjectId {
-    ghost use Rattle.gixobj_ids.specs.Hash.{id_of};
-    ghost use Rattle.gixobj_ids.specs.declared.kind.Kind.TheVariants.{Blob, Tree};
-
     /// The id that exactly 40 or 64 hex digits spell, in either case, or none.
     pub fn from_hex(hex: &[u8]) -> Option<ObjectId>
         ensures accepts { IsSome result ↔ IsHexOfAnId hex.now }
@@ -72,10 +74,6 @@ impl ObjectId {
 
 /// Access
 impl ObjectId {
-    ghost use Rattle.gixobj_ids.specs.Hash.{id_of};
-    ghost use Rattle.gixobj_ids.specs.Hash.Borrowed.{borrowed_id};
-    ghost use Rattle.gixobj_ids.specs.declared.kind.Kind.TheVariants.{Tree};
-
     /// The kind of digest that the id is.
     pub fn kind(&self) -> Kind
         ensures { result ≡ id_kind self.now }
@@ -160,10 +158,6 @@ impl ObjectId {
 
 /// Compares the bytes. Ids of two kinds differ in length, so the test of the kinds never decides.
 impl Ord for ObjectId {
-    ghost use Rattle.std.proofs.Common.{rules};
-    ghost use Rattle.gixobj_ids.specs.Hash.OrderLaws.{id_cmp_total, id_ties};
-    ghost use Rattle.gixobj_ids.specs.Hash.Order.{id_cmp};
-
     ghost cmp = { id_cmp };
 
     ghost total = { id_cmp_total };
@@ -179,10 +173,7 @@ impl Ord for ObjectId {
 }
 
 impl PartialOrd for ObjectId {
-    ghost use Rattle.std.proofs.Common.{rules};
     ghost use Rattle.std.specs.Ordering.{as_partial_cmp};
-    ghost use Rattle.gixobj_ids.specs.Hash.OrderLaws.{id_partial_order};
-    ghost use Rattle.gixobj_ids.specs.Hash.Order.{id_cmp};
 
     ghost partial_cmp = { as_partial_cmp id_cmp };
 
@@ -196,8 +187,6 @@ impl PartialOrd for ObjectId {
 /// Hashes the bytes.
 impl Hash for ObjectId {
     ghost use Rattle.std.specs.Prelude.{◌∷◌};
-    ghost use Rattle.std.proofs.Common.{rules};
-    ghost use Rattle.gixobj_ids.specs.Hash.OrderLaws.{id_alike};
 
     ghost hash_input = { λ id. id_bytes id ∷ [] };
 

@@ -1,16 +1,16 @@
 //! Trees, written (gitdatamodel, "trees").
 ghost use Rattle.std.specs.Prelude.{◌≡◌, ◌<◌, ◌+◌, ◌^◌, length, IfErr, OnOk};
-ghost use Rattle.std.specs.Io.KnownBytes.{Appends};
 ghost use Rattle.std.specs.Option.{SomeIff};
 ghost use Rattle.gixobj_ids.specs.Parse.{IsFree};
 ghost use Rattle.gixobj_trees.specs.TreeText.{RefusesEntry, entry_text};
-ghost use Rattle.gixobj_fields.specs.Writing.{Lasts, MayRefuse, SaysWhy};
+ghost use Rattle.gixobj_fields.specs.Streams.{Puts};
+ghost use Rattle.gixobj_fields.specs.Writing.{SaysWhy};
 
 use super::{Entry, Tree};
 use bstr::BString;
 use gixobj_fields::WriteTo;
 use gixobj_fields::encode::Error;
-use gixobj_fields::streams::Sink;
+use gixobj_fields::streams::{Sink, put_parts};
 use gixobj_ids::Kind;
 use gixobj_ids::parse::has_byte;
 use std::alloc::Global;
@@ -50,23 +50,20 @@ impl WriteTo for Tree {
 
 /// Puts one entry.
 fn put_entry<S: Sink>(alloc: Global, entry: &Entry, sink: &mut S) -> Result<(), Error>
-    ensures written { OnOk result (Appends (S.held sink.old) (S.held sink.new) (entry_text entry.now)) }
+    ensures written { OnOk result (Puts (S.view sink.old) (S.view sink.new) (entry_text entry.now)) }
     ensures free { OnOk result (IsFree 0 entry.now.name) }
-    ensures lasting { OnOk result (Lasts (S.may_refuse sink.old) (S.may_refuse sink.new) (entry_text entry.now)) }
-    ensures refusal { IfErr result (SaysWhy (RefusesEntry entry.now) (S.held sink.old) (S.held sink.new) (MayRefuse (S.may_refuse sink.old) (entry_text entry.now))) }
+    ensures refusal { IfErr result (SaysWhy (RefusesEntry entry.now) (S.view sink.old) (S.view sink.new) (entry_text entry.now)) }
     ensures same_loan { S.loan sink.new ≡ S.loan sink.old }
 {
-    let name = entry.filename.as_bytes();
     let mut backing = [0; 6];
-    sink.put(entry.mode.as_bytes(&mut backing).as_bytes())?;
-    sink.put(b" ")?;
+    let digits = entry.mode.as_bytes(&mut backing);
+    let name = entry.filename.as_bytes();
+    put_parts(&[digits.as_bytes(), b" "], sink)?;
     if has_byte(name, 0) {
         let name = BString::from_slice(alloc, name)?;
         return Err(Error::NullbyteInFilename { name });
     }
-    sink.put(name)?;
-    sink.put(b"\0")?;
-    sink.put(entry.oid.as_bytes())?;
+    put_parts(&[name, b"\0", entry.oid.as_bytes()], sink)?;
     Ok(())
 }
 

@@ -11,4 +11,4 @@ returns-in_err-shown-clause-refusal g c =
     let input = c.in_ok-bytes.bytes.items in
     let read : ReadsAll (g.S.Source.rest c.args.input.now) (g.S.Source.rest c.read_all.new.source) input = (c.in_ok-bytes.ensures.all, c.in_ok-bytes.ensures.end) in
     let refused : RefusesObject input c.in_err-shown.field-0.0 = rw (← c.as_slice.ensures.value) c.in_err-shown.ensures.refusal in
-    rw (made.1, made.2) (refused_object _ _ _ _ _ c.in_err-shown.field-0.0 input (c.in-Some.hash, c.in-Some.ensures.found) read refused)
+    rw (made.1, made.2) (refused_object _ _ _ _ _ _ c.in_err-shown.field-0.0 input (c.in-Some.hash, c.in-Some.ensures.found) read refused)

@@ -1,4 +1,4 @@
-use Rattle.std.proofs.Common.{Some, ℕ, List, ◌++◌, ap, ◌∙◌}
+use Rattle.std.proofs.Common.{ℕ, List, ◌++◌, ap, ◌∙◌}
 use Rattle.std.proofs.lemmas.Result.{err_from_is_err_and}
 use Rattle.gixobj_commits.proofs.WritingBack.{own_parts, owning_refused, refused_owned}
 use Rattle.gixobj_commits.specs.CommitViews.{commit_lines, owned_lines}
@@ -14,7 +14,7 @@ pub returns-in_err-write_to_vec-clause-refusal :
     goal.returns-in_err-write_to_vec-clause-refusal
 returns-in_err-write_to_vec-clause-refusal c =
     let from = err_from_is_err_and c.from_residual-in_err-write_to_vec.result c.from_residual-in_err-write_to_vec.ensures.1 in
-    rw (from.1, from.2) (refused_owned c.args.hash_kind c.args.bytes.now (commit_lines c.in_ok-commit.commit) c.in_ok-owned.owned (Some c.new-out.result.items) (Some c.write_to_vec.new.out.items) _ c.in_err-write_to_vec.field-0.0 c.in_ok-commit.ensures.found c.in_ok-owned.ensures.owned c.in_err-write_to_vec.ensures.refusal)
+    rw (from.1, from.2) (refused_owned c.args.hash_kind c.args.bytes.now (commit_lines c.in_ok-commit.commit) c.in_ok-owned.owned _ _ _ c.in_err-write_to_vec.field-0.0 c.in_ok-commit.ensures.found c.in_ok-owned.ensures.owned c.in_err-write_to_vec.ensures.refusal)
 
 pub returns-clause-written : goal.returns-clause-written
 returns-clause-written c =

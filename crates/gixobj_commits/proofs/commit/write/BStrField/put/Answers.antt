@@ -8,6 +8,3 @@ returns-clause-ok g c = rw (sym (hex_in_lower_case _ _ c.id_of_hex.ensures.spell
 
 pub returns-clause-err : goal.returns-clause-err
 returns-clause-err g c = rw (sym (hex_in_lower_case _ _ c.id_of_hex.ensures.spelled)) c.trusted_header_id.ensures.err
-
-pub returns-clause-lasting : goal.returns-clause-lasting
-returns-clause-lasting g c = rw (sym (hex_in_lower_case _ _ c.id_of_hex.ensures.spelled)) c.trusted_header_id.ensures.lasting

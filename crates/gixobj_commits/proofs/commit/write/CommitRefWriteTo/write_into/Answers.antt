@@ -4,7 +4,7 @@ use Rattle.bstr.specs.BStr.{bstr_bytes}
 use Rattle.gixobj_fields.proofs.Refusals.{says_why_behind}
 use Rattle.gixobj_ids.specs.Hash.{IsHexOfAnId}
 use Rattle.gixobj_commits.proofs.CommitWrites.{borrowed_as_put, borrowed_refused, each_mapped}
-use Rattle.gixobj_fields.proofs.Steps.{all_lasting, all_written, first_refused, fourth_refused, front_written, second_refused, third_refused}
+use Rattle.gixobj_fields.proofs.Steps.{all_put, first_front, fourth_front, second_front, third_front, three_put}
 use Rattle.gixobj_commits.specs.CommitViews.{bytes_if_some, commit_lines}
 use Rattle.gixobj_commits.specs.CommitWriting.{RefusesLines, in_lower_case, RefusesEncodingLine}
 use Rattle.gixobj_commits.proofs.commit.write.CommitRefWriteTo.write_into.Goals as goal
@@ -17,41 +17,35 @@ returns-in_err-put_ids-clause-refusal g c =
     let whole = borrowed_as_put c.args.self.now c.id_of_hex-tree.result c.as_slice-parents.result.now c.as_bytes-author.result.now c.as_bytes-committer.result.now c.as_slice-headers.result.now c.as_bytes-message.result.now
     c.id_of_hex-tree.ensures.spelled c.as_slice-parents.ensures c.as_bytes-author.ensures c.as_bytes-committer.ensures c.as_slice-headers.ensures.value c.as_bytes-message.ensures in
     let from = err_from_is_err_and c.from_residual.result c.from_residual.ensures.1 in
-    rw (from.1, from.2) (first_refused (g.S.Sink.may_refuse c.args.sink.now) _ _ _ _ _ whole c.in_err-put_ids.ensures.err)
+    rw (from.1, from.2) (first_front _ _ _ _ _ _ _ whole c.in_err-put_ids.ensures.err)
 
 pub returns-in_err-trusted_header_field-clause-refusal : goal.returns-in_err-trusted_header_field-clause-refusal
 returns-in_err-trusted_header_field-clause-refusal g c =
     let whole = borrowed_as_put c.args.self.now c.id_of_hex-tree.result c.as_slice-parents.result.now c.as_bytes-author.result.now c.as_bytes-committer.result.now c.as_slice-headers.result.now c.as_bytes-message.result.now
     c.id_of_hex-tree.ensures.spelled c.as_slice-parents.ensures c.as_bytes-author.ensures c.as_bytes-committer.ensures c.as_slice-headers.ensures.value c.as_bytes-message.ensures in
     let from = err_from_is_err_and c.from_residual-in_err-trusted_header_field.result c.from_residual-in_err-trusted_header_field.ensures.1 in
-    rw (from.1, from.2) (second_refused (g.S.Sink.may_refuse c.args.sink.now) (g.S.Sink.may_refuse c.put_ids.new.sink) _ _ _ _ _ whole c.in_ok-put_ids.ensures.lasting c.in_err-trusted_header_field.ensures.err)
+    rw (from.1, from.2) (second_front _ _ _ _ _ _ _ _ whole c.in_ok-put_ids.ensures.ok c.in_err-trusted_header_field.ensures.err)
 
 pub returns-in_err-trusted_header_field-2-clause-refusal : goal.returns-in_err-trusted_header_field-2-clause-refusal
 returns-in_err-trusted_header_field-2-clause-refusal g c =
     let whole = borrowed_as_put c.args.self.now c.id_of_hex-tree.result c.as_slice-parents.result.now c.as_bytes-author.result.now c.as_bytes-committer.result.now c.as_slice-headers.result.now c.as_bytes-message.result.now
     c.id_of_hex-tree.ensures.spelled c.as_slice-parents.ensures c.as_bytes-author.ensures c.as_bytes-committer.ensures c.as_slice-headers.ensures.value c.as_bytes-message.ensures in
     let from = err_from_is_err_and c.from_residual-in_err-trusted_header_field-2.result c.from_residual-in_err-trusted_header_field-2.ensures.1 in
-    rw (from.1, from.2) (third_refused (g.S.Sink.may_refuse c.args.sink.now) (g.S.Sink.may_refuse c.put_ids.new.sink) (g.S.Sink.may_refuse c.trusted_header_field.new.sink) _ _ _ _ _ whole c.in_ok-put_ids.ensures.lasting c.in_ok-trusted_header_field.ensures.lasting c.in_err-trusted_header_field-2.ensures.err)
+    rw (from.1, from.2) (third_front _ _ _ _ _ _ _ _ _ whole c.in_ok-put_ids.ensures.ok c.in_ok-trusted_header_field.ensures.written c.in_err-trusted_header_field-2.ensures.err)
 
 pub returns-in_err-put_rest-clause-refusal : goal.returns-in_err-put_rest-clause-refusal
 returns-in_err-put_rest-clause-refusal g c =
     let whole = borrowed_as_put c.args.self.now c.id_of_hex-tree.result c.as_slice-parents.result.now c.as_bytes-author.result.now c.as_bytes-committer.result.now c.as_slice-headers.result.now c.as_bytes-message.result.now
     c.id_of_hex-tree.ensures.spelled c.as_slice-parents.ensures c.as_bytes-author.ensures c.as_bytes-committer.ensures c.as_slice-headers.ensures.value c.as_bytes-message.ensures in
     let from = err_from_is_err_and c.from_residual-in_err-put_rest.result c.from_residual-in_err-put_rest.ensures.1 in
-    rw (from.1, from.2) (says_why_behind (RefusesEncodingLine (bytes_if_some c.args.self.now.encoding)) (RefusesLines (in_lower_case (commit_lines c.args.self.now))) (g.S.Sink.held c.args.sink.now) (g.S.Sink.held c.trusted_header_field-2.new.sink) (g.S.Sink.held c.put_rest.new.sink) _ _ _
-    (front_written (g.S.Sink.held c.args.sink.now) (g.S.Sink.held c.put_ids.new.sink) (g.S.Sink.held c.trusted_header_field.new.sink) (g.S.Sink.held c.trusted_header_field-2.new.sink) _ _ _ c.in_ok-put_ids.ensures.ok c.in_ok-trusted_header_field.ensures.written c.in_ok-trusted_header_field-2.ensures.written)
+    rw (from.1, from.2) (says_why_behind (RefusesEncodingLine (bytes_if_some c.args.self.now.encoding)) (RefusesLines (in_lower_case (commit_lines c.args.self.now))) (g.S.Sink.view c.args.sink.now) (g.S.Sink.view c.trusted_header_field-2.new.sink) (g.S.Sink.view c.put_rest.new.sink) _ _ _
+    (three_put _ _ _ _ _ _ _ c.in_ok-put_ids.ensures.ok c.in_ok-trusted_header_field.ensures.written c.in_ok-trusted_header_field-2.ensures.written)
     (λ value parts. borrowed_refused c.args.self.now c.id_of_hex-tree.result c.as_slice-parents.result.now c.as_bytes-author.result.now c.as_bytes-committer.result.now value parts c.id_of_hex-tree.ensures.spelled c.as_slice-parents.ensures c.as_bytes-author.ensures c.as_bytes-committer.ensures)
-    (fourth_refused (g.S.Sink.may_refuse c.args.sink.now) (g.S.Sink.may_refuse c.put_ids.new.sink) (g.S.Sink.may_refuse c.trusted_header_field.new.sink) (g.S.Sink.may_refuse c.trusted_header_field-2.new.sink) _ _ _ _ _ whole c.in_ok-put_ids.ensures.lasting c.in_ok-trusted_header_field.ensures.lasting c.in_ok-trusted_header_field-2.ensures.lasting)
+    (fourth_front _ _ _ _ _ _ _ _ _ _ whole c.in_ok-put_ids.ensures.ok c.in_ok-trusted_header_field.ensures.written c.in_ok-trusted_header_field-2.ensures.written)
     c.in_err-put_rest.field-0.0 c.in_err-put_rest.ensures.refusal)
 
 pub returns-clause-written : goal.returns-clause-written
 returns-clause-written g c =
     let whole = borrowed_as_put c.args.self.now c.id_of_hex-tree.result c.as_slice-parents.result.now c.as_bytes-author.result.now c.as_bytes-committer.result.now c.as_slice-headers.result.now c.as_bytes-message.result.now
     c.id_of_hex-tree.ensures.spelled c.as_slice-parents.ensures c.as_bytes-author.ensures c.as_bytes-committer.ensures c.as_slice-headers.ensures.value c.as_bytes-message.ensures in
-    all_written (g.S.Sink.held c.args.sink.now) (g.S.Sink.held c.put_ids.new.sink) (g.S.Sink.held c.trusted_header_field.new.sink) (g.S.Sink.held c.trusted_header_field-2.new.sink) (g.S.Sink.held c.put_rest.new.sink) _ _ _ _ _ whole c.in_ok-put_ids.ensures.ok c.in_ok-trusted_header_field.ensures.written c.in_ok-trusted_header_field-2.ensures.written c.in_ok-put_rest.ensures.written
-
-pub returns-clause-lasting : goal.returns-clause-lasting
-returns-clause-lasting g c =
-    let whole = borrowed_as_put c.args.self.now c.id_of_hex-tree.result c.as_slice-parents.result.now c.as_bytes-author.result.now c.as_bytes-committer.result.now c.as_slice-headers.result.now c.as_bytes-message.result.now
-    c.id_of_hex-tree.ensures.spelled c.as_slice-parents.ensures c.as_bytes-author.ensures c.as_bytes-committer.ensures c.as_slice-headers.ensures.value c.as_bytes-message.ensures in
-    all_lasting (g.S.Sink.may_refuse c.args.sink.now) (g.S.Sink.may_refuse c.put_ids.new.sink) (g.S.Sink.may_refuse c.trusted_header_field.new.sink) (g.S.Sink.may_refuse c.trusted_header_field-2.new.sink) (g.S.Sink.may_refuse c.put_rest.new.sink) _ _ _ _ _ whole c.in_ok-put_ids.ensures.lasting c.in_ok-trusted_header_field.ensures.lasting c.in_ok-trusted_header_field-2.ensures.lasting c.in_ok-put_rest.ensures.lasting
+    all_put _ _ _ _ _ _ _ _ _ _ whole c.in_ok-put_ids.ensures.ok c.in_ok-trusted_header_field.ensures.written c.in_ok-trusted_header_field-2.ensures.written c.in_ok-put_rest.ensures.written

@@ -1,0 +1,336 @@
+//! The editor of one level. Ids of trees are those that `git mktree` answers.
+ghost use Rattle.std.specs.Prelude.{◌≡◌, ◌≤◌, ℕ, ◌∷◌, [], IfOk, IfSome, length};
+ghost use Rattle.gixobj_base.specs.Mode.{mode_of_kind};
+ghost use Rattle.gixobj_base.specs.trees.tree.entry_kind.EntryKind.TheVariants.{Blob};
+ghost use Rattle.gix_object.specs.EditorCalls.{EditorFiles, IsCallableOnTrees, names_of};
+ghost use Rattle.gix_object.specs.Files.{Agrees, NamedFiles, SameFiles, Table};
+ghost use Rattle.gix_object.specs.History.{History, remove, upsert};
+
+use crate::listing::files_of;
+use bstr::BString;
+use gix_object::hash::{Kind as HashKind, ObjectId};
+use gix_object::tree::editor::{Editor, Error, WriteError, Written};
+use gix_object::tree::{Entry, EntryKind};
+use gix_object::{Kind, Tree, WriteTo, compute_hash, encode};
+use std::alloc::{AllocError, Global};
+use std::test::Fail;
+
+/// The path of one name.
+fn path(alloc: Global, name: &[u8]) -> Result<Vec<BString>, AllocError>
+    ensures { IfOk result (λ path. length path.items ≡ 1) }
+{
+    let mut path = Vec::new(alloc);
+    path.push(BString::from_slice(alloc, name)?)?;
+    Ok(path)
+}
+
+fn id(hex: &[u8]) -> Result<ObjectId, Fail> {
+    Ok(ObjectId::from_hex(hex).ok_or("an id")?)
+}
+
+/// The id of a tree's written bytes.
+fn id_of(alloc: Global, tree: &Tree) -> Result<ObjectId, encode::Error> {
+    let mut out = Vec::new(alloc);
+    tree.write_to(alloc, &mut out)?;
+    Ok(compute_hash(HashKind::Sha1, Kind::Tree, &out))
+}
+
+fn empty_editor(alloc: Global) -> Editor<()> {
+    Editor::new(Tree::empty(alloc), (), HashKind::Sha1)
+}
+
+fn names(alloc: Global, tree: &Tree) -> Result<Vec<u8>, AllocError> {
+    let mut names = Vec::new(alloc);
+    for entry in &tree.entries {
+        names.extend_from_slice(entry.filename.as_bytes())?;
+        names.push(b' ')?;
+    }
+    Ok(names)
+}
+
+/// The one tree that a write handed out.
+fn written(alloc: Global, editor: &mut Editor<()>) -> Result<Written, Fail> {
+    match editor.write(|tree: &Tree| id_of(alloc, tree)) {
+        Ok(written) => Ok(written),
+        Err(_) => Err("a refused write")?,
+    }
+}
+
+/// Two edits and a write: the tree that is named has the files of that history.
+fn edited_and_written<S, E: Drop, F: FnMut(&Tree) -> Result<ObjectId, E> + Drop>(
+    editor: &mut Editor<S>,
+    first: &[BString],
+    id: ObjectId,
+    second: &[BString],
+    out: F,
+) -> Result<Option<Written>, Error>
+    requires short { (length first.now ≤ 1) × (length second.now ≤ 1) }
+    requires callable { IsCallableOnTrees F.pre }
+    ensures { IfOk result (λ it. IfSome it (λ written. (T : Table) (n : ℕ) → Agrees T written.trees.items → SameFiles (NamedFiles T n written.id)
+        (History T n (upsert (names_of first.now) (mode_of_kind Blob) id ∷ remove (names_of second.now) ∷ []) (EditorFiles T n editor.old)))) }
+{
+    editor.try_upsert(first, EntryKind::Blob, id)?;
+    editor.try_remove(second)?;
+    match editor.write(out) {
+        Ok(written) => Ok(Some(written)),
+        Err(_) => Ok(None),
+    }
+}
+
+const TEST: &[u8] = b"1f7a7a472abf3dd9643fd615f6da379c4acb3e3a";
+
+const NEW: &[u8] = b"fa49b077972391ad58037050f2a75f74e3671e92";
+
+const BAK_TEST: &[u8] = b"83baae61804e65cc73a7201a7252750c76066a30";
+
+const BAK: &[u8] = b"d8329fc1cc938780ffdd9f94e0d364e0ea74f579";
+
+#[test]
+fn files_and_a_tree(rt: HostRuntime) -> Result<(), Fail> {
+    let alloc = rt.alloc();
+    let mut editor = empty_editor(alloc);
+    editor
+        .upsert(&path(alloc, b"test.txt")?, EntryKind::Blob, id(TEST)?)?
+        .upsert(&path(alloc, b"new.txt")?, EntryKind::Blob, id(NEW)?)?;
+    let first = written(alloc, &mut editor)?;
+    assert!(rt; first.id == id(b"0155eb4229851634a0f03eb265b69f5a2d56f341")?);
+    assert_eq!(rt; first.trees.len(), 1);
+    editor.upsert(&path(alloc, b"bak")?, EntryKind::Tree, id(BAK)?)?;
+    let second = written(alloc, &mut editor)?;
+    assert!(rt; second.id == id(b"3c4e9cd789d88d8d89c1073707c3585e41b0e614")?);
+    assert_eq!(rt; second.trees.len(), 1);
+    assert_eq!(rt; editor.lookups(), 0);
+    Ok(())
+}
+
+#[test]
+fn file_over_directory(rt: HostRuntime) -> Result<(), Fail> {
+    let alloc = rt.alloc();
+    let mut editor = empty_editor(alloc);
+    let a = path(alloc, b"a")?;
+    editor
+        .upsert(&a, EntryKind::Blob, id(TEST)?)?
+        .upsert(&a, EntryKind::Tree, id(BAK)?)?
+        .upsert(&a, EntryKind::Blob, id(NEW)?)?;
+    let written = written(alloc, &mut editor)?;
+    let [(_, tree)] = written.trees.as_slice() else {
+        return Err("one tree")?;
+    };
+    assert_eq!(rt; names(alloc, tree)?.as_slice(), b"a ".as_slice());
+    assert!(rt; tree.entries.iter().all(|entry| entry.mode.is_blob()));
+    assert!(rt; written.id == id(b"4afb30502b0df0253d354f1ed4f2e95a75df6c32")?);
+    Ok(())
+}
+
+#[test]
+fn null_placeholder(rt: HostRuntime) -> Result<(), Fail> {
+    let alloc = rt.alloc();
+    let mut entries = Vec::new(alloc);
+    entries.push(Entry {
+        mode: EntryKind::Blob.into(),
+        filename: BString::from_slice(alloc, b"g")?,
+        oid: id(TEST)?,
+    })?;
+    let root = Tree { entries };
+    if !root.is_well_formed() {
+        return Err("a well-formed root")?;
+    }
+    let mut editor = Editor::new(root, (), HashKind::Sha1);
+    editor.upsert(
+        &path(alloc, b"g")?,
+        EntryKind::Blob,
+        ObjectId::null(HashKind::Sha1),
+    )?;
+    let written = written(alloc, &mut editor)?;
+    assert!(rt; written.id == ObjectId::empty_tree(HashKind::Sha1));
+    assert_eq!(rt; written.trees.len(), 1);
+    Ok(())
+}
+
+const NEAR: [(EntryKind, &[u8]); 3] = [
+    (EntryKind::Blob, b"a.b"),
+    (EntryKind::Tree, b"a"),
+    (EntryKind::Blob, b"a-"),
+];
+
+/// Near names, whatever the order in which they come.
+#[test]
+fn all_orders(rt: HostRuntime) -> Result<(), Fail> {
+    let alloc = rt.alloc();
+    let orders = [
+        [0, 1, 2],
+        [0, 2, 1],
+        [1, 0, 2],
+        [1, 2, 0],
+        [2, 0, 1],
+        [2, 1, 0],
+    ];
+    for order in orders {
+        let mut editor = empty_editor(alloc);
+        for place in order {
+            let (kind, name) = NEAR[place];
+            editor.upsert(&path(alloc, name)?, kind, id(TEST)?)?;
+        }
+        let written = written(alloc, &mut editor)?;
+        let [(handed, tree)] = written.trees.as_slice() else {
+            return Err("one tree")?;
+        };
+        assert_eq!(rt; names(alloc, tree)?.as_slice(), b"a- a.b a ".as_slice());
+        assert!(rt; *handed == written.id);
+        assert!(rt; written.id == id(b"d992487f7630f1fd4661ffbaa109248f5389b1cd")?);
+    }
+    Ok(())
+}
+
+#[test]
+fn failed_out(rt: HostRuntime) -> Result<(), Fail> {
+    let alloc = rt.alloc();
+    let mut editor = empty_editor(alloc);
+    editor.upsert(&path(alloc, b"a")?, EntryKind::Blob, id(TEST)?)?;
+    match editor.write(|_: &Tree| Err::<ObjectId, u8>(7)) {
+        Err(WriteError::Out(7)) => {}
+        _ => return Err("a refused tree")?,
+    }
+    let written = written(alloc, &mut editor)?;
+    let [(_, tree)] = written.trees.as_slice() else {
+        return Err("one tree")?;
+    };
+    assert_eq!(rt; names(alloc, tree)?.as_slice(), b"a ".as_slice());
+    assert!(rt; written.id == id(b"a18166ad9dc2c46e84c28b674ab8be1e202f6f82")?);
+    Ok(())
+}
+
+#[test]
+fn refused_edits(rt: HostRuntime) -> Result<(), Fail> {
+    let alloc = rt.alloc();
+    let mut editor = empty_editor(alloc);
+    editor.upsert(&path(alloc, b"a")?, EntryKind::Blob, id(TEST)?)?;
+    let empty = path(alloc, b"")?;
+    let slashed = path(alloc, b"b/c")?;
+    assert!(rt;
+        matches!(
+            &editor.try_upsert(&empty, EntryKind::Blob, id(TEST)?),
+            Err(Error::EmptyPathComponent)
+        )
+    );
+    assert!(rt;
+        matches!(
+            &editor.try_upsert(&slashed, EntryKind::Blob, id(TEST)?),
+            Err(Error::SlashInPathComponent)
+        )
+    );
+    assert!(rt; matches!(&editor.try_remove(&empty), Err(Error::EmptyPathComponent)));
+    assert!(rt;
+        matches!(
+            &editor.try_remove(&slashed),
+            Err(Error::SlashInPathComponent)
+        )
+    );
+    assert!(rt; editor.remove(&slashed).is_err());
+    let none = Vec::new(alloc);
+    editor
+        .upsert(&none, EntryKind::Tree, id(BAK)?)?
+        .remove(&none)?;
+    let tree = written(alloc, &mut editor)?;
+    let [(_, tree)] = tree.trees.as_slice() else {
+        return Err("one tree")?;
+    };
+    assert_eq!(rt; names(alloc, tree)?.as_slice(), b"a ".as_slice());
+    Ok(())
+}
+
+#[test]
+fn removed_entries(rt: HostRuntime) -> Result<(), Fail> {
+    let alloc = rt.alloc();
+    let mut editor = empty_editor(alloc);
+    editor
+        .upsert(&path(alloc, b"a")?, EntryKind::Blob, id(TEST)?)?
+        .upsert(&path(alloc, b"b")?, EntryKind::Tree, id(BAK)?)?
+        .remove(&path(alloc, b"b")?)?
+        .remove(&path(alloc, b"c")?)?;
+    let first = written(alloc, &mut editor)?;
+    let [(_, tree)] = first.trees.as_slice() else {
+        return Err("one tree")?;
+    };
+    assert_eq!(rt; names(alloc, tree)?.as_slice(), b"a ".as_slice());
+    editor.try_remove(&path(alloc, b"a")?)?;
+    assert!(rt; written(alloc, &mut editor)?.id == ObjectId::empty_tree(HashKind::Sha1));
+    Ok(())
+}
+
+#[test]
+fn a_history(rt: HostRuntime) -> Result<(), Fail> {
+    let alloc = rt.alloc();
+    let mut editor = empty_editor(alloc);
+    let (a, b) = (path(alloc, b"a")?, path(alloc, b"b")?);
+    editor.upsert(&b, EntryKind::Tree, id(BAK)?)?;
+    let out = |tree: &Tree| id_of(alloc, tree);
+    let written = edited_and_written(&mut editor, &a, id(TEST)?, &b, out)?.ok_or("a write")?;
+    assert!(rt; written.id == id(b"a18166ad9dc2c46e84c28b674ab8be1e202f6f82")?);
+    Ok(())
+}
+
+/// The paths of a tree's files to a depth, a line each.
+fn paths(
+    alloc: Global,
+    table: &[(ObjectId, Tree)],
+    depth: usize,
+    tree: &Tree,
+) -> Result<String, AllocError> {
+    let mut paths = String::new(alloc);
+    for file in files_of(alloc, table, depth, tree)? {
+        for name in &file.path {
+            paths.push_str(&format!(in alloc; "/{name}")?)?;
+        }
+        paths.push_str("\n")?;
+    }
+    Ok(paths)
+}
+
+/// What a written root has, by the slow listing: no placeholder, and below a known tree its files.
+#[test]
+fn files_to_a_depth(rt: HostRuntime) -> Result<(), Fail> {
+    let alloc = rt.alloc();
+    let mut inner = empty_editor(alloc);
+    inner.upsert(&path(alloc, b"test.txt")?, EntryKind::Blob, id(BAK_TEST)?)?;
+    let table = written(alloc, &mut inner)?.trees;
+    let [(inner_id, _)] = table.as_slice() else {
+        return Err("one tree")?;
+    };
+    assert!(rt; *inner_id == id(BAK)?);
+    let mut editor = empty_editor(alloc);
+    editor
+        .upsert(&path(alloc, b"new.txt")?, EntryKind::Blob, id(NEW)?)?
+        .upsert(&path(alloc, b"bak")?, EntryKind::Tree, *inner_id)?
+        .upsert(
+            &path(alloc, b"q")?,
+            EntryKind::Blob,
+            ObjectId::null(HashKind::Sha1),
+        )?
+        .upsert(&path(alloc, b"far")?, EntryKind::Tree, id(TEST)?)?;
+    let outer = written(alloc, &mut editor)?;
+    let [(_, tree)] = outer.trees.as_slice() else {
+        return Err("one tree")?;
+    };
+    assert_eq!(rt; paths(alloc, &table, 0, tree)?.as_str(), "");
+    assert_eq!(rt; paths(alloc, &table, 1, tree)?.as_str(), "/far\n/new.txt\n");
+    assert_eq!(rt;
+        paths(alloc, &table, 2, tree)?.as_str(),
+        "/bak/test.txt\n/far\n/new.txt\n"
+    );
+    editor.remove(&path(alloc, b"bak")?)?;
+    let outer = written(alloc, &mut editor)?;
+    let [(_, tree)] = outer.trees.as_slice() else {
+        return Err("one tree")?;
+    };
+    assert_eq!(rt; paths(alloc, &table, 9, tree)?.as_str(), "/far\n/new.txt\n");
+    Ok(())
+}
+
+#[test]
+fn the_store_is_lent(rt: HostRuntime) {
+    let mut editor = Editor::new(Tree::empty(rt.alloc()), 1u8, HashKind::Sha256);
+    *editor.store_mut() += 1;
+    assert_eq!(rt; *editor.store_mut(), 2);
+    assert_eq!(rt; editor.lookups(), 0);
+}

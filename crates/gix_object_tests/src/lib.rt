@@ -1,0 +1,9 @@
+//! Tests of `gix_object`.
+#![tactic(auto)]
+
+#[cfg(test)]
+mod editor;
+#[cfg(test)]
+mod listing;
+#[cfg(test)]
+mod public_paths;

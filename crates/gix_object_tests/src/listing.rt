@@ -1,0 +1,135 @@
+//! The files of a tree to a depth, computed slowly, for tests to compare with.
+ghost use Rattle.std.specs.Prelude.{◌≡◌, ◌++◌, ◌∷◌, [], IfOk, OnOk, map};
+ghost use Rattle.std.specs.Option.{option_copied};
+ghost use Rattle.bstr.specs.Owned.{bstring_bytes};
+ghost use Rattle.gix_object.specs.Files.{Below, Files, SameFiles, Table};
+ghost use Rattle.gix_object.specs.Listing.{IsFirst, IsTableOf};
+ghost use Rattle.gix_object_tests.specs.Lists.{Lists, in_front};
+
+#[cfg(test)]
+mod tests;
+
+use bstr::BString;
+use gix_object::Tree;
+use gix_object::hash::ObjectId;
+use gix_object::tree::{Entry, EntryMode};
+use std::alloc::{AllocError, Global};
+use std::marker::Model;
+
+/// A file.
+#[derive(Debug, Drop)]
+pub(crate) struct Listed {
+    /// The names on the way to it, and its own.
+    pub(crate) path: Vec<BString>,
+    /// The mode of its entry.
+    pub(crate) mode: EntryMode,
+    /// The id of its entry.
+    pub(crate) id: ObjectId,
+}
+
+impl Model for Listed {
+    ghost use Rattle.gix_object.specs.EditorCalls.{names_of};
+    ghost use Rattle.gix_object_tests.specs.Lists.{FileView};
+
+    ghost Value = { FileView };
+
+    ghost view = { λ file. record { path = names_of file.path.items; mode = file.mode; id = file.id } };
+}
+
+/// The files of the tree, with paths of at most so many names. An id names the first tree of the table
+/// that has it; the null id names none, and that of the empty tree names the empty tree.
+#[cycle(listing)]
+pub(crate) fn files_of(
+    alloc: Global,
+    table: &[(ObjectId, Tree)],
+    depth: usize,
+    tree: &Tree,
+) -> Result<Vec<Listed>, AllocError>
+    ensures { IfOk result (λ files. (T : Table) → IsTableOf T table.now → SameFiles (Lists files.items) (Files T depth tree.now)) }
+{
+    let mut files = Vec::new(alloc);
+    if depth == 0 {
+        return Ok(files);
+    }
+    for entry in &tree.entries {
+        let below = files_below(alloc, table, depth - 1, entry)?;
+        add_in_front(alloc, &mut files, &entry.filename, below)?;
+    }
+    Ok(files)
+}
+
+/// The files at and below an entry, by their paths from there.
+#[cycle(listing)]
+fn files_below(
+    alloc: Global,
+    table: &[(ObjectId, Tree)],
+    depth: usize,
+    entry: &Entry,
+) -> Result<Vec<Listed>, AllocError>
+    ensures { IfOk result (λ files. (T : Table) → IsTableOf T table.now → SameFiles (Lists files.items) (Below T (Files T depth) entry.now.mode entry.now.id)) }
+{
+    if entry.oid.is_null() {
+        return Ok(Vec::new(alloc));
+    }
+    if !entry.mode.is_tree() {
+        return one_file(alloc, entry);
+    }
+    if entry.oid.is_empty_tree() {
+        return Ok(Vec::new(alloc));
+    }
+    match first_tree(table, &entry.oid) {
+        Some(tree) => files_of(alloc, table, depth, tree),
+        None => one_file(alloc, entry),
+    }
+}
+
+/// The entry as a file, without its name.
+fn one_file(alloc: Global, entry: &Entry) -> Result<Vec<Listed>, AllocError>
+    ensures { IfOk result (λ files. files.items ≡ record { path = []; mode = entry.now.mode; id = entry.now.id } ∷ []) }
+{
+    let file = Listed {
+        path: Vec::new(alloc),
+        mode: entry.mode,
+        id: entry.oid,
+    };
+    let mut files = Vec::new(alloc);
+    files.push(file)?;
+    Ok(files)
+}
+
+/// The first tree of this id.
+fn first_tree<'a>(table: &'a [(ObjectId, Tree)], id: &ObjectId) -> Option<&'a Tree>
+    ensures { IsFirst table.now id.now (option_copied result) }
+{
+    for (named, tree) in table {
+        if named == id {
+            return Some(tree);
+        }
+    }
+    None
+}
+
+/// Adds files with a name in front of their paths.
+fn add_in_front(
+    alloc: Global,
+    files: &mut Vec<Listed>,
+    name: &BString,
+    below: Vec<Listed>,
+) -> Result<(), AllocError>
+    ensures { OnOk result (files.new.items ≡ files.old.items ++ map (in_front (bstring_bytes name.now)) below.items) }
+{
+    for file in below {
+        files.push(with_name(alloc, name, file)?)?;
+    }
+    Ok(())
+}
+
+/// The file with a name in front of its path.
+fn with_name(alloc: Global, name: &BString, file: Listed) -> Result<Listed, AllocError>
+    ensures { IfOk result (λ named. named ≡ in_front (bstring_bytes name.now) file) }
+{
+    let mut named = file;
+    let first = BString::from_slice(alloc, name.as_bytes())?;
+    named.path.insert(0, first)?;
+    Ok(named)
+}

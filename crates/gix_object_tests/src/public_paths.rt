@@ -1,0 +1,55 @@
+//! Each public path of `gix_object`, as its users write it.
+
+mod root {
+    pub use gix_object::{Blob, BlobRef, Commit, CommitRef, CommitRefIter, Data, Header, Kind};
+    pub use gix_object::{Tree, WriteTo, compute_hash};
+    pub use gix_object::{actor, commit, date, decode, encode, hash, kind, laws, tree};
+}
+
+mod of_actors {
+    pub use gix_object::actor::{Signature, SignatureRef};
+    pub use gix_object::date::{Time, TimeBuf, parse_header};
+}
+
+mod of_commit {
+    pub use gix_object::commit::ref_iter;
+    pub use gix_object::commit::{BorrowedHeaders, ExtraHeaders, FindAll, OwnedHeaders};
+    pub use gix_object::commit::{Commit, CommitRef, CommitRefIter, Parents};
+    pub use gix_object::commit::{
+        SIGNATURE_FIELD_NAME, SIGNATURE_FIELD_NAME_SHA256, signature_field_name,
+    };
+}
+
+mod of_ref_iter {
+    pub use gix_object::commit::ref_iter::{CommitRefIter, ParentIds, Signatures, Token};
+}
+
+mod of_decode {
+    pub use gix_object::decode::{
+        Error, LooseHeaderDecodeError, ParseIntegerErrorKind, loose_header,
+    };
+}
+
+mod of_encode {
+    pub use gix_object::encode::{Error, RefNameFault, loose_header};
+}
+
+mod of_hash {
+    pub use gix_object::hash::verify;
+    pub use gix_object::hash::verify::Error;
+    pub use gix_object::hash::{Kind, ObjectId, oid};
+}
+
+mod of_kind {
+    pub use gix_object::kind::{Error, Kind};
+}
+
+mod of_laws {
+    pub use gix_object::laws::{a_root_alone_is_opened, every_list_makes_a_table};
+}
+
+mod of_tree {
+    pub use gix_object::tree::editor;
+    pub use gix_object::tree::editor::{Editor, Error, WriteError, Written};
+    pub use gix_object::tree::{Entry, EntryKind, EntryMode, name_order};
+}

@@ -1,0 +1,53 @@
+//! Each public path of `gixobj_base`, as its users write it.
+
+mod root {
+    pub use gixobj_base::{Blob, BlobRef, Header, Kind, Tree, WriteTo, compute_hash};
+    pub use gixobj_base::{actor, date, decode, encode, hash, kind, laws, parse, streams};
+    pub use gixobj_base::{traits, tree};
+}
+
+mod of_actors {
+    pub use gixobj_base::actor::{Signature, SignatureRef};
+    pub use gixobj_base::date::{Time, TimeBuf, parse_header};
+}
+
+mod of_decode {
+    pub use gixobj_base::decode::{
+        Error, LooseHeaderDecodeError, ParseIntegerErrorKind, loose_header,
+    };
+}
+
+mod of_encode {
+    pub use gixobj_base::encode::{Error, RefNameFault, loose_header};
+}
+
+mod of_hash {
+    pub use gixobj_base::hash::verify;
+    pub use gixobj_base::hash::verify::Error;
+    pub use gixobj_base::hash::{Kind, ObjectId, oid};
+}
+
+mod of_kind {
+    pub use gixobj_base::kind::{Error, Kind};
+}
+
+mod of_laws {
+    pub use gixobj_base::laws::{
+        actor_line_has_one_reading, actor_reads_back, header_fields_have_one_reading,
+        hex_reads_back, hex_writes_back, loose_header_reads_back, time_reads_back,
+    };
+}
+
+mod of_parse {
+    pub use gixobj_base::parse::{after_name, any_header_field, has_byte, header_field, hex_hash};
+    pub use gixobj_base::parse::{signature, split_at_byte, split_at_last_byte};
+}
+
+mod of_streams {
+    pub use gixobj_base::streams::{FromRead, Sink, Source, ToWrite};
+    pub use gixobj_base::traits::WriteTo;
+}
+
+mod of_tree {
+    pub use gixobj_base::tree::{Entry, EntryKind, EntryMode, Tree, name_order};
+}

@@ -1,0 +1,69 @@
+-- What is put into a sink in several steps.
+use Rattle.std.proofs.Common.{◌≡◌, ◌+◌, ◌-◌, ◌<◌, ◌≤◌, ℕ, take, drop, List, [], ◌++◌, Option, Some, None, Result, Ok, Err, OnErr, append_assoc, arith, length, length-append, sym, ap, ◌∙◌, refl}
+use Rattle.std.proofs.lemmas.List.{append-nil, length-drop, take-append-drop, take_all}
+use Rattle.std.specs.Io.KnownBytes.{Appends}
+use Rattle.gixobj_fields.specs.Streams.{Puts, PutsFront, SinkView}
+
+pub appends_more : (a b c : Option (List ℕ)) (x y : List ℕ) → Appends a b x → Appends b c y → Appends a c (x ++ y)
+appends_more None b c x y p q = tt
+appends_more (Some a) None c x y p q = absurd p
+appends_more (Some a) (Some b) None x y p q = absurd q
+appends_more (Some a) (Some b) (Some c) x y p q = rw (q, p) (append_assoc a x y)
+
+pub appends_nothing : (held : Option (List ℕ)) → Appends held held []
+appends_nothing None = tt
+appends_nothing (Some bytes) = sym (append-nil bytes)
+
+pub puts_nothing : (a : SinkView) → Puts a a []
+puts_nothing a = record { held = appends_nothing a.held; room = omega arith }
+
+pub puts_more : (a b c : SinkView) (x y : List ℕ) → Puts a b x → Puts b c y → Puts a c (x ++ y)
+puts_more a b c x y first second =
+    record {
+      held = appends_more a.held b.held c.held x y first.held second.held;
+      room = omega (arith, first.room, second.room, length-append x y);
+    }
+
+-- what was put of a part is a front of the whole
+pub front_first : (a b : SinkView) (x y : List ℕ) → PutsFront a b x → PutsFront a b (x ++ y)
+front_first a b x y part =
+    record {
+      front = part.front;
+      rest = part.rest ++ y;
+      joined = ap (λ (it : List ℕ). it ++ y) part.joined ∙ append_assoc part.front part.rest y;
+      held = part.held;
+      short = omega (arith, part.short, length-append x y);
+    }
+
+-- a front of a part behind what was put is a front of the whole
+pub front_more : (a b c : SinkView) (x y : List ℕ) → Puts a b x → PutsFront b c y → PutsFront a c (x ++ y)
+front_more a b c x y first part =
+    record {
+      front = x ++ part.front;
+      rest = part.rest;
+      joined = ap (λ (it : List ℕ). x ++ it) part.joined ∙ sym (append_assoc x part.front part.rest);
+      held = appends_more a.held b.held c.held x part.front first.held part.held;
+      short = omega (arith, first.room, part.short, length-append x y);
+    }
+
+-- a front of a part is a front of all that stands before, in and behind it
+pub front_within : (a b c : SinkView) (x y z : List ℕ) → Puts a b x → PutsFront b c y → PutsFront a c (x ++ (y ++ z))
+front_within a b c x y z first part = front_more a b c x (y ++ z) first (front_first b c y z part)
+
+-- the same of two parts that were put as one
+pub front_of_two : (a b : SinkView) (x y z : List ℕ) → PutsFront a b (x ++ y) → PutsFront a b (x ++ (y ++ z))
+front_of_two a b x y z part = rw (← append_assoc x y z) (front_first a b (x ++ y) z part)
+
+pub front_behind_two : (a b c : SinkView) (x y z : List ℕ) → Puts a b (x ++ y) → PutsFront b c z → PutsFront a c (x ++ (y ++ z))
+front_behind_two a b c x y z first part = rw (← append_assoc x y z) (front_more a b c (x ++ y) z first part)
+
+-- what is left of a list behind a front of it
+pub cut_behind : (front all rest : List ℕ) (n : ℕ) → all ≡ front ++ rest → n ≤ length rest → all ≡ (front ++ take n rest) ++ take (length rest - n) (drop n rest)
+cut_behind front all rest n joined short =
+    let behind : take (length rest - n) (drop n rest) ≡ drop n rest = take_all (length rest - n) (drop n rest) (omega (arith, length-drop n rest)) in
+    rw behind (joined ∙ ap (λ (it : List ℕ). front ++ it) (sym (take-append-drop n rest)) ∙ sym (append_assoc front (take n rest) (drop n rest)))
+
+-- what holds is so where there is an error
+pub so_on_err : {T E P : Type 0} (r : Result T E) → P → OnErr r P
+so_on_err (Ok value) so = tt
+so_on_err (Err why) so = so
