@@ -3,7 +3,6 @@ pub use Rattle.gixobj_actors.specs.ActorWriting
 pub use Rattle.gixobj_actors.specs.Date
 pub use Rattle.gixobj_actors.specs.declared as actors
 pub use Rattle.gixobj_commits.specs.Commit
-pub use Rattle.gixobj_commits.specs.CommitIds
 pub use Rattle.gixobj_commits.specs.CommitOwned
 pub use Rattle.gixobj_commits.specs.CommitReading
 pub use Rattle.gixobj_commits.specs.CommitViews
@@ -14,6 +13,7 @@ pub use Rattle.gixobj_data.specs.DataReading
 pub use Rattle.gixobj_data.specs.declared as unread
 pub use Rattle.gixobj_extra_headers.specs.ExtraHeaders
 pub use Rattle.gixobj_extra_headers.specs.HeadersLeft
+pub use Rattle.gixobj_extra_headers.specs.ParentsLeft
 pub use Rattle.gixobj_extra_headers.specs.declared as extra_headers
 pub use Rattle.gixobj_fields.specs.FieldWriting
 pub use Rattle.gixobj_fields.specs.HeaderReading

@@ -1,8 +1,8 @@
 //! Commits (gitdatamodel, "commits").
 
-pub use gixobj_commits::commit::{Commit, CommitRef, Parents};
+pub use gixobj_commits::commit::{Commit, CommitRef};
 pub use gixobj_extra_headers::{
-    BorrowedHeaders, ExtraHeaders, FindAll, OwnedHeaders, SIGNATURE_FIELD_NAME,
+    BorrowedHeaders, ExtraHeaders, FindAll, OwnedHeaders, Parents, SIGNATURE_FIELD_NAME,
     SIGNATURE_FIELD_NAME_SHA256, signature_field_name,
 };
 pub use gixobj_tokens::CommitRefIter;

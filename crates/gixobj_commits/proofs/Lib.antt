@@ -2,6 +2,5 @@ mod CommitChains
 mod CommitHeaders
 mod CommitParts
 mod CommitWrites
-mod ParentHexes
 mod WritingBack
 mod WrittenBack

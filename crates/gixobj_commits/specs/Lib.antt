@@ -1,5 +1,4 @@
 pub mod Commit
-pub mod CommitIds
 pub mod CommitOwned
 pub mod CommitReading
 pub mod CommitViews
@@ -10,6 +9,7 @@ pub use Rattle.gixobj_actors.specs.ActorWriting
 pub use Rattle.gixobj_actors.specs.Date
 pub use Rattle.gixobj_extra_headers.specs.ExtraHeaders
 pub use Rattle.gixobj_extra_headers.specs.HeadersLeft
+pub use Rattle.gixobj_extra_headers.specs.ParentsLeft
 pub use Rattle.gixobj_fields.specs.FieldWriting
 pub use Rattle.gixobj_fields.specs.HeaderReading
 pub use Rattle.gixobj_fields.specs.HeaderText

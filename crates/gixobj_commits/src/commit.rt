@@ -5,7 +5,7 @@ ghost use Rattle.gixobj_actors.specs.Actor.{IsActor, IsNoActor};
 ghost use Rattle.gixobj_ids.specs.Hash.{IsHexOfAnId, Spells, id_kind};
 ghost use Rattle.gixobj_fields.specs.HeaderReading.{owned_header_of};
 ghost use Rattle.gixobj_ids.specs.declared.decode.Error.TheVariants.{Malformed};
-ghost use Rattle.gixobj_commits.specs.CommitIds.{parents_left};
+ghost use Rattle.gixobj_extra_headers.specs.ParentsLeft.{parents_left};
 ghost use Rattle.gixobj_commits.specs.CommitOwned.{IsOwnedForm, IsTimeOfLine, IsTrimmedActor, RefusesOwning};
 ghost use Rattle.gixobj_commits.specs.CommitViews.{commit_lines};
 ghost use Rattle.gixobj_commits.specs.CommitWriting.{HasIds};
@@ -14,7 +14,6 @@ ghost use Rattle.gixobj_ids.specs.Hash.Hex.{IsHexOf, spelled_id};
 
 mod decode;
 mod owned;
-mod parents;
 mod write;
 
 use bstr::{BStr, BString};
@@ -22,13 +21,12 @@ use gixobj_actors::actor::{Signature, SignatureRef};
 use gixobj_actors::date::Time;
 use gixobj_actors::parse;
 pub use gixobj_extra_headers::{
-    BorrowedHeaders, ExtraHeaders, FindAll, OwnedHeaders, SIGNATURE_FIELD_NAME,
+    BorrowedHeaders, ExtraHeaders, FindAll, OwnedHeaders, Parents, SIGNATURE_FIELD_NAME,
     SIGNATURE_FIELD_NAME_SHA256, signature_field_name,
 };
 use gixobj_ids::decode::Error;
 use gixobj_ids::hash::ObjectId;
 use gixobj_ids::parse::id_of_hex;
-pub use parents::Parents;
 use smallvec::SmallVec;
 use std::alloc::Global;
 use std::borrow::CowSlice;

@@ -1,2 +1,3 @@
 mod HeaderSearches
 pub mod HeadersFound
+pub mod ParentHexes

@@ -2,7 +2,7 @@ use Rattle.std.proofs.Common.{arith, map}
 use Rattle.std.proofs.lemmas.Grind.{common_steps}
 use Rattle.bstr.specs.BStr.{bstr_bytes}
 use Rattle.gixobj_ids.proofs.HexIds.{all_spelled}
-use Rattle.gixobj_commits.proofs.ParentHexes.{id_at}
+use Rattle.gixobj_extra_headers.proofs.ParentHexes.{id_at}
 use Rattle.gixobj_commits.proofs.commit.owned.ids.Goals as goal
 
 pub id_of_hex-requires : goal.id_of_hex-requires

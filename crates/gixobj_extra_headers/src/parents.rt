@@ -2,7 +2,7 @@
 ghost use Rattle.std.specs.Prelude.{◌≡◌, All, map};
 ghost use Rattle.bstr.specs.BStr.{bstr_bytes};
 ghost use Rattle.gixobj_ids.specs.Hash.{IsHexOfAnId};
-ghost use Rattle.gixobj_ids.specs.Hash.Hex.{IsHexOfItsKind};
+ghost use Rattle.gixobj_ids.specs.Hash.Hex.{IsHexOfItsKind, spelled_id};
 
 use bstr::BStr;
 use gixobj_ids::hash::ObjectId;
@@ -16,11 +16,13 @@ pub struct Parents<'a> {
 }
 
 impl<'a> Parents<'a> {
-    /// The ids that these hex texts spell.
+    ghost use Rattle.gixobj_extra_headers.specs.ParentsLeft.{parents_left};
+
+    /// The ids that these hex texts spell. It takes no memory.
     #[tactic(auto, using(crate::proofs::ParentHexes::all_of_their_kind))]
-    pub(crate) fn new(hexes: &'a [BStr<'a>]) -> Parents<'a>
+    pub fn new(hexes: &'a [BStr<'a>]) -> Parents<'a>
         requires { All IsHexOfAnId (map bstr_bytes hexes.now) }
-        ensures { result.rest.now ≡ hexes.now }
+        ensures { parents_left result ≡ map spelled_id (map bstr_bytes hexes.now) }
     {
         Parents { rest: hexes }
     }
@@ -28,7 +30,7 @@ impl<'a> Parents<'a> {
 
 impl Iterator for Parents<'_> {
     ghost use Rattle.std.specs.Iterator.{YieldsFirst, item_count};
-    ghost use Rattle.gixobj_commits.specs.CommitIds.{parents_left};
+    ghost use Rattle.gixobj_extra_headers.specs.ParentsLeft.{parents_left};
 
     type Item = ObjectId;
 

@@ -3,7 +3,7 @@ use Rattle.std.specs.Prelude.{List, map}
 use Rattle.bstr.specs.BStr.{bstr_bytes}
 use Rattle.gixobj_ids.specs.declared.hash.object_id.ObjectId.{ObjectId}
 use Rattle.gixobj_ids.specs.Hash.Hex.{spelled_id}
-use Rattle.gixobj_commits.specs.declared.commit.parents.Parents.{Parents}
+use Rattle.gixobj_extra_headers.specs.declared.parents.Parents.{Parents}
 
 -- the parents that are still to come
 abbrev pub parents_left : Parents → List ObjectId
