@@ -176,29 +176,31 @@ const ODD_ENTRIES: [(&str, &str, &str, usize); 5] = [
     ("40000  a\0", " a", "40000  a\0", 29),
 ];
 
+/// The bytes of the id of [`odd_tree`]: twenty times 1.
+const ONES: &str =
+    "\x01\x01\x01\x01\x01\x01\x01\x01\x01\x01\x01\x01\x01\x01\x01\x01\x01\x01\x01\x01";
+
 /// An entry with this front.
-fn odd_text(alloc: Global, front: &str, oid: &ObjectId) -> Result<Vec<u8>, AllocError> {
-    let mut text = Vec::from_slice(alloc, front.as_bytes())?;
-    text.extend_from_slice(oid.as_bytes())?;
-    Ok(text)
+fn odd_text(alloc: Global, front: &str) -> Result<String, AllocError> {
+    format!(in alloc; "{front}{ONES}")
 }
 
 /// The tree of an entry with this front.
-fn odd_tree(alloc: Global, front: &str, name: &str, oid: ObjectId) -> Result<Tree, Fail> {
-    let text = odd_text(alloc, front, &oid)?;
-    let mode = EntryMode::from_bytes(&text).ok_or("a mode")?;
+fn odd_tree(alloc: Global, front: &str, name: &str) -> Result<Tree, Fail> {
+    let text = odd_text(alloc, front)?;
+    let mode = EntryMode::from_bytes(text.as_bytes()).ok_or("a mode")?;
+    let oid = ObjectId::Sha1([1; 20]);
     Ok(tree_of_one(alloc, mode, name.as_bytes(), oid)?)
 }
 
 #[test]
 fn odd_entries(rt: HostRuntime) -> Result<(), Fail> {
     let alloc = rt.alloc();
-    let oid = ObjectId::Sha1([1; 20]);
     for (front, name, written_front, len) in ODD_ENTRIES {
-        let tree = odd_tree(alloc, front, name, oid)?;
+        let tree = odd_tree(alloc, front, name)?;
         let out = written(alloc, &tree)?;
-        let wanted = odd_text(alloc, written_front, &oid)?;
-        assert!(rt; out == wanted, "{front}");
+        let wanted = odd_text(alloc, written_front)?;
+        assert!(rt; out.as_slice() == wanted.as_bytes(), "{front}");
         assert_eq!(rt; out.len(), len, "{front}");
         assert!(rt; tree.size() == Some(len as u64), "{front}");
     }
