@@ -27,8 +27,7 @@ fn entry(alloc: Global, mode: EntryKind, name: &[u8], oid: ObjectId) -> Result<E
 }
 
 #[test]
-fn odd_mode_texts(rt: HostRuntime) {
-    let mut buffer = [0; 6];
+fn texts_that_say_no_mode(rt: HostRuntime) {
     for text in [
         &b""[..],
         b"0 abcd e",
@@ -43,6 +42,11 @@ fn odd_mode_texts(rt: HostRuntime) {
         assert!(rt; EntryMode::extract_from_bytes(text).is_none(), "{text:?}");
         assert!(rt; EntryMode::try_from(text) == Err(text), "{text:?}");
     }
+}
+
+#[test]
+fn odd_mode_texts(rt: HostRuntime) {
+    let mut buffer = [0; 6];
     let texts: [(&[u8], u16, &[u8]); 9] = [
         (b"0 abc", 0, b"0"),
         (b" abc", 0, b"0"),
@@ -63,6 +67,10 @@ fn odd_mode_texts(rt: HostRuntime) {
         );
         assert!(rt; EntryMode::try_from(text).ok() == mode, "{text:?}");
     }
+}
+
+#[test]
+fn a_mode_and_what_follows(rt: HostRuntime) {
     let parts = EntryMode::extract_from_bytes(b"100755 name");
     assert!(rt; parts == Some((EntryKind::BlobExecutable.into(), &b" name"[..])));
 }
@@ -103,10 +111,17 @@ const KINDS: [(EntryKind, u16, &str, &str); 5] = [
 
 #[test]
 fn kinds_and_their_modes(rt: HostRuntime) {
-    for (kind, value, word, _) in KINDS {
+    for (kind, _, word, _) in KINDS {
         let mode = EntryMode::from(kind);
         assert!(rt; EntryKind::from(mode) == kind, "{word}");
         assert!(rt; mode.kind() == kind, "{word}");
+    }
+}
+
+#[test]
+fn values_and_words_of_kinds(rt: HostRuntime) {
+    for (kind, value, word, _) in KINDS {
+        let mode = EntryMode::from(kind);
         assert_eq!(rt; mode.value(), value);
         assert_eq!(rt; mode.as_str(), word);
     }

@@ -176,17 +176,19 @@ const ODD_ENTRIES: [(&str, &str, &str, usize); 5] = [
     ("40000  a\0", " a", "40000  a\0", 29),
 ];
 
-/// An entry with this front and the id of [`odd_tree`].
-fn odd_text(alloc: Global, front: &str) -> Result<Vec<u8>, AllocError> {
-    let mut text = Vec::from_slice(alloc, front.as_bytes())?;
-    text.extend_from_slice(&[1; 20])?;
-    Ok(text)
+/// The bytes of the id of [`odd_tree`]: twenty times 1.
+const ONES: &str =
+    "\x01\x01\x01\x01\x01\x01\x01\x01\x01\x01\x01\x01\x01\x01\x01\x01\x01\x01\x01\x01";
+
+/// An entry with this front.
+fn odd_text(alloc: Global, front: &str) -> Result<String, AllocError> {
+    format!(in alloc; "{front}{ONES}")
 }
 
 /// The tree of an entry with this front.
 fn odd_tree(alloc: Global, front: &str, name: &str) -> Result<Tree, Fail> {
     let text = odd_text(alloc, front)?;
-    let mode = EntryMode::from_bytes(&text).ok_or("a mode")?;
+    let mode = EntryMode::from_bytes(text.as_bytes()).ok_or("a mode")?;
     let oid = ObjectId::Sha1([1; 20]);
     Ok(tree_of_one(alloc, mode, name.as_bytes(), oid)?)
 }
@@ -198,7 +200,7 @@ fn odd_entries(rt: HostRuntime) -> Result<(), Fail> {
         let tree = odd_tree(alloc, front, name)?;
         let out = written(alloc, &tree)?;
         let wanted = odd_text(alloc, written_front)?;
-        assert!(rt; out == wanted, "{front}");
+        assert!(rt; out.as_slice() == wanted.as_bytes(), "{front}");
         assert_eq!(rt; out.len(), len, "{front}");
         assert!(rt; tree.size() == Some(len as u64), "{front}");
     }
@@ -220,13 +222,18 @@ fn a_thousand_files(rt: HostRuntime) -> Result<(), Fail> {
     Ok(())
 }
 
-/// Two files, the second of which has a zero byte in its name.
+/// Three entries. The second and the third have a zero byte in their names.
 fn with_a_zero_byte(alloc: Global) -> Result<Tree, AllocError> {
     let oid = ObjectId::empty_blob(hash::Kind::Sha1);
+    let rows: [(EntryKind, &[u8]); 3] = [
+        (EntryKind::Blob, b"a"),
+        (EntryKind::Link, b"b\0c"),
+        (EntryKind::Blob, b"d\0"),
+    ];
     let mut entries = Vec::new(alloc);
-    entries.push(entry(alloc, EntryKind::Blob.into(), b"a", oid)?)?;
-    entries.push(entry(alloc, EntryKind::Link.into(), b"b\0c", oid)?)?;
-    entries.push(entry(alloc, EntryKind::Blob.into(), b"d\0", oid)?)?;
+    for (kind, name) in rows {
+        entries.push(entry(alloc, kind.into(), name, oid)?)?;
+    }
     Ok(Tree { entries })
 }
 
