@@ -1,9 +1,10 @@
 //! Each public path of `gix_object`, as its users write it.
 
 mod root {
-    pub use gix_object::{Blob, BlobRef, Commit, CommitRef, CommitRefIter, Data, Header, Kind};
-    pub use gix_object::{Tree, WriteTo, compute_hash};
-    pub use gix_object::{actor, commit, date, decode, encode, hash, kind, laws, tree};
+    pub use gix_object::{
+        Blob, BlobRef, Commit, CommitRef, CommitRefIter, Data, Header, Kind, Tree, WriteTo, actor,
+        commit, compute_hash, date, decode, encode, hash, kind, laws, tree,
+    };
 }
 
 mod of_actors {
@@ -12,11 +13,9 @@ mod of_actors {
 }
 
 mod of_commit {
-    pub use gix_object::commit::ref_iter;
-    pub use gix_object::commit::{BorrowedHeaders, ExtraHeaders, FindAll, OwnedHeaders};
-    pub use gix_object::commit::{Commit, CommitRef, CommitRefIter, Parents};
     pub use gix_object::commit::{
-        SIGNATURE_FIELD_NAME, SIGNATURE_FIELD_NAME_SHA256, signature_field_name,
+        BorrowedHeaders, Commit, CommitRef, CommitRefIter, ExtraHeaders, FindAll, OwnedHeaders,
+        Parents, SIGNATURE_FIELD_NAME, SIGNATURE_FIELD_NAME_SHA256, ref_iter, signature_field_name,
     };
 }
 
@@ -35,9 +34,8 @@ mod of_encode {
 }
 
 mod of_hash {
-    pub use gix_object::hash::verify;
     pub use gix_object::hash::verify::Error;
-    pub use gix_object::hash::{Kind, ObjectId, oid};
+    pub use gix_object::hash::{Kind, ObjectId, oid, verify};
 }
 
 mod of_kind {
@@ -49,7 +47,6 @@ mod of_laws {
 }
 
 mod of_tree {
-    pub use gix_object::tree::editor;
     pub use gix_object::tree::editor::{Editor, Error, WriteError, Written};
-    pub use gix_object::tree::{Entry, EntryKind, EntryMode, name_order};
+    pub use gix_object::tree::{Entry, EntryKind, EntryMode, editor, name_order};
 }

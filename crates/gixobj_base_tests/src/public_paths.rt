@@ -1,9 +1,10 @@
 //! Each public path of `gixobj_base`, as its users write it.
 
 mod root {
-    pub use gixobj_base::{Blob, BlobRef, Header, Kind, Tree, WriteTo, compute_hash};
-    pub use gixobj_base::{actor, date, decode, encode, hash, kind, laws, parse, streams};
-    pub use gixobj_base::{traits, tree};
+    pub use gixobj_base::{
+        Blob, BlobRef, Header, Kind, Tree, WriteTo, actor, compute_hash, date, decode, encode,
+        hash, kind, laws, parse, streams, traits, tree,
+    };
 }
 
 mod of_actors {
@@ -22,9 +23,8 @@ mod of_encode {
 }
 
 mod of_hash {
-    pub use gixobj_base::hash::verify;
     pub use gixobj_base::hash::verify::Error;
-    pub use gixobj_base::hash::{Kind, ObjectId, oid};
+    pub use gixobj_base::hash::{Kind, ObjectId, oid, verify};
 }
 
 mod of_kind {
@@ -39,8 +39,10 @@ mod of_laws {
 }
 
 mod of_parse {
-    pub use gixobj_base::parse::{after_name, any_header_field, has_byte, header_field, hex_hash};
-    pub use gixobj_base::parse::{signature, split_at_byte, split_at_last_byte};
+    pub use gixobj_base::parse::{
+        after_name, any_header_field, has_byte, header_field, hex_hash, signature, split_at_byte,
+        split_at_last_byte,
+    };
 }
 
 mod of_streams {

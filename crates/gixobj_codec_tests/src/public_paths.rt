@@ -5,11 +5,9 @@ mod root {
 }
 
 mod of_commit {
-    pub use gixobj_codec::commit::ref_iter;
-    pub use gixobj_codec::commit::{BorrowedHeaders, ExtraHeaders, FindAll, OwnedHeaders};
-    pub use gixobj_codec::commit::{Commit, CommitRef, CommitRefIter, Parents};
     pub use gixobj_codec::commit::{
-        SIGNATURE_FIELD_NAME, SIGNATURE_FIELD_NAME_SHA256, signature_field_name,
+        BorrowedHeaders, Commit, CommitRef, CommitRefIter, ExtraHeaders, FindAll, OwnedHeaders,
+        Parents, SIGNATURE_FIELD_NAME, SIGNATURE_FIELD_NAME_SHA256, ref_iter, signature_field_name,
     };
 }
 
@@ -19,10 +17,9 @@ mod of_ref_iter {
 
 mod of_laws {
     pub use gixobj_codec::laws::{
-        commit_has_one_reading, commit_reads_and_writes, commit_writes_back, header_reads_back,
-        hex_spells_one_id,
+        commit_has_one_reading, commit_reads_and_writes, commit_writes_back, extra_headers,
+        header_reads_back, hex_spells_one_id, readers, rewriting, tokens,
     };
-    pub use gixobj_codec::laws::{extra_headers, readers, rewriting, tokens};
 }
 
 mod of_laws_by_topic {
