@@ -18,14 +18,11 @@ fn read(line: &[u8]) -> Option<(SignatureRef<'_>, &[u8])> {
     }
 }
 
-/// What is written of an owned actor, or none where it is illegal.
-fn written(alloc: Global, actor: &Signature) -> Result<Option<Vec<u8>>, Fail> {
+/// What is written of an owned actor.
+fn written(alloc: Global, actor: &Signature) -> Result<Vec<u8>, Error> {
     let mut out = Vec::new(alloc);
-    match actor.write_to(&mut out) {
-        Ok(()) => Ok(Some(out)),
-        Err(Error::IllegalActor) => Ok(None),
-        Err(_) => Err("a writer over memory")?,
-    }
+    actor.write_to(&mut out)?;
+    Ok(out)
 }
 
 /// Lines of objects that were made with `git hash-object`: name, email, time text and rest.
@@ -194,22 +191,26 @@ fn white_space_at_the_ends(rt: HostRuntime) -> Result<(), Fail> {
 
 #[test]
 fn extreme_times(rt: HostRuntime) -> Result<(), Fail> {
-    let alloc = rt.alloc();
-    let (actor, _) = read(b"A <a@b> 9223372036854775807 -0130").ok_or("an actor")?;
-    assert!(rt; actor.time() == Time::new(9_223_372_036_854_775_807, -5400));
-    let (actor, _) = read(b"A <a@b> 9223372036854775808 +0000").ok_or("an actor")?;
-    assert!(rt; actor.time().is_none());
-    let out = written(alloc, &actor.to_owned(alloc)?)?.ok_or("a legal actor")?;
-    assert_eq!(rt; out.as_slice(), b"A <a@b> 0 +0000".as_slice());
-    assert_eq!(rt; out.len(), 15);
+    let rows: [(&str, Option<Time>); 2] = [
+        (
+            "A <a@b> 9223372036854775807 -0130",
+            Time::new(9_223_372_036_854_775_807, -5400),
+        ),
+        ("A <a@b> 9223372036854775808 +0000", None),
+    ];
+    for (line, time) in rows {
+        let (actor, _) = read(line.as_bytes()).ok_or("an actor")?;
+        assert!(rt; actor.time() == time, "{line}");
+    }
     Ok(())
 }
 
 #[test]
 fn owned_and_written(rt: HostRuntime) -> Result<(), Fail> {
     let alloc = rt.alloc();
-    let rows: [(&str, &str); 8] = [
+    let rows: [(&str, &str); 9] = [
         ("<a@b> 0 +0000", " <a@b> 0 +0000"),
+        ("A <a@b> 9223372036854775808 +0000", "A <a@b> 0 +0000"),
         ("A <a@b> 1 -0000", "A <a@b> 1 +0000"),
         ("A <a@b> 0012 +0100", "A <a@b> 12 +0100"),
         ("A <a@b>", "A <a@b> 0 +0000"),
@@ -221,7 +222,7 @@ fn owned_and_written(rt: HostRuntime) -> Result<(), Fail> {
     for (line, text) in rows {
         let (actor, _) = read(line.as_bytes()).ok_or("an actor")?;
         let owned = actor.to_owned(alloc)?;
-        let out = written(alloc, &owned)?.ok_or("a legal actor")?;
+        let out = written(alloc, &owned)?;
         assert_eq!(rt; out.as_slice(), text.as_bytes(), "{line}");
         assert!(rt; owned.size() == Some(out.len() as u64), "{line}");
     }
@@ -251,20 +252,25 @@ fn actors_that_cannot_be_written(rt: HostRuntime) -> Result<(), Fail> {
     ];
     for line in lines {
         let (actor, _) = read(line.as_bytes()).ok_or("an actor")?;
-        assert!(rt;
-            written(alloc, &actor.to_owned(alloc)?)?.is_none(),
-            "{line}"
-        );
+        let refused = written(alloc, &actor.to_owned(alloc)?);
+        assert!(rt; matches!(&refused, Err(Error::IllegalActor)), "{line}");
         let mut out = Vec::new(alloc);
         assert!(rt; actor.write_to(&mut out).is_err(), "{line}");
         assert!(rt; out.is_empty(), "{line}");
     }
+    Ok(())
+}
+
+#[test]
+fn newlines_that_cannot_be_written(rt: HostRuntime) -> Result<(), Fail> {
+    let alloc = rt.alloc();
     let actor = Signature {
         name: BString::from_slice(alloc, b"A\nB")?,
         email: BString::from_slice(alloc, b"a@b")?,
         time: Time::default(),
     };
-    assert!(rt; written(alloc, &actor)?.is_none());
+    let refused = written(alloc, &actor);
+    assert!(rt; matches!(&refused, Err(Error::IllegalActor)));
     Ok(())
 }
 

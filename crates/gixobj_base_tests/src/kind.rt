@@ -23,7 +23,7 @@ fn words_of_kinds(rt: HostRuntime) -> Result<(), Fail> {
         assert!(rt; kind.is_commit() == (kind == Kind::Commit), "{word}");
         assert!(rt; kind.is_tag() == (kind == Kind::Tag), "{word}");
     }
-    let refused: [&[u8]; 4] = [b"", b"Blob", b"blobs", b"ta"];
+    let refused: [&[u8]; 5] = [b"", b"Blob", b"blobs", b"ta", b"tags"];
     for word in refused {
         match Kind::from_bytes(alloc, word) {
             Err(Error::InvalidObjectKind { kind }) => assert_eq!(rt; kind.as_bytes(), word),

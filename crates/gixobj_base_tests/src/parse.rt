@@ -83,6 +83,8 @@ fn hex_and_actors(rt: HostRuntime) -> Result<(), Fail> {
     assert!(rt; hex_hash(b"gb825dc642cb6eb9a060e54bf8d69288fbee4904", Kind::Sha1).is_none());
     let actor = signature(b"A <a@b> 0 +0000").ok_or("an actor")?;
     assert_eq!(rt; actor.time.as_bytes(), b"0 +0000".as_slice());
+    let actor = signature(b" A <a@b> 1 +0000").ok_or("an actor")?;
+    assert_eq!(rt; actor.name.as_bytes(), b" A".as_slice());
     assert!(rt; signature(b"A <a@b> 0 +0000 x").is_none());
     assert!(rt; signature(b"A a@b 0 +0000").is_none());
     Ok(())
