@@ -18,8 +18,12 @@ fn is_refused(alloc: Global, text: &[u8]) -> bool {
 /// How many items the token reader tells behind its first error, or none without an error.
 fn told_behind_an_error(alloc: Global, text: &[u8]) -> Option<usize> {
     let mut tokens = CommitRefIter::from_bytes(alloc, text, Kind::Sha1);
-    let _ = tokens.find(|token| token.is_err())?;
-    Some(tokens.count())
+    while let Some(token) = tokens.next() {
+        if token.is_err() {
+            return Some(tokens.count());
+        }
+    }
+    None
 }
 
 #[test]

@@ -1,12 +1,12 @@
 //! Commits that `git` made, read, told and written, compared with what `git` answers.
 
 use super::headers::{SHA256, WITH_HEADERS};
+use super::is_written;
 use super::shapes::{LOWER_CASE, NO_OFFSET, PLAIN, Shape, UPPER_CASE, ZERO_OFFSET};
-use super::written;
 use bstr::BStr;
 use gixobj_base::actor::SignatureRef;
 use gixobj_base::hash::ObjectId;
-use gixobj_base::{Kind, WriteTo, compute_hash};
+use gixobj_base::{Kind, compute_hash};
 use gixobj_codec::commit::ref_iter::Token;
 use gixobj_codec::{CommitRef, CommitRefIter};
 use std::alloc::Global;
@@ -71,29 +71,41 @@ impl<'a> Fields<'a> {
         Ok(fields)
     }
 
-    /// The text that `git show` makes of them.
-    fn shown(&self, alloc: Global) -> Result<Vec<u8>, Fail> {
+    /// The lines that `git show` makes of the ids.
+    fn shown_ids(&self, alloc: Global) -> Result<Vec<u8>, Fail> {
         let mut out = Vec::new(alloc);
         self.tree.write_hex_to(&mut out)?;
-        for (place, id) in self.parents.iter().enumerate() {
-            out.push(if place == 0 { b'\n' } else { b' ' })?;
+        let mut before = b"\n";
+        for id in self.parents.iter() {
+            out.extend_from_slice(before)?;
             id.write_hex_to(&mut out)?;
+            before = b" ";
         }
         if self.parents.is_empty() {
             out.push(b'\n')?;
         }
-        for actor in [self.author, self.committer] {
-            out.push(b'\n')?;
-            actor.to_owned(alloc)?.write_to(&mut out)?;
-        }
+        Ok(out)
+    }
+
+    /// The text that `git show` makes of them.
+    fn shown(&self, alloc: Global) -> Result<Vec<u8>, Fail> {
+        let mut out = self.shown_ids(alloc)?;
+        put_actor(alloc, &self.author, &mut out)?;
+        put_actor(alloc, &self.committer, &mut out)?;
         out.push(b'\n')?;
-        if let Some(encoding) = self.encoding {
-            out.extend_from_slice(encoding.as_bytes())?;
-        }
+        let encoding = self.encoding.unwrap_or(BStr::new(b""));
+        out.extend_from_slice(encoding.as_bytes())?;
         out.push(b'\n')?;
         out.extend_from_slice(self.message.as_bytes())?;
         Ok(out)
     }
+}
+
+/// Puts a line of an actor.
+fn put_actor(alloc: Global, actor: &SignatureRef<'_>, out: &mut Vec<u8>) -> Result<(), Fail> {
+    out.push(b'\n')?;
+    actor.to_owned(alloc)?.write_to(out)?;
+    Ok(())
 }
 
 /// Whether these are the headers of a shape.
@@ -105,48 +117,67 @@ fn are_headers(headers: &[(BStr<'_>, CowSlice<'_, u8>)], shape: &Shape) -> bool 
     same && headers.len() == shape.headers.len()
 }
 
-/// Whether the text is that of a shape, and its id is git's.
-fn is_text(text: &[u8], shape: &Shape) -> bool {
-    let id = compute_hash(shape.hash, Kind::Commit, text);
-    text == shape.bytes && Some(id) == ObjectId::from_hex(shape.id.as_bytes())
+/// Whether git's id of a shape is that of its text.
+fn has_its_id(shape: &Shape) -> bool {
+    let id = compute_hash(shape.hash, Kind::Commit, shape.bytes);
+    Some(id) == ObjectId::from_hex(shape.id.as_bytes())
 }
 
-/// Whether a shape is read whole as git says.
-fn is_read(alloc: Global, shape: &Shape) -> Result<bool, Fail> {
-    let fields = Fields::of_commit(alloc, shape)?;
+/// Whether the fields of a shape are shown as git shows them, read whole and told.
+fn is_shown(alloc: Global, shape: &Shape) -> Result<bool, Fail> {
+    let whole = Fields::of_commit(alloc, shape)?.shown(alloc)?;
+    let told = Fields::of_tokens(alloc, shape)?.shown(alloc)?;
+    Ok(whole.as_slice() == shape.shown && told == whole)
+}
+
+/// Whether the headers of a shape that is read whole are git's.
+fn has_its_headers(alloc: Global, shape: &Shape) -> Result<bool, Fail> {
     let commit = CommitRef::from_bytes(alloc, shape.bytes, shape.hash)?;
-    let same = fields.shown(alloc)?.as_slice() == shape.shown;
-    Ok(same && are_headers(&commit.extra_headers, shape))
+    Ok(are_headers(&commit.extra_headers, shape))
 }
 
-/// Whether a shape is told as git says.
-fn is_told(alloc: Global, shape: &Shape) -> Result<bool, Fail> {
-    let fields = Fields::of_tokens(alloc, shape)?;
+/// Whether the headers of a shape that is told are git's.
+fn tells_its_headers(alloc: Global, shape: &Shape) -> Result<bool, Fail> {
     let mut headers = Vec::new(alloc);
     for token in CommitRefIter::from_bytes(alloc, shape.bytes, shape.hash) {
         if let Token::ExtraHeader(header) = token? {
             headers.push(header)?;
         }
     }
-    let same = fields.shown(alloc)?.as_slice() == shape.shown;
-    Ok(same && are_headers(&headers, shape))
+    Ok(are_headers(&headers, shape))
 }
 
-/// Whether a shape is written back by both forms, as long as it is.
-fn is_written_back(alloc: Global, shape: &Shape) -> Result<bool, Fail> {
+/// Whether a shape is read and told as git says.
+fn is_read(alloc: Global, shape: &Shape) -> Result<bool, Fail> {
+    let is_shown = is_shown(alloc, shape)?;
+    let is_whole = has_its_headers(alloc, shape)?;
+    let is_told = tells_its_headers(alloc, shape)?;
+    Ok(is_shown && is_whole && is_told)
+}
+
+/// Whether a shape is written so as it is read, and so as it is owned, each with git's id and as long
+/// as it is.
+fn is_written_as(
+    alloc: Global,
+    shape: &Shape,
+    borrowed: &Shape,
+    owned: &Shape,
+) -> Result<bool, Fail> {
     let commit = CommitRef::from_bytes(alloc, shape.bytes, shape.hash)?;
-    let size = Some(shape.bytes.len() as u64);
-    let borrowed = commit.size() == size && is_text(&written(alloc, &commit)?, shape);
-    let owned = commit.into_owned(alloc)?;
-    Ok(borrowed && owned.size() == size && is_text(&written(alloc, &owned)?, shape))
+    let is_first = is_written(alloc, &commit, borrowed.bytes)?;
+    let is_second = is_written(alloc, &commit.into_owned(alloc)?, owned.bytes)?;
+    Ok(is_first && is_second && has_its_id(borrowed) && has_its_id(owned))
 }
 
 #[test]
 fn without_headers(rt: HostRuntime) -> Result<(), Fail> {
     for shape in &PLAIN {
         assert!(rt; is_read(rt.alloc(), shape)?, "{}", shape.name);
-        assert!(rt; is_told(rt.alloc(), shape)?, "{}", shape.name);
-        assert!(rt; is_written_back(rt.alloc(), shape)?, "{}", shape.name);
+        assert!(rt;
+            is_written_as(rt.alloc(), shape, shape, shape)?,
+            "{}",
+            shape.name
+        );
     }
     Ok(())
 }
@@ -155,8 +186,11 @@ fn without_headers(rt: HostRuntime) -> Result<(), Fail> {
 fn with_headers(rt: HostRuntime) -> Result<(), Fail> {
     for shape in &WITH_HEADERS {
         assert!(rt; is_read(rt.alloc(), shape)?, "{}", shape.name);
-        assert!(rt; is_told(rt.alloc(), shape)?, "{}", shape.name);
-        assert!(rt; is_written_back(rt.alloc(), shape)?, "{}", shape.name);
+        assert!(rt;
+            is_written_as(rt.alloc(), shape, shape, shape)?,
+            "{}",
+            shape.name
+        );
     }
     Ok(())
 }
@@ -165,8 +199,11 @@ fn with_headers(rt: HostRuntime) -> Result<(), Fail> {
 fn with_sha256(rt: HostRuntime) -> Result<(), Fail> {
     for shape in &SHA256 {
         assert!(rt; is_read(rt.alloc(), shape)?, "{}", shape.name);
-        assert!(rt; is_told(rt.alloc(), shape)?, "{}", shape.name);
-        assert!(rt; is_written_back(rt.alloc(), shape)?, "{}", shape.name);
+        assert!(rt;
+            is_written_as(rt.alloc(), shape, shape, shape)?,
+            "{}",
+            shape.name
+        );
     }
     Ok(())
 }
@@ -175,14 +212,8 @@ fn with_sha256(rt: HostRuntime) -> Result<(), Fail> {
 #[test]
 fn upper_case(rt: HostRuntime) -> Result<(), Fail> {
     let alloc = rt.alloc();
-    let fields = Fields::of_commit(alloc, &UPPER_CASE)?;
-    assert_eq!(rt; fields.shown(alloc)?.as_slice(), UPPER_CASE.shown);
-    let fields = Fields::of_tokens(alloc, &UPPER_CASE)?;
-    assert_eq!(rt; fields.shown(alloc)?.as_slice(), UPPER_CASE.shown);
-    let commit = CommitRef::from_bytes(alloc, UPPER_CASE.bytes, UPPER_CASE.hash)?;
-    assert!(rt; is_text(&written(alloc, &commit)?, &LOWER_CASE));
-    let owned = commit.into_owned(alloc)?;
-    assert!(rt; is_text(&written(alloc, &owned)?, &LOWER_CASE));
+    assert!(rt; is_read(alloc, &UPPER_CASE)?);
+    assert!(rt; is_written_as(alloc, &UPPER_CASE, &LOWER_CASE, &LOWER_CASE)?);
     Ok(())
 }
 
@@ -191,10 +222,7 @@ fn upper_case(rt: HostRuntime) -> Result<(), Fail> {
 fn no_offset(rt: HostRuntime) -> Result<(), Fail> {
     let alloc = rt.alloc();
     let fields = Fields::of_commit(alloc, &NO_OFFSET)?;
-    assert_eq!(rt; fields.shown(alloc)?.as_slice(), NO_OFFSET.shown);
-    let commit = CommitRef::from_bytes(alloc, NO_OFFSET.bytes, NO_OFFSET.hash)?;
-    assert!(rt; is_text(&written(alloc, &commit)?, &NO_OFFSET));
-    let owned = commit.into_owned(alloc)?;
-    assert!(rt; is_text(&written(alloc, &owned)?, &ZERO_OFFSET));
+    assert!(rt; fields.shown(alloc)?.as_slice() == NO_OFFSET.shown);
+    assert!(rt; is_written_as(alloc, &NO_OFFSET, &NO_OFFSET, &ZERO_OFFSET)?);
     Ok(())
 }

@@ -1,7 +1,7 @@
 //! What a reader of tokens is asked for.
 
 use super::writers::SHA256_LINES;
-use super::{FRONT, commit_with};
+use super::{FRONT, commit_of, commit_with};
 use gixobj_base::decode;
 use gixobj_base::hash::{Kind, ObjectId};
 use gixobj_codec::CommitRefIter;
@@ -14,9 +14,19 @@ fn plain_commit_told(rt: HostRuntime) -> Result<(), Fail> {
     let tokens = CommitRefIter::from_bytes(alloc, &text, Kind::Sha1);
     assert!(rt; tokens.parent_ids().next().is_none());
     assert_eq!(rt; tokens.signatures().count(), 2);
-    assert_eq!(rt; tokens.author()?.name.as_bytes(), b"A".as_slice());
-    assert_eq!(rt; tokens.committer()?.email.as_bytes(), b"a@b".as_slice());
-    assert_eq!(rt; tokens.message()?.as_bytes(), b"hi\n".as_slice());
+    assert!(rt; tokens.author()?.name.as_bytes() == b"A".as_slice());
+    assert!(rt; tokens.committer()?.email.as_bytes() == b"a@b".as_slice());
+    assert!(rt; tokens.message()?.as_bytes() == b"hi\n".as_slice());
+    Ok(())
+}
+
+#[test]
+fn author_and_committer_told(rt: HostRuntime) -> Result<(), Fail> {
+    let alloc = rt.alloc();
+    let text = commit_of(alloc, b" B\t<b@b> 7 +0000", b"A <a@b> 0 +0000")?;
+    let tokens = CommitRefIter::from_bytes(alloc, &text, Kind::Sha1);
+    assert!(rt; tokens.author()?.name.as_bytes() == b" B\t".as_slice());
+    assert!(rt; tokens.committer()?.name.as_bytes() == b"A".as_slice());
     Ok(())
 }
 

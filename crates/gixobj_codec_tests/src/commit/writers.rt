@@ -1,6 +1,7 @@
 //! Commits of many lines, of both kinds of ids, and writers that fail.
 
-use super::{commit_with, written};
+use super::{are_written, commit_with, is_written, written};
+use bstr::BStr;
 use gixobj_base::hash::{Kind, ObjectId};
 use gixobj_base::{WriteTo, encode};
 use gixobj_base_tests::limited::Limited;
@@ -28,13 +29,9 @@ fn a_thousand_parents_and_headers(rt: HostRuntime) -> Result<(), Fail> {
     let alloc = rt.alloc();
     let text = long_commit(alloc)?;
     assert_eq!(rt; text.len(), 55_099);
+    assert!(rt; are_written(alloc, &text, &text, &text)?);
     let commit = CommitRef::from_bytes(alloc, &text, Kind::Sha1)?;
     assert_eq!(rt; commit.parents().count(), 1000);
-    assert!(rt; commit.size() == Some(55_099));
-    assert_eq!(rt; written(alloc, &commit)?.as_slice(), text.as_slice());
-    let owned = commit.into_owned(alloc)?;
-    assert!(rt; owned.size() == Some(55_099));
-    assert_eq!(rt; written(alloc, &owned)?.as_slice(), text.as_slice());
     let tokens = CommitRefIter::from_bytes(alloc, &text, Kind::Sha1);
     assert_eq!(rt; tokens.count(), 2004);
     Ok(())
@@ -53,38 +50,43 @@ pub(super) const SHA256_LINES: &[u8] =
 
 #[test]
 fn all_parents(rt: HostRuntime) -> Result<(), Fail> {
-    let alloc = rt.alloc();
-    let (blob, tree) = (
-        ObjectId::empty_blob(Kind::Sha256),
-        ObjectId::empty_tree(Kind::Sha256),
-    );
-    let commit = CommitRef::from_bytes(alloc, SHA256_LINES, Kind::Sha256)?;
+    let commit = CommitRef::from_bytes(rt.alloc(), SHA256_LINES, Kind::Sha256)?;
+    let tree = ObjectId::empty_tree(Kind::Sha256);
     assert!(rt; commit.tree() == tree);
     let mut parents = commit.parents();
-    assert!(rt; parents.next() == Some(blob));
+    assert!(rt; parents.next() == Some(ObjectId::empty_blob(Kind::Sha256)));
     assert!(rt; parents.next() == Some(tree));
     assert!(rt; parents.next().is_none());
-    assert_eq!(rt;
-        signature_field_name(Kind::Sha256),
-        SIGNATURE_FIELD_NAME_SHA256
-    );
-    let signature = commit.extra_headers().pgp_signature().ok_or("a signature")?;
-    assert_eq!(rt; signature.as_bytes(), b"B".as_slice());
-    assert!(rt; commit.size() == Some(SHA256_LINES.len() as u64));
-    assert_eq!(rt; written(alloc, &commit)?.as_slice(), SHA256_LINES);
     Ok(())
+}
+
+#[test]
+fn signature_of_sha256(rt: HostRuntime) -> Result<(), Fail> {
+    let alloc = rt.alloc();
+    let name = signature_field_name(Kind::Sha256);
+    assert!(rt; name == SIGNATURE_FIELD_NAME_SHA256);
+    assert!(rt; name == "gpgsig-sha256");
+    let commit = CommitRef::from_bytes(alloc, SHA256_LINES, Kind::Sha256)?;
+    let signature = commit.extra_headers().pgp_signature();
+    assert!(rt; signature == Some(BStr::new(b"B")));
+    assert!(rt; is_written(alloc, &commit, SHA256_LINES)?);
+    Ok(())
+}
+
+/// The plain commit, with a parent of either kind of ids.
+fn commit_of_both_kinds(alloc: Global) -> Result<Commit, Fail> {
+    let text = commit_with(alloc, b"")?;
+    let mut commit = CommitRef::from_bytes(alloc, &text, Kind::Sha1)?.into_owned(alloc)?;
+    commit.parents.push(ObjectId::null(Kind::Sha256))?;
+    commit.parents.push(ObjectId::null(Kind::Sha1))?;
+    Ok(commit)
 }
 
 /// Each id is counted with its own length.
 #[test]
 fn ids_of_both_kinds(rt: HostRuntime) -> Result<(), Fail> {
     let alloc = rt.alloc();
-    let text = commit_with(alloc, b"")?;
-    let commit = CommitRef::from_bytes(alloc, &text, Kind::Sha1)?.into_owned(alloc)?;
-    let mut parents = commit.parents.clone()?;
-    parents.push(ObjectId::null(Kind::Sha256))?;
-    parents.push(ObjectId::null(Kind::Sha1))?;
-    let commit = Commit { parents, ..commit };
+    let commit = commit_of_both_kinds(alloc)?;
     assert!(rt; commit.size() == Some(99 + 8 + 64 + 8 + 40));
     assert_eq!(rt; written(alloc, &commit)?.len(), 99 + 8 + 64 + 8 + 40);
     Ok(())
@@ -101,15 +103,26 @@ fn stops_at<T: WriteTo>(alloc: Global, commit: &T, text: &[u8], room: usize) -> 
     Ok(failed && Some(writer.held.as_slice()) == text.get(..room))
 }
 
+/// Lines of headers behind the committer.
+const LINES: &[u8] = b"encoding UTF-8\nx A\n B\ny \n";
+
 #[test]
 fn writers_that_fail(rt: HostRuntime) -> Result<(), Fail> {
     let alloc = rt.alloc();
-    let lines = b"encoding UTF-8\nx A\n B\ny \n";
-    let text = commit_with(alloc, lines)?;
+    let text = commit_with(alloc, LINES)?;
     let commit = CommitRef::from_bytes(alloc, &text, Kind::Sha1)?;
-    let owned = CommitRef::from_bytes(alloc, &text, Kind::Sha1)?.into_owned(alloc)?;
     for room in 0..text.len() {
         assert!(rt; stops_at(alloc, &commit, &text, room)?, "{room}");
+    }
+    Ok(())
+}
+
+#[test]
+fn writers_that_fail_owned(rt: HostRuntime) -> Result<(), Fail> {
+    let alloc = rt.alloc();
+    let text = commit_with(alloc, LINES)?;
+    let owned = CommitRef::from_bytes(alloc, &text, Kind::Sha1)?.into_owned(alloc)?;
+    for room in 0..text.len() {
         assert!(rt; stops_at(alloc, &owned, &text, room)?, "{room}");
     }
     Ok(())
