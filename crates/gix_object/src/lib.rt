@@ -9,6 +9,6 @@ pub mod tree;
 
 pub use gixobj_base::{
     Blob, BlobRef, Header, Kind, Tree, WriteTo, actor, compute_hash, date, decode, encode, hash,
-    kind,
+    kind, streams,
 };
 pub use gixobj_codec::{Commit, CommitRef, CommitRefIter, Data, commit};

@@ -7,3 +7,5 @@ mod editor;
 mod listing;
 #[cfg(test)]
 mod public_paths;
+#[cfg(test)]
+mod readme;

@@ -1,6 +1,7 @@
 //! Laws that tie the readers to the writers. Each function does nothing: its contract is the law.
 ghost use Rattle.std.specs.Prelude.{◌≡◌, ◌<◌, ◌^◌, ◌++◌, ℕ, List, length};
 ghost use Rattle.std.specs.List.{AllPass};
+ghost use Rattle.std.specs.Str.{str_to_ascii_lowercase};
 ghost use Rattle.gixobj_ids.specs.Decode.{HasLooseHeader};
 ghost use Rattle.gixobj_ids.specs.Encode.{loose_header_text};
 ghost use Rattle.gixobj_ids.specs.Hash.{IsHexOfAnId, IsId, Spells, hex_text, is_lower_hex_digit};
@@ -21,9 +22,10 @@ pub fn hex_reads_back()
     ensures same_id { (id : ObjectId) → IsId id → Spells (hex_text id) id }
 {}
 
-/// A hex text in lower case that was read is written back as it was.
+/// A hex text that was read is written back in lower case, and so as it was where it was in lower case.
 pub fn hex_writes_back()
-    ensures { (text : List ℕ) (id : ObjectId) → AllPass is_lower_hex_digit text → Spells text id → hex_text id ≡ text }
+    ensures lower_case { (text : List ℕ) (id : ObjectId) → Spells text id → hex_text id ≡ str_to_ascii_lowercase text }
+    ensures same_text { (text : List ℕ) (id : ObjectId) → AllPass is_lower_hex_digit text → Spells text id → hex_text id ≡ text }
 {}
 
 /// The hex text of an id spells one id.

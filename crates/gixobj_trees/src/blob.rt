@@ -32,7 +32,7 @@ impl<'a> BlobRef<'a> {
 }
 
 /// The content of a file, owned.
-#[derive(Debug, Drop, PartialEq, Eq, PartialOrd, Ord, Hash)]
+#[derive(Clone, Debug, Drop, PartialEq, Eq, PartialOrd, Ord, Hash)]
 pub struct Blob {
     /// The content.
     pub bytes: Vec<u8>,

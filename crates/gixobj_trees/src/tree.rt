@@ -17,7 +17,7 @@ use std::alloc::Global;
 use std::marker::Model;
 
 /// A tree: the entries of a directory.
-#[derive(Debug, Drop)]
+#[derive(Clone, Debug, Drop)]
 pub struct Tree {
     /// The entries. A tree of git's has them in the order of [`name_order`], and each name once.
     pub entries: Vec<Entry>,

@@ -15,7 +15,7 @@ use std::hash::{Hash, Hasher};
 use std::marker::Model;
 
 /// An entry of a tree: the file or the directory of a name.
-#[derive(Debug, Drop)]
+#[derive(Clone, Debug, Drop)]
 pub struct Entry {
     /// What kind of object the entry names, and a file's permissions.
     pub mode: EntryMode,

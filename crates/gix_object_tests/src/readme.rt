@@ -1,0 +1,44 @@
+//! The example of the README: a commit is read, a tree is edited and written.
+
+use bstr::BString;
+use gix_object::hash::{Kind as HashKind, ObjectId};
+use gix_object::tree::EntryKind;
+use gix_object::tree::editor::Editor;
+use gix_object::{CommitRef, Kind, Tree, WriteTo, compute_hash, decode, encode};
+use std::alloc::Global;
+use std::test::Fail;
+
+/// The tree of the commit with this text.
+fn tree_of(alloc: Global, text: &[u8]) -> Result<ObjectId, decode::Error> {
+    let commit = CommitRef::from_bytes(alloc, text, HashKind::Sha1)?;
+    Ok(commit.tree())
+}
+
+/// The id of a tree: that of its bytes.
+fn id_of(alloc: Global, tree: &Tree) -> Result<ObjectId, encode::Error> {
+    let mut bytes = Vec::new(alloc);
+    tree.write_to_vec(alloc, &mut bytes)?;
+    Ok(compute_hash(HashKind::Sha1, Kind::Tree, &bytes))
+}
+
+const BLOB: &[u8] = b"ce013625030ba8dba906f756967f9e9ca394464a";
+
+/// What `git mktree` answers for the one file `hello.txt` of this blob.
+const TREE: &[u8] = b"aaa96ced2d9a1c8e72c56b253a0e2fe78393feb7";
+
+#[test]
+fn commit_read_and_tree_edited(rt: HostRuntime) -> Result<(), Fail> {
+    let alloc = rt.alloc();
+    let text = b"tree 4b825dc642cb6eb9a060e54bf8d69288fbee4904\nauthor A <a@b> 0 +0000\ncommitter A <a@b> 0 +0000\n\nm";
+    assert!(rt; tree_of(alloc, text)?.is_empty_tree());
+
+    let path = vec![in alloc; BString::from_slice(alloc, b"hello.txt")?]?;
+    let blob = ObjectId::from_hex(BLOB).ok_or("an id")?;
+    let mut editor = Editor::new(Tree::empty(alloc), (), HashKind::Sha1);
+    editor.upsert(&path, EntryKind::Blob, blob)?;
+    let Ok(written) = editor.write(|tree: &Tree| id_of(alloc, tree)) else {
+        return Err("a refused write")?;
+    };
+    assert_eq!(rt; written.id, ObjectId::from_hex(TREE).ok_or("an id")?);
+    Ok(())
+}
