@@ -120,7 +120,8 @@ impl<W: Write> Sink for ToWrite<'_, W> {
     }
 }
 
-/// Puts texts at the end of a sink, one after the other.
+/// Puts texts at the end of a sink, one after the other. The error is the sink's, and comes only where it
+/// may refuse them all, written as one text. It takes no memory.
 pub fn put_parts<S: Sink>(parts: &[&[u8]], sink: &mut S) -> io::Result<()>
     ensures ok { OnOk result (Appends (S.held sink.old) (S.held sink.new) (flat_map (λ part. part.now) parts.now)) }
     ensures err { OnErr result (MayRefuse (S.may_refuse sink.old) (flat_map (λ part. part.now) parts.now)) }
