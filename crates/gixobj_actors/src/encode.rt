@@ -10,7 +10,11 @@ use crate::actor::Signature;
 use gixobj_fields::encode::Error;
 use gixobj_fields::streams::{Sink, put_parts};
 
-/// Puts the field of an actor, which is refused behind the name and a space where it is illegal.
+/// Puts the field of an actor: the name, a space, what [`Signature::write_to`] writes and a newline
+/// (gitdatamodel, "commits").
+///
+/// `IllegalActor` behind the name and the space, where the actor's name or email has a `<`, a `>` or a
+/// newline; `Writer` where the sink refused bytes. It takes no memory.
 pub fn trusted_header_signature<S: Sink>(
     name: &[u8],
     actor: &Signature,
@@ -27,7 +31,8 @@ pub fn trusted_header_signature<S: Sink>(
     Ok(())
 }
 
-/// The size with that of the field of an actor, or none past 64 bits.
+/// The size in bytes with that of what [`trusted_header_signature`] puts, or none past 64 bits; an actor
+/// that is refused counts as it stands. It takes no memory.
 pub fn size_with_signature(size: u64, name: &[u8], actor: &Signature) -> Option<u64>
     ensures { SomeIff result (size + length (field_text name.now (owned_text actor.now)) < 2 ^ 64) (size + length (field_text name.now (owned_text actor.now))) }
 {

@@ -104,7 +104,10 @@ impl From<AllocError> for Error {
     }
 }
 
-/// Puts a field of one line, whatever its value is.
+/// Puts a field of one line: the name, a space, the value and a newline (gitdatamodel, "commits").
+///
+/// It looks at neither, so the caller has to know that they have no newline. The error is the sink's.
+/// It takes no memory.
 pub fn trusted_header_field<S: Sink>(name: &[u8], value: &[u8], sink: &mut S) -> io::Result<()>
     ensures written { OnOk result (Puts (S.view sink.old) (S.view sink.new) (field_text name.now value.now)) }
     ensures err { OnErr result (PutsFront (S.view sink.old) (S.view sink.new) (field_text name.now value.now)) }
@@ -113,7 +116,8 @@ pub fn trusted_header_field<S: Sink>(name: &[u8], value: &[u8], sink: &mut S) ->
     put_parts(&[name, b" ", value, b"\n"], sink)
 }
 
-/// Puts the field of an id, in lower case.
+/// Puts the field of an id: its value is the id's 40 or 64 hex digits, in lower case (gitdatamodel,
+/// "commits"). The error is the sink's. It takes no memory.
 pub fn trusted_header_id<S: Sink>(name: &[u8], id: &ObjectId, sink: &mut S) -> io::Result<()>
     ensures written { OnOk result (Puts (S.view sink.old) (S.view sink.new) (field_text name.now (hex_text id.now))) }
     ensures err { OnErr result (PutsFront (S.view sink.old) (S.view sink.new) (field_text name.now (hex_text id.now))) }
@@ -123,7 +127,11 @@ pub fn trusted_header_id<S: Sink>(name: &[u8], id: &ObjectId, sink: &mut S) -> i
     trusted_header_field(name, id.hex_to_buf(&mut buffer).as_bytes(), sink)
 }
 
-/// Puts a field of one line, and refuses a value that is empty or has a newline.
+/// Puts a field of one line: the name, a space, the value and a newline (gitdatamodel, "commits").
+///
+/// Before any byte is put, `EmptyValue` where the value is empty, and `NewlineInHeaderValue` with a copy
+/// of the value where it has a newline, or `OutOfMemory` where the copy finds no memory. `Writer` where
+/// the sink refused bytes. Nothing else takes memory.
 #[tactic(auto, using(crate::proofs::Puts::puts_nothing))]
 pub fn header_field<S: Sink>(
     alloc: Global,
@@ -147,7 +155,11 @@ pub fn header_field<S: Sink>(
     Ok(())
 }
 
-/// Puts a header, with a space before each line of its value but the first, and a newline at the end.
+/// Puts a header, whose value may have several lines: the name, a space, and the value with a space
+/// before each line but the first (gitformat-signature, "Commit signatures").
+///
+/// A newline is put at the end where the value has none there. The error is the sink's. It takes no
+/// memory.
 pub fn header_field_multi_line<S: Sink>(name: &[u8], value: &[u8], sink: &mut S) -> io::Result<()>
     ensures written { OnOk result (Puts (S.view sink.old) (S.view sink.new) (name.now ++ 32 ∷ folded value.now)) }
     ensures err { OnErr result (PutsFront (S.view sink.old) (S.view sink.new) (name.now ++ 32 ∷ folded value.now)) }
@@ -213,7 +225,8 @@ fn first_line(value: &[u8]) -> Option<(&[u8], &[u8])>
     }
 }
 
-/// The size with that of a field of one line, or none past 64 bits.
+/// The size in bytes with that of what [`trusted_header_field`] puts, or none past 64 bits. It takes no
+/// memory.
 pub fn size_with_field(size: u64, name: &[u8], value: &[u8]) -> Option<u64>
     ensures { SomeIff result (size + length (field_text name.now value.now) < 2 ^ 64) (size + length (field_text name.now value.now)) }
 {
@@ -221,7 +234,8 @@ pub fn size_with_field(size: u64, name: &[u8], value: &[u8]) -> Option<u64>
     with_name.checked_add(value.len() as u64)
 }
 
-/// The size with that of the field of an id, or none past 64 bits.
+/// The size in bytes with that of what [`trusted_header_id`] puts, or none past 64 bits. It takes no
+/// memory.
 #[tactic(auto, using(crate::proofs::FieldWrites::id_field_len))]
 pub fn size_with_id(size: u64, name: &[u8], id: &ObjectId) -> Option<u64>
     ensures { SomeIff result (size + length (field_text name.now (hex_text id.now)) < 2 ^ 64) (size + length (field_text name.now (hex_text id.now))) }
@@ -230,7 +244,8 @@ pub fn size_with_id(size: u64, name: &[u8], id: &ObjectId) -> Option<u64>
     with_name.checked_add(2 * id.as_bytes().len() as u64)
 }
 
-/// The size with that of a header, or none past 64 bits.
+/// The size in bytes with that of what [`header_field_multi_line`] puts, or none past 64 bits. It takes
+/// no memory.
 pub fn size_with_multi_line(size: u64, name: &[u8], value: &[u8]) -> Option<u64>
     ensures { SomeIff result (size + length (name.now ++ 32 ∷ folded value.now) < 2 ^ 64) (size + length (name.now ++ 32 ∷ folded value.now)) }
 {

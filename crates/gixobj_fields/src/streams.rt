@@ -138,7 +138,8 @@ impl<W: Write> ToWrite<'_, W> {
     }
 }
 
-/// Puts texts at the end of a sink, one after the other. Where it fails, a front of them has been put.
+/// Puts texts at the end of a sink, one after the other. Where it fails, there was no room for them all,
+/// and a front of them has been put. It takes no memory.
 pub fn put_parts<S: Sink>(parts: &[&[u8]], sink: &mut S) -> io::Result<()>
     ensures ok { OnOk result (Puts (S.view sink.old) (S.view sink.new) (flat_map (λ part. part.now) parts.now)) }
     ensures err { OnErr result (PutsFront (S.view sink.old) (S.view sink.new) (flat_map (λ part. part.now) parts.now)) }
