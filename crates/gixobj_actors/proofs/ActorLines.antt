@@ -4,9 +4,9 @@ use Rattle.std.proofs.lemmas.Bool.{true≢false}
 use Rattle.std.proofs.lemmas.Bool.Decides.{nat_tests}
 use Rattle.std.proofs.lemmas.List.Elements.{All-head, All-nil, All-tail}
 use Rattle.std.specs.List.{AllPass}
-use Rattle.gixobj_ids.proofs.Splits.{free_of_cut, one_cut, one_last_cut}
+use Rattle.gixobj_texts.proofs.Splits.{free_of_cut, one_cut, one_last_cut}
 use Rattle.gixobj_actors.specs.Actor.{EndsTime, IsActorLine, IsGap, IsNameOf, IsNoActor, IsNoActorLine, is_time_byte}
-use Rattle.gixobj_ids.specs.Parse.{IsFree, SplitsAt, SplitsAtLast}
+use Rattle.gixobj_texts.specs.Parse.{IsFree, SplitsAt, SplitsAtLast}
 
 regrouped : (text email gap time rest : List ℕ) → text ++ 60 ∷ (email ++ 62 ∷ (gap ++ (time ++ rest))) ≡ text ++ 60 ∷ email ++ 62 ∷ gap ++ time ++ rest
 regrouped text email gap time rest = simp append_assoc

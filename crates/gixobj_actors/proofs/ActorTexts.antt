@@ -10,11 +10,11 @@ use Rattle.std.specs.Int.{w64}
 use Rattle.std.specs.List.{AllPass}
 use Rattle.std.specs.Prelude.{ℤ, pos, negsuc, unsigned_abs, FitsSigned, decimal}
 use Rattle.std.specs.Str.Parse.{AllDigits}
-use Rattle.gixobj_ids.proofs.Digits.{test_from_digit}
+use Rattle.gixobj_texts.proofs.Digits.{test_from_digit}
 use Rattle.gixobj_actors.specs.Actor.{IsActorLine, actor_text, is_time_byte}
 use Rattle.gixobj_actors.specs.ActorWriting.{IsLegalActor}
 use Rattle.gixobj_actors.specs.Date.{IsOffset, is_below_zero, offset_text, offset_text_of, time_text, two_digits}
-use Rattle.gixobj_ids.specs.Parse.{IsFree}
+use Rattle.gixobj_texts.specs.Parse.{IsFree}
 
 abbrev IsTimed : ℕ → Type 0
 IsTimed byte = is_time_byte byte ≡ true

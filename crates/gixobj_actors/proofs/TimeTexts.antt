@@ -9,9 +9,9 @@ use Rattle.std.specs.Int.{w64}
 use Rattle.std.specs.Prelude.{◌==◌, ℤ, pos, negsuc, neg_ℤ, FitsSigned, decimal, if◌then◌else◌}
 use Rattle.std.specs.Str.Parse.{AllDigits}
 use Rattle.gixobj_ids.proofs.SizeTexts.{unsigned_digits}
-use Rattle.gixobj_ids.proofs.Splits.{free_of_cut, one_cut}
+use Rattle.gixobj_texts.proofs.Splits.{free_of_cut, one_cut}
 use Rattle.gixobj_actors.specs.Date.{IsNoTimeText, IsOffset, IsOffsetText, IsSecondsText, IsTimeText, offset_text, offset_text_of, seconds_digits, time_text}
-use Rattle.gixobj_ids.specs.Parse.{IsFree, SplitsAt}
+use Rattle.gixobj_texts.specs.Parse.{IsFree, SplitsAt}
 
 digit_no_space : (byte : ℕ) → digit_value byte < 10 → byte ≢ 32
 digit_no_space byte digit space =

@@ -4,7 +4,7 @@ use Rattle.std.specs.Char.{is_ascii_digit, is_whitespace}
 use Rattle.std.specs.List.{AllPass}
 use Rattle.bstr.specs.Trim.{trim_end_by, trim_start_by}
 use Rattle.gixobj_actors.specs.Date.{IsNoTimeText, IsTimeText}
-use Rattle.gixobj_ids.specs.Parse.{IsFree}
+use Rattle.gixobj_texts.specs.Parse.{IsFree}
 use Rattle.gixobj_actors.specs.declared.date.Time.{Time}
 
 -- a byte that may stand in a time: a digit, a plus, a minus, a space or a tab

@@ -17,7 +17,7 @@ use bstr::{BStr, BString, ByteSlice};
 use gixobj_fields::encode::Error;
 use gixobj_fields::streams::{Sink, ToWrite, put_parts};
 use gixobj_ids::decode;
-use gixobj_ids::parse::{has_byte, split_at_byte, split_at_last_byte};
+use gixobj_texts::parse::{has_byte, split_at_byte, split_at_last_byte};
 use std::alloc::{AllocError, Global};
 use std::io;
 use std::io::Write;

@@ -4,7 +4,7 @@ ghost use Rattle.std.specs.Prelude.{◌≡◌, ◌≤◌, ◌<◌, ◌+◌, ◌*
 ghost use Rattle.std.specs.Str.Parse.{IsNumeral, starts_with_minus};
 ghost use Rattle.gixobj_actors.specs.Date.{IsOffset, IsOffsetText, IsSecondsText, IsTimeText, IsNoTimeText, seconds_digits, signed, time_text, two_digits};
 
-use gixobj_ids::parse::{are_digits, number_from_digits, split_at_byte};
+use gixobj_texts::parse::{are_digits, number_from_digits, split_at_byte};
 use itoa::Buffer;
 use std::marker::Model;
 

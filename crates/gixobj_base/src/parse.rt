@@ -2,4 +2,5 @@
 
 pub use gixobj_actors::parse::signature;
 pub use gixobj_fields::parse::{after_name, any_header_field, header_field};
-pub use gixobj_ids::parse::{has_byte, hex_hash, split_at_byte, split_at_last_byte};
+pub use gixobj_ids::parse::hex_hash;
+pub use gixobj_texts::parse::{has_byte, split_at_byte, split_at_last_byte};

@@ -5,5 +5,4 @@ pub use gixobj_extra_headers::{
     BorrowedHeaders, ExtraHeaders, FindAll, OwnedHeaders, Parents, SIGNATURE_FIELD_NAME,
     SIGNATURE_FIELD_NAME_SHA256, signature_field_name,
 };
-pub use gixobj_tokens::CommitRefIter;
-pub use gixobj_tokens::ref_iter;
+pub use gixobj_tokens::{CommitRefIter, ref_iter};

@@ -8,10 +8,10 @@ use Rattle.std.specs.declared.alloc.Global.{Global}
 use Rattle.std.specs.declared.borrow.CowSlice.{CowSlice}
 use Rattle.bstr.specs.declared.bstr.BStr.{BStr}
 use Rattle.gixobj_fields.proofs.HeaderFields.{one_header}
-use Rattle.gixobj_ids.proofs.Splits.{one_cut}
+use Rattle.gixobj_texts.proofs.Splits.{one_cut}
 use Rattle.gixobj_fields.specs.HeaderReading.{RefusesHeaderField, header_of}
 use Rattle.gixobj_fields.specs.HeaderText.{EndsHeader, HasHeader, HasNoHeader, Header, IsHeaderName, IsHeaderText, following_text}
-use Rattle.gixobj_ids.specs.Parse.{IsFree}
+use Rattle.gixobj_texts.specs.Parse.{IsFree}
 use Rattle.gixobj_ids.specs.declared.decode.Error.{Error}
 use Rattle.gixobj_ids.specs.declared.decode.Error.TheVariants.{Malformed, OutOfMemory}
 use Rattle.gixobj_commits.specs.Commit.{AreHeaderTexts}

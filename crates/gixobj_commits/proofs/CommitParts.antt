@@ -15,7 +15,7 @@ use Rattle.gixobj_fields.proofs.HeaderFields.{one_field}
 use Rattle.gixobj_actors.specs.Actor.{IsActor, IsNoActor}
 use Rattle.gixobj_ids.specs.Hash.Hex.{IsHexOf}
 use Rattle.gixobj_fields.specs.HeaderText.{HasField, HasNoField, field_text}
-use Rattle.gixobj_ids.specs.Parse.{IsFree}
+use Rattle.gixobj_texts.specs.Parse.{IsFree}
 use Rattle.gixobj_ids.specs.declared.hash.kind.Kind.{Kind}
 use Rattle.gixobj_commits.specs.Commit.{parent_text}
 use Rattle.gixobj_commits.specs.CommitReading.{HasActor, HasEncoding, HasId, HasNoActor, HasNoEncoding, HasNoId, HasNoParents, HasParents, LacksName}

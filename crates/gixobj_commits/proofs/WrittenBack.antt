@@ -8,7 +8,7 @@ use Rattle.std.proofs.lemmas.List.{append-nil}
 use Rattle.std.proofs.lemmas.List.Elements.{All-head, All-tail}
 use Rattle.gixobj_ids.specs.Hash.{is_lower_hex_digit}
 use Rattle.gixobj_fields.specs.HeaderText.{Header, IsHeaderText, field_text, following_text, line_text, value_of_lines}
-use Rattle.gixobj_ids.specs.Parse.{IsFree}
+use Rattle.gixobj_texts.specs.Parse.{IsFree}
 use Rattle.gixobj_fields.specs.Writing.{Refused, RefusesNothing}
 use Rattle.gixobj_ids.specs.declared.hash.kind.Kind.{Kind}
 use Rattle.gixobj_fields.proofs.FieldWrites.{holds_none}

@@ -4,7 +4,7 @@ use Rattle.std.specs.List.{flat_map}
 use Rattle.gixobj_actors.specs.Actor.{IsActor}
 use Rattle.gixobj_ids.specs.Hash.Hex.{IsHexOf}
 use Rattle.gixobj_fields.specs.HeaderText.{Header, IsHeaderText, field_text}
-use Rattle.gixobj_ids.specs.Parse.{IsFree}
+use Rattle.gixobj_texts.specs.Parse.{IsFree}
 use Rattle.gixobj_ids.specs.declared.hash.kind.Kind.{Kind}
 
 -- what a commit's text holds: hex texts of ids, lines of actors, an encoding, headers, a message

@@ -9,7 +9,7 @@ use Rattle.hex.specs.Hex.{lower_digits}
 use Rattle.gixobj_ids.specs.Hash.{hex_text, id_bytes}
 use Rattle.gixobj_ids.specs.declared.hash.object_id.ObjectId.{ObjectId}
 use Rattle.gixobj_fields.specs.HeaderText.{field_text, line_text}
-use Rattle.gixobj_ids.specs.Parse.{IsFree, SplitsAt}
+use Rattle.gixobj_texts.specs.Parse.{IsFree, SplitsAt}
 use Rattle.gixobj_fields.specs.Streams.{Puts, PutsFront, SinkView}
 use Rattle.gixobj_fields.specs.Writing.{RefusesNothing}
 use Rattle.gixobj_fields.proofs.Puts.{front_within}

@@ -9,10 +9,10 @@ use Rattle.std.specs.Borrow.{Bor}
 use Rattle.std.specs.Cmp.Lexicographic.{pointwise}
 use Rattle.std.specs.List.{flat_map}
 use Rattle.std.specs.Prelude.{◌==◌, Bool, true, false, MatchOption, Option, nat_eq, take, drop}
-use Rattle.gixobj_ids.proofs.Splits.{free_of_cut, one_cut}
+use Rattle.gixobj_texts.proofs.Splits.{free_of_cut, one_cut}
 use Rattle.gixobj_fields.specs.HeaderText.{BeginsSeveralLines, EndsHeader, HasField, HasHeader, HasNoField, HasNoHeader, Header, IsHeaderName, IsHeaderText, field_text, following_text, line_text, value_of_lines}
 use Rattle.gixobj_fields.specs.HeaderReading.{HasLines, HasNoLines, IsUnfolded, RefusesHeaderField}
-use Rattle.gixobj_ids.specs.Parse.{IsFree, SplitsAt}
+use Rattle.gixobj_texts.specs.Parse.{IsFree, SplitsAt}
 use Rattle.gixobj_ids.specs.declared.decode.Error.{Error}
 use Rattle.gixobj_ids.specs.declared.decode.Error.TheVariants.{Malformed, OutOfMemory}
 

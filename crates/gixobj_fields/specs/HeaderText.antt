@@ -1,7 +1,7 @@
 -- Header fields of commits and tags (gitdatamodel, "commits" and "tag objects"; gitformat-signature, "Commit signatures").
 use Rattle.std.specs.Prelude.{◌≡◌, ◌≢◌, ℕ, List, [], ◌∷◌, ◌++◌, All, ⊤}
 use Rattle.std.specs.List.{flat_map}
-use Rattle.gixobj_ids.specs.Parse.{IsFree}
+use Rattle.gixobj_texts.specs.Parse.{IsFree}
 
 -- a line: its bytes and a newline
 abbrev pub line_text : List ℕ → List ℕ

@@ -11,7 +11,7 @@ ghost use Rattle.gixobj_fields.specs.Writing.{RefusesNothing, SaysWhy};
 use crate::streams::{Sink, put_parts};
 use bstr::BString;
 use gixobj_ids::hash::ObjectId;
-use gixobj_ids::parse::{has_byte, split_at_byte};
+use gixobj_texts::parse::{has_byte, split_at_byte};
 use std::alloc::{AllocError, Global};
 use std::io;
 

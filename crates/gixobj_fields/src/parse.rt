@@ -2,12 +2,12 @@
 ghost use Rattle.std.specs.Prelude.{◌≡◌, ◌≢◌, ◌++◌, ◌∷◌, [], ℕ, List, IfErr, IfOk, IfSome, IfNone, MatchBool, MatchOption};
 ghost use Rattle.gixobj_fields.specs.HeaderReading.{HasNoLines, IsUnfolded, RefusesHeaderField, header_of};
 ghost use Rattle.gixobj_fields.specs.HeaderText.{EndsHeader, HasField, HasHeader, HasNoField, IsHeaderName};
-ghost use Rattle.gixobj_ids.specs.Parse.{IsFree};
+ghost use Rattle.gixobj_texts.specs.Parse.{IsFree};
 ghost use Rattle.gixobj_ids.specs.declared.decode.Error.TheVariants.{Malformed};
 
 use bstr::BStr;
 use gixobj_ids::decode::Error;
-use gixobj_ids::parse::{has_byte, split_at_byte};
+use gixobj_texts::parse::{has_byte, split_at_byte};
 use std::alloc::Global;
 use std::borrow::CowSlice;
 

@@ -4,12 +4,12 @@ use Rattle.std.proofs.Math.Seq.{take-append_seam}
 use Rattle.std.proofs.lemmas.List.{take-append-drop, length-take-le}
 use Rattle.bstr.specs.Owned.{bstring_bytes}
 use Rattle.gixobj_ids.proofs.SizeTexts.{no_fault, size_text_free, written_size}
-use Rattle.gixobj_ids.proofs.Splits.{free_by_test, free_of_cut, one_cut}
+use Rattle.gixobj_texts.proofs.Splits.{free_by_test, free_of_cut, one_cut}
 use Rattle.std.specs.Prelude.{◌^◌, ◌==◌, decimal, if◌then◌else◌, IfErr, IfOk, Result, Ok, Err}
 use Rattle.gixobj_ids.specs.Decode.{HasFaultySize, HasLooseHeader, HasSizeFault, HasUnknownKind, IsSizeText, RefusesHeader}
 use Rattle.gixobj_ids.specs.Encode.{loose_header_text}
 use Rattle.gixobj_ids.specs.Kind.{kind_word}
-use Rattle.gixobj_ids.specs.Parse.{IsFree}
+use Rattle.gixobj_texts.specs.Parse.{IsFree}
 use Rattle.gixobj_ids.specs.declared.decode.LooseHeaderDecodeError.{LooseHeaderDecodeError}
 use Rattle.gixobj_ids.specs.declared.decode.LooseHeaderDecodeError.TheVariants.{InvalidHeader, ObjectHeader, OutOfMemory, ParseIntegerError}
 use Rattle.gixobj_ids.specs.declared.decode.ParseIntegerErrorKind.{ParseIntegerErrorKind}

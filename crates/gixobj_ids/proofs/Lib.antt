@@ -1,4 +1,3 @@
-pub mod Digits
 mod EmptyObjects
 mod Headers
 pub mod HexCase
@@ -6,4 +5,3 @@ mod HexDigits
 pub mod HexIds
 pub mod HexTexts
 pub mod SizeTexts
-pub mod Splits

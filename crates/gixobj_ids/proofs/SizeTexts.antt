@@ -9,7 +9,7 @@ use Rattle.std.specs.Char.{digit_value}
 use Rattle.std.specs.Prelude.{◌==◌, decimal}
 use Rattle.std.specs.Str.Parse.{AllDigits, IsNumeral, starts_with_minus}
 use Rattle.gixobj_ids.specs.Decode.{HasSizeFault, IsSizeText, size_digits}
-use Rattle.gixobj_ids.specs.Parse.{IsFree}
+use Rattle.gixobj_texts.specs.Parse.{IsFree}
 use Rattle.gixobj_ids.specs.declared.decode.ParseIntegerErrorKind.{ParseIntegerErrorKind}
 use Rattle.gixobj_ids.specs.declared.decode.ParseIntegerErrorKind.TheVariants.{Empty, InvalidDigit, NegOverflow, PosOverflow}
 

@@ -10,7 +10,7 @@ use Rattle.gixobj_ids.specs.declared.decode.ParseIntegerErrorKind.TheVariants.{E
 use Rattle.gixobj_ids.specs.declared.kind.Error.TheVariants as word
 use Rattle.gixobj_ids.specs.declared.kind.Kind.{Kind}
 use Rattle.gixobj_ids.specs.Kind.{IsNoKindWord, kind_word}
-use Rattle.gixobj_ids.specs.Parse.{IsFree, SplitsAt}
+use Rattle.gixobj_texts.specs.Parse.{IsFree, SplitsAt}
 
 -- what a size text has after its sign, or all of it where it has none
 abbrev pub size_digits : List ℕ → List ℕ

@@ -2,4 +2,4 @@ pub mod Decode
 pub mod Encode
 pub mod Hash
 pub mod Kind
-pub mod Parse
+pub use Rattle.gixobj_texts.specs.Parse

@@ -6,9 +6,9 @@ ghost use Rattle.gixobj_ids.specs.declared.decode.Error.TheVariants.{OutOfMemory
 ghost use Rattle.gixobj_ids.specs.declared.kind.Kind.{Kind};
 ghost use Rattle.gixobj_ids.specs.Decode.{HasLooseHeader, HasSizeFault, IsSizeText, RefusesHeader, RefusesSize, size_digits};
 
-use crate::parse::{are_digits, number_from_digits, split_at_byte};
 use crate::{Kind, kind};
 use bstr::BString;
+use gixobj_texts::parse::{are_digits, number_from_digits, split_at_byte};
 use std::alloc::{AllocError, AllocFailed, Global};
 
 /// The refusal of a reader of objects.

@@ -7,7 +7,7 @@ use Rattle.hex.specs.Hex.{is_hex_digit}
 use Rattle.gixobj_ids.proofs.HexTexts.{hex_of_spelled}
 use Rattle.gixobj_ids.specs.Hash.{Spells}
 use Rattle.gixobj_fields.specs.HeaderText.{HasField, HasHeader, Header}
-use Rattle.gixobj_ids.specs.Parse.{IsFree}
+use Rattle.gixobj_texts.specs.Parse.{IsFree}
 use Rattle.gixobj_ids.specs.declared.hash.kind.Kind.{Kind}
 use Rattle.gixobj_ids.specs.declared.hash.object_id.ObjectId.{ObjectId}
 use Rattle.gixobj_tokens.specs.CommitTokens.{HasToken, IsActorText, IsIdText, TokenView}

@@ -6,11 +6,11 @@ use Rattle.std.specs.List.{flat_map}
 use Rattle.std.specs.Borrow.{Bor}
 use Rattle.std.specs.Prelude.{codes, IfErr, IfOk, Result, Ok, Err}
 use Rattle.gixobj_fields.proofs.HeaderFields.{one_field}
-use Rattle.gixobj_ids.proofs.Splits.{free_by_test, one_cut}
+use Rattle.gixobj_texts.proofs.Splits.{free_by_test, one_cut}
 use Rattle.gixobj_fields.specs.HeaderReading.{RefusesHeaderField}
 use Rattle.gixobj_actors.specs.Actor.{IsActor, IsNoActor}
 use Rattle.gixobj_fields.specs.HeaderText.{HasField, HasHeader, HasNoField, HasNoHeader, Header, following_text, line_text}
-use Rattle.gixobj_ids.specs.Parse.{IsFree}
+use Rattle.gixobj_texts.specs.Parse.{IsFree}
 use Rattle.gixobj_ids.specs.declared.decode.Error.{Error}
 use Rattle.gixobj_ids.specs.declared.decode.Error.TheVariants.{Malformed, OutOfMemory}
 use Rattle.gixobj_ids.specs.declared.hash.kind.Kind.{Kind}

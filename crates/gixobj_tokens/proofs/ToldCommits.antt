@@ -9,7 +9,7 @@ use Rattle.gixobj_ids.specs.Hash.{Spells, hash_len, id_bytes, id_from, id_kind}
 use Rattle.gixobj_actors.specs.Actor.{IsActor}
 use Rattle.gixobj_ids.specs.Hash.Hex.{IsHexOf}
 use Rattle.gixobj_fields.specs.HeaderText.{EndsHeader, Header, IsHeaderText, field_text, following_text}
-use Rattle.gixobj_ids.specs.Parse.{IsFree}
+use Rattle.gixobj_texts.specs.Parse.{IsFree}
 use Rattle.gixobj_ids.specs.declared.hash.kind.Kind.{Kind}
 use Rattle.gixobj_ids.specs.declared.hash.kind.Kind.TheVariants as hash
 use Rattle.gixobj_ids.specs.declared.hash.object_id.ObjectId.{ObjectId}

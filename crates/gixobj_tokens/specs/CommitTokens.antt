@@ -5,7 +5,7 @@ use Rattle.gixobj_ids.specs.Hash.{Spells, id_kind}
 use Rattle.gixobj_fields.specs.HeaderReading.{header_of}
 use Rattle.gixobj_actors.specs.Actor.{IsActor}
 use Rattle.gixobj_fields.specs.HeaderText.{BeginsSeveralLines, EndsHeader, Header, IsHeaderText, field_text}
-use Rattle.gixobj_ids.specs.Parse.{IsFree}
+use Rattle.gixobj_texts.specs.Parse.{IsFree}
 use Rattle.gixobj_ids.specs.declared.decode.Error.{Error}
 use Rattle.gixobj_ids.specs.declared.decode.Error.TheVariants.{Malformed, OutOfMemory}
 use Rattle.gixobj_ids.specs.declared.hash.kind.Kind.{Kind}

@@ -8,7 +8,7 @@ use Rattle.std.specs.Ordering.{nat_cmp, ordering_then}
 use Rattle.std.specs.declared.cmp.Ordering.{Ordering}
 use Rattle.std.specs.declared.cmp.Ordering.TheVariants.{Less}
 use Rattle.gixobj_trees.specs.Mode.{is_tree_mode}
-use Rattle.gixobj_ids.specs.Parse.{IsFree}
+use Rattle.gixobj_texts.specs.Parse.{IsFree}
 use Rattle.gixobj_ids.specs.declared.hash.object_id.ObjectId.{ObjectId}
 
 -- an entry as contracts see it

@@ -11,4 +11,4 @@ pub use Rattle.gixobj_ids.specs.Decode
 pub use Rattle.gixobj_ids.specs.Encode
 pub use Rattle.gixobj_ids.specs.Hash
 pub use Rattle.gixobj_ids.specs.Kind
-pub use Rattle.gixobj_ids.specs.Parse
+pub use Rattle.gixobj_texts.specs.Parse

@@ -4,7 +4,7 @@ use Rattle.std.specs.List.{flat_map}
 use Rattle.gixobj_trees.specs.Entries.{EntryView}
 use Rattle.gixobj_ids.specs.Hash.{id_bytes}
 use Rattle.gixobj_trees.specs.Mode.{mode_text}
-use Rattle.gixobj_ids.specs.Parse.{IsFree}
+use Rattle.gixobj_texts.specs.Parse.{IsFree}
 use Rattle.gixobj_fields.specs.Writing.{Refused, name_with_zero_byte}
 
 -- the mode and a space

@@ -3,7 +3,7 @@ ghost use Rattle.std.specs.Prelude.{◌≡◌};
 ghost use Rattle.std.specs.Cmp.Lexicographic.{slice_cmp};
 ghost use Rattle.std.specs.Ordering.{nat_cmp};
 ghost use Rattle.gixobj_trees.specs.Entries.{key_of, name_cmp, next_byte};
-ghost use Rattle.gixobj_ids.specs.Parse.{IsFree};
+ghost use Rattle.gixobj_texts.specs.Parse.{IsFree};
 
 use std::cmp::Ordering;
 

@@ -1,7 +1,7 @@
 //! Trees, written (gitdatamodel, "trees").
 ghost use Rattle.std.specs.Prelude.{◌≡◌, ◌<◌, ◌+◌, ◌^◌, length, IfErr, OnOk};
 ghost use Rattle.std.specs.Option.{SomeIff};
-ghost use Rattle.gixobj_ids.specs.Parse.{IsFree};
+ghost use Rattle.gixobj_texts.specs.Parse.{IsFree};
 ghost use Rattle.gixobj_trees.specs.TreeText.{RefusesEntry, entry_text};
 ghost use Rattle.gixobj_fields.specs.Streams.{Puts};
 ghost use Rattle.gixobj_fields.specs.Writing.{SaysWhy};
@@ -12,7 +12,7 @@ use gixobj_fields::WriteTo;
 use gixobj_fields::encode::Error;
 use gixobj_fields::streams::{Sink, put_parts};
 use gixobj_ids::Kind;
-use gixobj_ids::parse::has_byte;
+use gixobj_texts::parse::has_byte;
 use std::alloc::Global;
 
 /// A tree is written as its entries in the order in which they stand, whatever that is.

@@ -1,8 +1,8 @@
 use Rattle.std.proofs.Common.{◌≡◌, true, rules}
 use Rattle.std.specs.Char.{is_ascii_digit}
 use Rattle.std.specs.List.{AllPass}
-use Rattle.gixobj_ids.proofs.Digits.{AllDigits-from_pass, digit_from_test, pass-from_AllDigits, test_from_digit}
-use Rattle.gixobj_ids.proofs.parse.are_digits.Goals as goal
+use Rattle.gixobj_texts.proofs.Digits.{AllDigits-from_pass, digit_from_test, pass-from_AllDigits, test_from_digit}
+use Rattle.gixobj_texts.proofs.parse.are_digits.Goals as goal
 
 pub returns : goal.returns
 returns c =

@@ -5,7 +5,7 @@ use Rattle.std.proofs.lemmas.Bool.{and_parts, true≢false}
 use Rattle.std.proofs.lemmas.List.Elements.{All-cons, All-head, All-nil, All-tail}
 use Rattle.std.specs.List.{list_all}
 use Rattle.std.specs.Prelude.{◌==◌, not}
-use Rattle.gixobj_ids.specs.Parse.{IsFree, SplitsAt}
+use Rattle.gixobj_texts.specs.Parse.{IsFree, SplitsAt}
 
 -- the first byte of a free text is another one
 free-head : (byte first : ℕ) (text : List ℕ) → IsFree byte (first ∷ text) → first ≢ byte
