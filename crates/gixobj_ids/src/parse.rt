@@ -49,7 +49,8 @@ pub fn hex_hash(text: &[u8], kind: Kind) -> Option<BStr<'_>>
     }
 }
 
-/// The id that the hex text of an id spells. It takes no memory.
+/// The id that the hex text of an id spells: 40 or 64 digits, of either case (`gitglossary`, "object
+/// name"). It takes no memory.
 #[tactic(auto, using(crate::proofs::HexIds::one_id))]
 pub fn id_of_hex(hex: BStr<'_>) -> ObjectId
     requires { IsHexOfAnId (bstr_bytes hex) }
@@ -62,14 +63,14 @@ pub fn id_of_hex(hex: BStr<'_>) -> ObjectId
     }
 }
 
-/// Whether all bytes are digits.
+/// Whether all bytes are ASCII digits, `0` to `9`, as of a text without bytes too. It takes no memory.
 pub fn are_digits(text: &[u8]) -> bool
     ensures { IsTrue result ↔ AllDigits 10 text.now }
 {
     text.iter().all(|byte| byte.is_ascii_digit())
 }
 
-/// The number that digits spell, where it fits 64 bits.
+/// The number that ASCII digits spell in decimal, or none past 64 bits. It takes no memory.
 pub fn number_from_digits(digits: &[u8]) -> Option<u64>
     requires { IsNumeral 10 digits.now }
     ensures { SomeIff result (digits_value 10 digits.now < 2 ^ 64) (digits_value 10 digits.now) }
