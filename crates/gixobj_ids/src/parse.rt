@@ -21,7 +21,8 @@ pub fn hex_hash(text: &[u8], kind: Kind) -> Option<BStr<'_>>
     }
 }
 
-/// The id that the hex text of an id spells. It takes no memory.
+/// The id that the hex text of an id spells: 40 or 64 digits, of either case (`gitglossary`, "object
+/// name"). It takes no memory.
 #[tactic(auto, using(crate::proofs::HexIds::one_id))]
 pub fn id_of_hex(hex: BStr<'_>) -> ObjectId
     requires { IsHexOfAnId (bstr_bytes hex) }

@@ -31,14 +31,14 @@ pub fn has_byte(text: &[u8], byte: u8) -> bool
     text.contains(&byte)
 }
 
-/// Whether all bytes are digits.
+/// Whether all bytes are ASCII digits, `0` to `9`, as of a text without bytes too.
 pub fn are_digits(text: &[u8]) -> bool
     ensures { IsTrue result ↔ AllDigits 10 text.now }
 {
     text.iter().all(|byte| byte.is_ascii_digit())
 }
 
-/// The number that digits spell, where it fits 64 bits.
+/// The number that ASCII digits spell in decimal, or none past 64 bits.
 pub fn number_from_digits(digits: &[u8]) -> Option<u64>
     requires { IsNumeral 10 digits.now }
     ensures { SomeIff result (digits_value 10 digits.now < 2 ^ 64) (digits_value 10 digits.now) }
