@@ -101,7 +101,7 @@ fn parts(actor: SignatureRef<'_>) -> [&[u8]; 3] {
 }
 
 /// What the reader of tokens gives at a call.
-fn name_of(item: Option<Result<Token<'_>, decode::Error>>) -> &'static str {
+fn name_of(item: &Option<Result<Token<'_>, decode::Error>>) -> &'static str {
     match item {
         Some(Ok(Token::Tree { .. })) => "tree",
         Some(Ok(Token::Parent { .. })) => "parent",
@@ -116,14 +116,15 @@ fn name_of(item: Option<Result<Token<'_>, decode::Error>>) -> &'static str {
     }
 }
 
-/// What the reader of tokens gives at its first seven calls.
-fn seven_told(alloc: Global, text: &[u8]) -> [&'static str; 7] {
-    let mut told = [""; 7];
+/// What the reader of tokens gives at its first calls, of this number.
+fn names_told(alloc: Global, text: &[u8], calls: usize) -> Result<Vec<&'static str>, AllocError> {
+    let mut names = Vec::new(alloc);
     let mut tokens = CommitRefIter::from_bytes(alloc, text, hash::Kind::Sha1);
-    for name in told.iter_mut() {
-        *name = name_of(tokens.next());
+    for _ in 0..calls {
+        let item = tokens.next();
+        names.push(name_of(&item))?;
     }
-    told
+    Ok(names)
 }
 
 /// Whether this is the id that `git hash-object` gives the text of a commit.

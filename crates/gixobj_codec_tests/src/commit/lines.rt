@@ -1,6 +1,6 @@
 //! Lines between the committer and the message.
 
-use super::{FRONT, are_written, commit_with, has_id, refusal, seven_told, written};
+use super::{FRONT, are_written, commit_with, has_id, names_told, refusal, written};
 use bstr::BStr;
 use gixobj_base::hash::Kind;
 use gixobj_base::{WriteTo, decode};
@@ -70,7 +70,7 @@ fn folded_encoding(rt: HostRuntime) -> Result<(), Fail> {
         "end",
         "end",
     ];
-    assert!(rt; seven_told(alloc, &text) == told);
+    assert!(rt; names_told(alloc, &text, 7)?.as_slice() == told.as_slice());
     assert!(rt; fourth_as_encoding(alloc, &text) == Some(BStr::new(b"A")));
     Ok(())
 }
