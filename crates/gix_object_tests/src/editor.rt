@@ -39,6 +39,15 @@ fn empty_editor(alloc: Global) -> Editor<()> {
     Editor::new(Tree::empty(alloc), (), HashKind::Sha1)
 }
 
+/// An editor after upserts, each of a kind, a name and an id.
+fn editor_with(alloc: Global, rows: &[(EntryKind, &[u8], &[u8])]) -> Result<Editor<()>, Fail> {
+    let mut editor = empty_editor(alloc);
+    for (kind, name, named) in rows {
+        editor.upsert(&path(alloc, name)?, *kind, id(named)?)?;
+    }
+    Ok(editor)
+}
+
 fn names(alloc: Global, tree: &Tree) -> Result<Vec<u8>, AllocError> {
     let mut names = Vec::new(alloc);
     for entry in &tree.entries {
@@ -53,6 +62,25 @@ fn written(alloc: Global, editor: &mut Editor<()>) -> Result<Written, Fail> {
     match editor.write(|tree: &Tree| id_of(alloc, tree)) {
         Ok(written) => Ok(written),
         Err(_) => Err("a refused write")?,
+    }
+}
+
+/// The id of the one tree that a write handed out, and the names in it.
+fn one_tree(alloc: Global, editor: &mut Editor<()>) -> Result<(ObjectId, Vec<u8>), Fail> {
+    let written = written(alloc, editor)?;
+    let [(_, tree)] = written.trees.as_slice() else {
+        return Err("one tree")?;
+    };
+    Ok((written.id, names(alloc, tree)?))
+}
+
+/// A word for the answer of an edit.
+fn answer(edit: &Result<(), Error>) -> &'static str {
+    match edit {
+        Ok(()) => "accepted",
+        Err(Error::EmptyPathComponent) => "empty",
+        Err(Error::SlashInPathComponent) => "slashed",
+        Err(Error::OutOfMemory) => "no memory",
     }
 }
 
@@ -89,16 +117,35 @@ const BAK: &[u8] = b"d8329fc1cc938780ffdd9f94e0d364e0ea74f579";
 fn files_and_a_tree(rt: HostRuntime) -> Result<(), Fail> {
     let alloc = rt.alloc();
     let mut editor = empty_editor(alloc);
-    editor
-        .upsert(&path(alloc, b"test.txt")?, EntryKind::Blob, id(TEST)?)?
-        .upsert(&path(alloc, b"new.txt")?, EntryKind::Blob, id(NEW)?)?;
-    let first = written(alloc, &mut editor)?;
-    assert!(rt; first.id == id(b"0155eb4229851634a0f03eb265b69f5a2d56f341")?);
-    assert_eq!(rt; first.trees.len(), 1);
-    editor.upsert(&path(alloc, b"bak")?, EntryKind::Tree, id(BAK)?)?;
-    let second = written(alloc, &mut editor)?;
-    assert!(rt; second.id == id(b"3c4e9cd789d88d8d89c1073707c3585e41b0e614")?);
-    assert_eq!(rt; second.trees.len(), 1);
+    let rows: [(EntryKind, &[u8], &[u8], &[u8], &[u8]); 3] = [
+        (
+            EntryKind::Blob,
+            b"test.txt",
+            TEST,
+            b"test.txt ",
+            b"2f39845a4a2c3ad86adebb00b1ddabd959c131c4",
+        ),
+        (
+            EntryKind::Blob,
+            b"new.txt",
+            NEW,
+            b"new.txt test.txt ",
+            b"0155eb4229851634a0f03eb265b69f5a2d56f341",
+        ),
+        (
+            EntryKind::Tree,
+            b"bak",
+            BAK,
+            b"bak new.txt test.txt ",
+            b"3c4e9cd789d88d8d89c1073707c3585e41b0e614",
+        ),
+    ];
+    for (kind, name, named, names, root) in rows {
+        editor.upsert(&path(alloc, name)?, kind, id(named)?)?;
+        let (written, handed) = one_tree(alloc, &mut editor)?;
+        assert_eq!(rt; handed.as_slice(), names);
+        assert!(rt; ObjectId::from_hex(root) == Some(written));
+    }
     assert_eq!(rt; editor.lookups(), 0);
     Ok(())
 }
@@ -203,58 +250,59 @@ fn failed_out(rt: HostRuntime) -> Result<(), Fail> {
 #[test]
 fn refused_edits(rt: HostRuntime) -> Result<(), Fail> {
     let alloc = rt.alloc();
+    let mut editor = editor_with(alloc, &[(EntryKind::Blob, b"a", TEST)])?;
+    let id = id(TEST)?;
+    let rows: [(&[u8], &str); 2] = [(b"", "empty"), (b"b/c", "slashed")];
+    for (name, refusal) in rows {
+        let name = path(alloc, name)?;
+        assert_eq!(rt;
+            answer(&editor.try_upsert(&name, EntryKind::Blob, id)),
+            refusal
+        );
+        assert_eq!(rt; answer(&editor.try_remove(&name)), refusal);
+        assert!(rt; editor.remove(&name).is_err());
+    }
+    assert_eq!(rt;
+        one_tree(alloc, &mut editor)?.1.as_slice(),
+        b"a ".as_slice()
+    );
+    Ok(())
+}
+
+#[test]
+fn edits_without_names(rt: HostRuntime) -> Result<(), Fail> {
+    let alloc = rt.alloc();
     let mut editor = empty_editor(alloc);
-    editor.upsert(&path(alloc, b"a")?, EntryKind::Blob, id(TEST)?)?;
-    let empty = path(alloc, b"")?;
-    let slashed = path(alloc, b"b/c")?;
-    assert!(rt;
-        matches!(
-            &editor.try_upsert(&empty, EntryKind::Blob, id(TEST)?),
-            Err(Error::EmptyPathComponent)
-        )
-    );
-    assert!(rt;
-        matches!(
-            &editor.try_upsert(&slashed, EntryKind::Blob, id(TEST)?),
-            Err(Error::SlashInPathComponent)
-        )
-    );
-    assert!(rt; matches!(&editor.try_remove(&empty), Err(Error::EmptyPathComponent)));
-    assert!(rt;
-        matches!(
-            &editor.try_remove(&slashed),
-            Err(Error::SlashInPathComponent)
-        )
-    );
-    assert!(rt; editor.remove(&slashed).is_err());
-    let none = Vec::new(alloc);
     editor
-        .upsert(&none, EntryKind::Tree, id(BAK)?)?
-        .remove(&none)?;
-    let tree = written(alloc, &mut editor)?;
-    let [(_, tree)] = tree.trees.as_slice() else {
-        return Err("one tree")?;
-    };
-    assert_eq!(rt; names(alloc, tree)?.as_slice(), b"a ".as_slice());
+        .upsert(&path(alloc, b"a")?, EntryKind::Blob, id(TEST)?)?
+        .upsert(&[], EntryKind::Tree, id(BAK)?)?
+        .remove(&[])?;
+    assert_eq!(rt;
+        one_tree(alloc, &mut editor)?.1.as_slice(),
+        b"a ".as_slice()
+    );
     Ok(())
 }
 
 #[test]
 fn removed_entries(rt: HostRuntime) -> Result<(), Fail> {
     let alloc = rt.alloc();
-    let mut editor = empty_editor(alloc);
-    editor
-        .upsert(&path(alloc, b"a")?, EntryKind::Blob, id(TEST)?)?
-        .upsert(&path(alloc, b"b")?, EntryKind::Tree, id(BAK)?)?
-        .remove(&path(alloc, b"b")?)?
-        .remove(&path(alloc, b"c")?)?;
-    let first = written(alloc, &mut editor)?;
-    let [(_, tree)] = first.trees.as_slice() else {
-        return Err("one tree")?;
-    };
-    assert_eq!(rt; names(alloc, tree)?.as_slice(), b"a ".as_slice());
-    editor.try_remove(&path(alloc, b"a")?)?;
-    assert!(rt; written(alloc, &mut editor)?.id == ObjectId::empty_tree(HashKind::Sha1));
+    let rows: [(EntryKind, &[u8], &[u8]); 2] = [
+        (EntryKind::Blob, b"a", TEST),
+        (EntryKind::Tree, b"b", BAK),
+    ];
+    let mut editor = editor_with(alloc, &rows)?;
+    let rows: [(&[u8], &[u8], &[u8]); 3] = [
+        (b"b", b"a ", b"a18166ad9dc2c46e84c28b674ab8be1e202f6f82"),
+        (b"c", b"a ", b"a18166ad9dc2c46e84c28b674ab8be1e202f6f82"),
+        (b"a", b"", b"4b825dc642cb6eb9a060e54bf8d69288fbee4904"),
+    ];
+    for (name, names, root) in rows {
+        editor.remove(&path(alloc, name)?)?;
+        let (written, handed) = one_tree(alloc, &mut editor)?;
+        assert_eq!(rt; handed.as_slice(), names);
+        assert!(rt; ObjectId::from_hex(root) == Some(written));
+    }
     Ok(())
 }
 
