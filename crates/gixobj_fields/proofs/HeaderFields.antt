@@ -2,16 +2,16 @@
 use Rattle.std.proofs.Common.{◌≡◌, ◌≢◌, ◌+◌, ◌<◌, ℕ, List, [], ◌∷◌, ◌++◌, All, length, arith, refl, sym, ap, subst, ◌∙◌, append_assoc, length-append}
 use Rattle.std.proofs.lemmas.List.{append_cancel_left, append-nil}
 use Rattle.std.proofs.lemmas.List.Concat.{flat_map-append}
-use Rattle.std.proofs.lemmas.List.Elements.{All-cons, All-head, All-nil, All-push, All-tail}
-use Rattle.std.proofs.lemmas.Bool.Decides.{Decides-eqb, nat_tests}
+use Rattle.std.proofs.lemmas.List.Elements.{All-head, All-nil, All-push, All-tail}
+use Rattle.std.proofs.lemmas.Bool.Decides.{Decides-eqb}
 use Rattle.std.proofs.lemmas.Slice.Eq.{strip_prefix_is}
 use Rattle.std.specs.Borrow.{Bor}
 use Rattle.std.specs.Cmp.Lexicographic.{pointwise}
 use Rattle.std.specs.List.{flat_map}
-use Rattle.std.specs.Prelude.{◌==◌, Bool, true, false, MatchOption, Option, nat_eq, take, drop}
+use Rattle.std.specs.Prelude.{true, false, MatchOption, Option, nat_eq, take, drop}
 use Rattle.gixobj_texts.proofs.Splits.{free_of_cut, one_cut}
-use Rattle.gixobj_fields.specs.HeaderText.{BeginsSeveralLines, EndsHeader, HasField, HasHeader, HasNoField, HasNoHeader, Header, IsHeaderName, IsHeaderText, field_text, following_text, line_text, value_of_lines}
-use Rattle.gixobj_fields.specs.HeaderReading.{HasLines, HasNoLines, IsUnfolded, RefusesHeaderField}
+use Rattle.gixobj_fields.specs.HeaderText.{BeginsSeveralLines, EndsHeader, HasField, HasHeader, HasNoField, HasNoHeader, Header, IsHeaderName, field_text, following_text, line_text, value_of_lines}
+use Rattle.gixobj_fields.specs.HeaderReading.{HasNoLines, IsUnfolded, RefusesHeaderField}
 use Rattle.gixobj_texts.specs.Parse.{IsFree, SplitsAt}
 use Rattle.gixobj_ids.specs.declared.decode.Error.{Error}
 use Rattle.gixobj_ids.specs.declared.decode.Error.TheVariants.{Malformed, OutOfMemory}

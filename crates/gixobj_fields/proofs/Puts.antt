@@ -1,5 +1,5 @@
 -- What is put into a sink in several steps.
-use Rattle.std.proofs.Common.{◌≡◌, ◌+◌, ◌-◌, ◌<◌, ◌≤◌, ℕ, take, drop, List, [], ◌++◌, Option, Some, None, Result, Ok, Err, OnErr, append_assoc, arith, length, length-append, sym, ap, ◌∙◌, refl}
+use Rattle.std.proofs.Common.{◌≡◌, ◌-◌, ◌≤◌, ℕ, take, drop, List, [], ◌++◌, Option, Some, None, Result, Ok, Err, OnErr, append_assoc, arith, length, length-append, sym, ap, ◌∙◌}
 use Rattle.std.proofs.lemmas.List.{append-nil, length-drop, take-append-drop, take_all}
 use Rattle.std.specs.Io.KnownBytes.{Appends}
 use Rattle.gixobj_fields.specs.Streams.{Puts, PutsFront, SinkView}
