@@ -12,6 +12,8 @@ mod decode;
 #[cfg(test)]
 mod digest;
 #[cfg(test)]
+mod fields;
+#[cfg(test)]
 mod hash;
 #[cfg(test)]
 mod kind;

@@ -1,0 +1,96 @@
+//! Header fields, written and counted. The texts are those of gitdatamodel, "commits", and of
+//! gitformat-signature, "Commit signatures".
+
+use bstr::BString;
+use gixobj_actors::actor::Signature;
+use gixobj_actors::date::Time;
+use gixobj_actors::encode::{size_with_signature, trusted_header_signature};
+use gixobj_fields::encode::{
+    Error, header_field, header_field_multi_line, size_with_field, size_with_id,
+    size_with_multi_line, trusted_header_field, trusted_header_id,
+};
+use gixobj_fields::streams::put_parts;
+use gixobj_ids::hash::{Kind, ObjectId};
+use gixobj_ids::parse::id_of_hex;
+use gixobj_texts::parse::{are_digits, number_from_digits};
+use std::test::Fail;
+
+const TREE: &[u8] = b"4b825dc642cb6eb9a060e54bf8d69288fbee4904";
+
+#[test]
+fn parts_and_fields_of_one_line(rt: HostRuntime) -> Result<(), Fail> {
+    let mut out = Vec::new(rt.alloc());
+    put_parts(&[b"a", b"", b"b "], &mut out)?;
+    trusted_header_field(b"author", b"A", &mut out)?;
+    header_field(rt.alloc(), b"encoding", b"UTF-8", &mut out)?;
+    assert_eq!(rt; out.as_slice(), b"ab author A\nencoding UTF-8\n".as_slice());
+    assert_eq!(rt; size_with_field(1, b"author", b"A"), Some(10));
+    Ok(())
+}
+
+#[test]
+fn fields_of_ids(rt: HostRuntime) -> Result<(), Fail> {
+    let mut out = Vec::new(rt.alloc());
+    let id = ObjectId::empty_tree(Kind::Sha1);
+    trusted_header_id(b"tree", &id, &mut out)?;
+    assert_eq!(rt;
+        out.as_slice(),
+        b"tree 4b825dc642cb6eb9a060e54bf8d69288fbee4904\n".as_slice()
+    );
+    assert_eq!(rt; size_with_id(0, b"tree", &id), Some(46));
+    Ok(())
+}
+
+#[test]
+fn fields_of_several_lines(rt: HostRuntime) -> Result<(), Fail> {
+    let rows: [(&str, &str); 4] = [
+        ("", "x \n"),
+        ("A", "x A\n"),
+        ("A\nB", "x A\n B\n"),
+        ("A\n\nB\n", "x A\n \n B\n"),
+    ];
+    for (value, text) in rows {
+        let mut out = Vec::new(rt.alloc());
+        header_field_multi_line(b"x", value.as_bytes(), &mut out)?;
+        assert_eq!(rt; out.as_slice(), text.as_bytes());
+        let size = size_with_multi_line(0, b"x", value.as_bytes());
+        assert_eq!(rt; size, Some(text.len() as u64));
+    }
+    Ok(())
+}
+
+#[test]
+fn fields_of_actors(rt: HostRuntime) -> Result<(), Fail> {
+    let alloc = rt.alloc();
+    let actor = Signature {
+        name: BString::from_slice(alloc, b"A")?,
+        email: BString::from_slice(alloc, b"a@b")?,
+        time: Time::new(1, 0).ok_or("a time")?,
+    };
+    let mut out = Vec::new(alloc);
+    trusted_header_signature(b"author", &actor, &mut out)?;
+    assert_eq!(rt; out.as_slice(), b"author A <a@b> 1 +0000\n".as_slice());
+    assert_eq!(rt; size_with_signature(0, b"author", &actor), Some(23));
+    Ok(())
+}
+
+#[test]
+fn refused_fields(rt: HostRuntime) {
+    let alloc = rt.alloc();
+    let mut out = Vec::new(alloc);
+    let empty = header_field(alloc, b"encoding", b"", &mut out);
+    assert!(rt; matches!(empty, Err(Error::EmptyValue)));
+    let newline = header_field(alloc, b"encoding", b"a\nb", &mut out);
+    assert!(rt; matches!(newline, Err(Error::NewlineInHeaderValue { .. })));
+    assert!(rt; out.is_empty());
+}
+
+#[test]
+fn digits_and_hex(rt: HostRuntime) -> Result<(), Fail> {
+    assert!(rt; are_digits(b"18446744073709551615"));
+    assert!(rt; !are_digits(b"0x1"));
+    assert_eq!(rt; number_from_digits(b"18446744073709551615"), Some(u64::MAX));
+    assert_eq!(rt; number_from_digits(b"18446744073709551616"), None);
+    assert!(rt; id_of_hex(bstr::BStr::new(TREE)).is_empty_tree());
+    Ok(())
+}
