@@ -75,7 +75,7 @@ fn one_tree(alloc: Global, editor: &mut Editor<()>) -> Result<(ObjectId, Vec<u8>
 }
 
 /// A word for the answer of an edit.
-fn answer(edit: &Result<(), Error>) -> &'static str {
+fn answer(edit: Result<(), Error>) -> &'static str {
     match edit {
         Ok(()) => "accepted",
         Err(Error::EmptyPathComponent) => "empty",
@@ -247,19 +247,35 @@ fn failed_out(rt: HostRuntime) -> Result<(), Fail> {
     Ok(())
 }
 
+/// Names that no entry may have, and the answer to an edit of each.
+const REFUSED: [(&[u8], &str); 2] = [(b"", "empty"), (b"b/c", "slashed")];
+
 #[test]
-fn refused_edits(rt: HostRuntime) -> Result<(), Fail> {
+fn refused_upserts(rt: HostRuntime) -> Result<(), Fail> {
     let alloc = rt.alloc();
     let mut editor = editor_with(alloc, &[(EntryKind::Blob, b"a", TEST)])?;
     let id = id(TEST)?;
-    let rows: [(&[u8], &str); 2] = [(b"", "empty"), (b"b/c", "slashed")];
-    for (name, refusal) in rows {
+    for (name, refusal) in REFUSED {
         let name = path(alloc, name)?;
         assert_eq!(rt;
-            answer(&editor.try_upsert(&name, EntryKind::Blob, id)),
+            answer(editor.try_upsert(&name, EntryKind::Blob, id)),
             refusal
         );
-        assert_eq!(rt; answer(&editor.try_remove(&name)), refusal);
+    }
+    assert_eq!(rt;
+        one_tree(alloc, &mut editor)?.1.as_slice(),
+        b"a ".as_slice()
+    );
+    Ok(())
+}
+
+#[test]
+fn refused_removals(rt: HostRuntime) -> Result<(), Fail> {
+    let alloc = rt.alloc();
+    let mut editor = editor_with(alloc, &[(EntryKind::Blob, b"a", TEST)])?;
+    for (name, refusal) in REFUSED {
+        let name = path(alloc, name)?;
+        assert_eq!(rt; answer(editor.try_remove(&name)), refusal);
         assert!(rt; editor.remove(&name).is_err());
     }
     assert_eq!(rt;
