@@ -1,14 +1,10 @@
 -- What was read is written back as it was.
-use Rattle.std.proofs.Common.{◌≡◌, ◌≢◌, ◌<◌, ℕ, List, [], ◌∷◌, ◌++◌, All, Option, Some, None, false, arith, length, map, refl, ap, sym, ◌∙◌, append_assoc, length-append, inl, inr, codes}
-use Rattle.std.specs.Prelude.{◌==◌}
+use Rattle.std.proofs.Common.{◌≡◌, ◌≢◌, ℕ, List, [], ◌∷◌, ◌++◌, All, Option, Some, None, map, refl, ap, sym, ◌∙◌, inl, inr, codes}
 use Rattle.std.specs.List.{AllPass, flat_map}
 use Rattle.std.specs.Str.{str_to_ascii_lowercase}
-use Rattle.std.proofs.lemmas.Bool.Decides.{nat_tests}
-use Rattle.std.proofs.lemmas.List.{append-nil}
 use Rattle.std.proofs.lemmas.List.Elements.{All-head, All-tail}
 use Rattle.gixobj_ids.specs.Hash.{is_lower_hex_digit}
-use Rattle.gixobj_fields.specs.HeaderText.{Header, IsHeaderText, field_text, following_text, line_text, value_of_lines}
-use Rattle.gixobj_texts.specs.Parse.{IsFree}
+use Rattle.gixobj_fields.specs.HeaderText.{Header, field_text}
 use Rattle.gixobj_fields.specs.Writing.{Refused, RefusesNothing}
 use Rattle.gixobj_ids.specs.declared.hash.kind.Kind.{Kind}
 use Rattle.gixobj_fields.proofs.FieldWrites.{holds_none}
@@ -16,7 +12,7 @@ use Rattle.gixobj_fields.proofs.HeadersBack.{header_reads_back}
 use Rattle.gixobj_ids.proofs.HexCase.{lower_case_stays}
 use Rattle.gixobj_commits.specs.Commit.{AreHeaderTexts, CommitLines, IsCommitText, IsEncoding, encoding_text, parent_text}
 use Rattle.gixobj_commits.specs.CommitWriting.{RefusesEncoding, RefusesLines, commit_text, in_lower_case}
-use Rattle.gixobj_fields.specs.FieldWriting.{folded, header_text}
+use Rattle.gixobj_fields.specs.FieldWriting.{header_text}
 
 headers_read_back : (text : List ℕ) (headers : List Header) → AreHeaderTexts text headers → flat_map header_text headers ≡ text
 headers_read_back text [] none = sym none
