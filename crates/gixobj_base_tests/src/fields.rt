@@ -11,7 +11,7 @@ use gixobj_fields::encode::{
 };
 use gixobj_fields::streams::put_parts;
 use gixobj_ids::hash::{Kind, ObjectId};
-use gixobj_ids::parse::id_of_hex;
+use gixobj_ids::parse::{hex_hash, id_of_hex};
 use gixobj_texts::parse::{are_digits, number_from_digits};
 use std::test::Fail;
 
@@ -91,6 +91,7 @@ fn digits_and_hex(rt: HostRuntime) -> Result<(), Fail> {
     assert!(rt; !are_digits(b"0x1"));
     assert_eq!(rt; number_from_digits(b"18446744073709551615"), Some(u64::MAX));
     assert_eq!(rt; number_from_digits(b"18446744073709551616"), None);
-    assert!(rt; id_of_hex(bstr::BStr::new(TREE)).is_empty_tree());
+    let hex = hex_hash(TREE, Kind::Sha1).ok_or("an id")?;
+    assert!(rt; id_of_hex(hex).is_empty_tree());
     Ok(())
 }
