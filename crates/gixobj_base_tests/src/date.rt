@@ -153,3 +153,13 @@ fn times_in_order(rt: HostRuntime) -> Result<(), Fail> {
     assert!(rt; third == Time::default());
     Ok(())
 }
+
+#[test]
+fn order_of_times(rt: HostRuntime) -> Result<(), Fail> {
+    let rows = [((0, 60), (1, 0)), ((1, -60), (1, 0)), ((-1, 0), (0, -60))];
+    for (earlier, later) in rows {
+        let (earlier, later) = (time_of(earlier.0, earlier.1)?, time_of(later.0, later.1)?);
+        assert!(rt; earlier < later);
+    }
+    Ok(())
+}

@@ -69,3 +69,10 @@ fn headers_in_order(rt: HostRuntime) {
         } < small
     );
 }
+
+#[test]
+fn order_of_kinds(rt: HostRuntime) {
+    assert!(rt; Kind::Tree < Kind::Blob);
+    assert!(rt; Kind::Blob < Kind::Commit);
+    assert!(rt; Kind::Commit < Kind::Tag);
+}

@@ -1,4 +1,5 @@
 mod ModeTexts
+mod ModesBack
 mod NameKeys
 mod OctalNumbers
 mod TreeWrites

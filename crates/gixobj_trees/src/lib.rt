@@ -2,6 +2,7 @@
 #![tactic(auto)]
 
 mod blob;
+pub mod laws;
 pub mod tree;
 
 pub use blob::{Blob, BlobRef};
