@@ -29,7 +29,8 @@ const TREE: &[u8] = b"aaa96ced2d9a1c8e72c56b253a0e2fe78393feb7";
 #[test]
 fn commit_read_and_tree_edited(rt: HostRuntime) -> Result<(), Fail> {
     let alloc = rt.alloc();
-    let text = b"tree 4b825dc642cb6eb9a060e54bf8d69288fbee4904\nauthor A <a@b> 0 +0000\ncommitter A <a@b> 0 +0000\n\nm";
+    let text =
+        b"tree 4b825dc642cb6eb9a060e54bf8d69288fbee4904\nauthor A <a@b> 0 +0000\ncommitter A <a@b> 0 +0000\n\nm";
     assert!(rt; tree_of(alloc, text)?.is_empty_tree());
 
     let path = vec![in alloc; BString::from_slice(alloc, b"hello.txt")?]?;
