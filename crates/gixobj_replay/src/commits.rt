@@ -100,17 +100,24 @@ fn put_owned(
     columns: &mut Columns,
 ) -> Result<(), AllocError> {
     match owned {
-        Ok(commit) => {
-            columns.put("owned", "ok")?;
-            let author = owned_text(alloc, &commit.author)?;
-            columns.put("owned-author", author.as_str())?;
-            let committer = owned_text(alloc, &commit.committer)?;
-            columns.put("owned-committer", committer.as_str())?;
-            let written = written_of(alloc, &commit)?;
-            columns.put("owned-written", written.as_str())
-        }
+        Ok(commit) => put_owned_parts(alloc, &commit, columns),
         Err(error) => columns.put("owned", fault(&error)),
     }
+}
+
+/// The columns of an owned commit: its actors, and what is written of it.
+fn put_owned_parts(
+    alloc: Global,
+    commit: &Commit,
+    columns: &mut Columns,
+) -> Result<(), AllocError> {
+    columns.put("owned", "ok")?;
+    columns.put("owned-author", owned_text(alloc, &commit.author)?.as_str())?;
+    columns.put(
+        "owned-committer",
+        owned_text(alloc, &commit.committer)?.as_str(),
+    )?;
+    columns.put("owned-written", written_of(alloc, commit)?.as_str())
 }
 
 /// What the public calls say of the size of a commit and of its owned form.
@@ -119,19 +126,38 @@ pub(crate) fn size_answer(alloc: Global, question: &[u8]) -> Result<Vec<u8>, All
     let mut columns = Columns::new(alloc);
     match CommitRef::from_bytes(alloc, bytes.as_slice(), Sha1) {
         Ok(commit) => {
-            columns.put("size", size_text(alloc, commit.size())?.as_str())?;
-            columns.put("loose", loose_of(alloc, &commit)?.as_str())?;
-            match commit.into_owned(alloc) {
-                Ok(owned) => {
-                    columns.put("owned-size", size_text(alloc, owned.size())?.as_str())?;
-                    columns.put("owned-loose", loose_of(alloc, &owned)?.as_str())?;
-                }
-                Err(error) => columns.put("owned", fault(&error))?,
-            }
+            put_sizes(alloc, &commit, "size", "loose", &mut columns)?;
+            put_owned_sizes(alloc, commit.into_owned(alloc), &mut columns)?;
         }
         Err(error) => columns.put("whole", fault(&error))?,
     }
     text_of(alloc, columns.as_str())
+}
+
+/// The columns of an object's size and of its loose header, under these words.
+fn put_sizes<T: WriteTo>(
+    alloc: Global,
+    object: &T,
+    size: &str,
+    loose: &str,
+    columns: &mut Columns,
+) -> Result<(), AllocError>
+    requires { T.can_write object.now }
+{
+    columns.put(size, size_text(alloc, object.size())?.as_str())?;
+    columns.put(loose, loose_of(alloc, object)?.as_str())
+}
+
+/// The same of an owned commit, or why there is none.
+fn put_owned_sizes(
+    alloc: Global,
+    owned: Result<Commit, decode::Error>,
+    columns: &mut Columns,
+) -> Result<(), AllocError> {
+    match owned {
+        Ok(commit) => put_sizes(alloc, &commit, "owned-size", "owned-loose", columns),
+        Err(error) => columns.put("owned", fault(&error)),
+    }
 }
 
 /// What is written of a commit, borrowed or owned.

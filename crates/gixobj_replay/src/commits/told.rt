@@ -19,24 +19,41 @@ pub(crate) fn token_answer(alloc: Global, question: &[u8]) -> Result<Vec<u8>, Al
     let mut first = tokens;
     columns.put("iter-tree-id", id_text(alloc, first.tree_id())?.as_str())?;
     columns.put("iter-tree-id", id_text(alloc, first.tree_id())?.as_str())?;
+    put_parents_and_actors(alloc, tokens, &mut columns)?;
+    put_found(alloc, tokens, &mut columns)?;
+    text_of(alloc, columns.as_str())
+}
+
+/// The columns of the parents, and of the actors.
+fn put_parents_and_actors(
+    alloc: Global,
+    tokens: CommitRefIter<'_>,
+    columns: &mut Columns,
+) -> Result<(), AllocError> {
     for id in tokens.parent_ids() {
         columns.put("iter-parent", format!(in alloc; "{id}")?.as_str())?;
     }
     for actor in tokens.signatures() {
         columns.put("iter-signature", borrowed_text(alloc, actor)?.as_str())?;
     }
+    Ok(())
+}
+
+/// The columns of the author, the committer and the message.
+fn put_found(
+    alloc: Global,
+    tokens: CommitRefIter<'_>,
+    columns: &mut Columns,
+) -> Result<(), AllocError> {
     columns.put("iter-author", actor_text(alloc, tokens.author())?.as_str())?;
     columns.put(
         "iter-committer",
         actor_text(alloc, tokens.committer())?.as_str(),
     )?;
     match tokens.message() {
-        Ok(message) => {
-            columns.put("iter-message", hex_of(alloc, message.as_bytes())?.as_str())?;
-        }
-        Err(error) => columns.put("iter-message", fault(&error))?,
+        Ok(message) => columns.put("iter-message", hex_of(alloc, message.as_bytes())?.as_str()),
+        Err(error) => columns.put("iter-message", fault(&error)),
     }
-    text_of(alloc, columns.as_str())
 }
 
 /// The columns of the tokens, and of their end.
