@@ -42,6 +42,17 @@ fn put_ids(alloc: Global, commit: &CommitRef<'_>, columns: &mut Columns) -> Resu
     let hex = hex_of(alloc, commit.tree.as_bytes())?;
     let tree = format!(in alloc; "{hex} {}", commit.tree())?;
     columns.put("tree", tree.as_str())?;
+    put_parents(alloc, commit, columns)
+}
+
+/// The columns of the parents, in hex as they stand and as ids.
+fn put_parents(
+    alloc: Global,
+    commit: &CommitRef<'_>,
+    columns: &mut Columns,
+) -> Result<(), AllocError>
+    requires { HasIds (commit_lines commit.now) }
+{
     for (hex, id) in commit.parents.iter().zip(commit.parents()) {
         let hex = hex_of(alloc, hex.as_bytes())?;
         columns.put("parent", format!(in alloc; "{hex} {id}")?.as_str())?;

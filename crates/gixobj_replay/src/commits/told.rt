@@ -3,6 +3,7 @@
 use super::{actor_text, fault};
 use crate::actors::borrowed_text;
 use crate::texts::{Columns, bytes_of, hex_of, text_of};
+use gixobj_base::actor::SignatureRef;
 use gixobj_base::decode;
 use gixobj_base::hash::Kind::Sha1;
 use gixobj_base::hash::ObjectId;
@@ -76,28 +77,31 @@ fn token_text(alloc: Global, token: Token<'_>) -> Result<String, AllocError> {
     match token {
         Token::Tree { id } => format!(in alloc; "tree {id}"),
         Token::Parent { id } => format!(in alloc; "parent {id}"),
-        Token::Author { signature } => {
-            let actor = borrowed_text(alloc, signature)?;
-            format!(in alloc; "author {actor}")
-        }
-        Token::Committer { signature } => {
-            let actor = borrowed_text(alloc, signature)?;
-            format!(in alloc; "committer {actor}")
-        }
-        Token::Encoding(encoding) => {
-            let encoding = hex_of(alloc, encoding.as_bytes())?;
-            format!(in alloc; "encoding {encoding}")
-        }
+        Token::Author { signature } => actor_after(alloc, "author", signature),
+        Token::Committer { signature } => actor_after(alloc, "committer", signature),
+        Token::Encoding(encoding) => hex_after(alloc, "encoding", encoding.as_bytes()),
         Token::ExtraHeader((name, value)) => {
-            let name = hex_of(alloc, name.as_bytes())?;
-            let value = hex_of(alloc, value.as_slice())?;
-            format!(in alloc; "header {name} {value}")
+            let name = hex_after(alloc, "header", name.as_bytes())?;
+            hex_after(alloc, name.as_str(), value.as_slice())
         }
-        Token::Message(message) => {
-            let message = hex_of(alloc, message.as_bytes())?;
-            format!(in alloc; "message {message}")
-        }
+        Token::Message(message) => hex_after(alloc, "message", message.as_bytes()),
     }
+}
+
+/// A word and an actor.
+fn actor_after(
+    alloc: Global,
+    word: &str,
+    signature: SignatureRef<'_>,
+) -> Result<String, AllocError> {
+    let actor = borrowed_text(alloc, signature)?;
+    format!(in alloc; "{word} {actor}")
+}
+
+/// A word, and bytes in hex digits.
+fn hex_after(alloc: Global, word: &str, bytes: &[u8]) -> Result<String, AllocError> {
+    let hex = hex_of(alloc, bytes)?;
+    format!(in alloc; "{word} {hex}")
 }
 
 /// An id, or why there is none.
