@@ -31,6 +31,7 @@ front_first a b x y part =
       front = part.front;
       rest = part.rest ++ y;
       joined = ap (λ (it : List ℕ). it ++ y) part.joined ∙ append_assoc part.front part.rest y;
+      missing = omega (arith, part.missing, length-append part.rest y);
       held = part.held;
       short = omega (arith, part.short, length-append x y);
     }
@@ -42,6 +43,7 @@ front_more a b c x y first part =
       front = x ++ part.front;
       rest = part.rest;
       joined = ap (λ (it : List ℕ). x ++ it) part.joined ∙ sym (append_assoc x part.front part.rest);
+      missing = part.missing;
       held = appends_more a.held b.held c.held x part.front first.held part.held;
       short = omega (arith, first.room, part.short, length-append x y);
     }

@@ -22,10 +22,11 @@ pub record Puts (before after : SinkView) (bytes : List ℕ) : Type 0 where
   pub held : Appends before.held after.held bytes
   pub room : before.room ≤ after.room + length bytes
 
--- there was no room for all the bytes, and a front of them was put at the end
+-- there was no room for all the bytes, and a front of them, but not all, was put at the end
 pub record PutsFront (before after : SinkView) (bytes : List ℕ) : Type 0 where
   pub front : List ℕ
   pub rest : List ℕ
   pub joined : bytes ≡ front ++ rest
+  pub missing : 0 < length rest
   pub held : Appends before.held after.held front
   pub short : before.room < length bytes

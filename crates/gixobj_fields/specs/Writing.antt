@@ -35,7 +35,7 @@ SaysWhy Refuses before after text error.IllegalActor = StopsAt Refuses before af
 SaysWhy Refuses before after text error.OutOfMemory =
     (value : List ℕ) × (StopsAt Refuses before after (header_with_newline value) ⊎ StopsAt Refuses before after (name_with_zero_byte value))
 
--- the error is the sink's, which took a front of the text
+-- the error is the sink's, which took a front of the text, but not all
 abbrev pub FailsAsSink : SinkView → SinkView → List ℕ → Error → Type 0
 FailsAsSink before after text (error.Writer cause) = PutsFront before after text
 FailsAsSink before after text other = ⊥

@@ -20,7 +20,7 @@ use std::io;
 /// Exactly the parts before the refused value have been written.
 #[derive(Debug, Drop, thiserror::Error)]
 pub enum Error {
-    /// The writer failed, after a front of the text.
+    /// The writer failed, after a front of the text, but not all of it.
     #[error("the writer failed: {0}")]
     Writer(io::Error),
     /// The value of a header that has one line has a newline.

@@ -22,7 +22,7 @@ pub fn header_reads_back()
 {}
 
 /// An object of which nothing is refused is not written only where the sink has no room for it, and
-/// then a front of its text has been put.
+/// then a front of its text, but not all, has been put.
 pub fn writers_fail_as_their_sinks<T: WriteTo>(object: &T)
     ensures { (before after : SinkView) (error : Error) → RefusesNothing (T.refuses object.now) →
         SaysWhy (T.refuses object.now) before after (T.text object.now) error → FailsAsSink before after (T.text object.now) error }

@@ -80,7 +80,7 @@ pub trait Sink {
     ghost loan: { Self → ℕ };
 
     /// Puts all the bytes at the end. Where it has no room for them it may fail, and then a front of
-    /// them has been put.
+    /// them, but not all, has been put.
     fn put(&mut self, bytes: &[u8]) -> io::Result<()>
         ensures ok { OnOk result (Puts (view self.old) (view self.new) bytes.now) }
         ensures err { OnErr result (PutsFront (view self.old) (view self.new) bytes.now) }
@@ -139,7 +139,7 @@ impl<W: Write> ToWrite<'_, W> {
 }
 
 /// Puts texts at the end of a sink, one after the other. Where it fails, there was no room for them all,
-/// and a front of them has been put. It takes no memory.
+/// and a front of them, but not all, has been put. It takes no memory.
 pub fn put_parts<S: Sink>(parts: &[&[u8]], sink: &mut S) -> io::Result<()>
     ensures ok { OnOk result (Puts (S.view sink.old) (S.view sink.new) (flat_map (λ part. part.now) parts.now)) }
     ensures err { OnErr result (PutsFront (S.view sink.old) (S.view sink.new) (flat_map (λ part. part.now) parts.now)) }
