@@ -12,6 +12,7 @@ use Rattle.gix_object.specs.declared.tree.editor.Error.{Error}
 use Rattle.gix_object.specs.declared.tree.editor.Error.TheVariants as error
 use Rattle.gix_object.specs.declared.tree.editor.WriteError.{WriteError}
 use Rattle.gix_object.specs.declared.tree.editor.WriteError.TheVariants as write
+use Rattle.gixobj_base.specs.Bytes.{slash}
 
 abbrev pub names_of : List BString → Path
 names_of path = map bstring_bytes path
@@ -31,7 +32,7 @@ AreNames path = All IsEntryName path
 -- a name that no entry may have
 abbrev pub RefusesName : List ℕ → Error → Type 0
 RefusesName name error.EmptyPathComponent = name ≡ []
-RefusesName name error.SlashInPathComponent = (name ≢ []) × Contains name 47
+RefusesName name error.SlashInPathComponent = (name ≢ []) × Contains name slash
 RefusesName name error.OutOfMemory = ⊥
 
 -- the first name that no entry may have decides; want of memory says that there is none. Without names nothing is refused

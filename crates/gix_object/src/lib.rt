@@ -8,7 +8,7 @@ pub mod laws;
 pub mod tree;
 
 pub use gixobj_base::{
-    Blob, BlobRef, Header, Kind, Tree, WriteTo, actor, compute_hash, date, decode, encode, hash,
-    kind, streams,
+    Blob, BlobRef, Header, Kind, OutOfMemory, Tree, WriteTo, actor, compute_hash, date, decode,
+    encode, hash, kind, streams,
 };
 pub use gixobj_codec::{Commit, CommitRef, CommitRefIter, Data, commit};

@@ -234,10 +234,11 @@ fn failed_out(rt: HostRuntime) -> Result<(), Fail> {
     let alloc = rt.alloc();
     let mut editor = empty_editor(alloc);
     editor.upsert(&path(alloc, b"a")?, EntryKind::Blob, id(TEST)?)?;
-    match editor.write(|_: &Tree| Err::<ObjectId, u8>(7)) {
-        Err(WriteError::Out(7)) => {}
-        _ => return Err("a refused tree")?,
-    }
+    let refused = editor.write(|_: &Tree| Err::<ObjectId, u8>(7));
+    let Err(error @ WriteError::Out(7)) = refused else {
+        return Err("a refused tree")?;
+    };
+    assert_eq!(rt; error.to_string(alloc)?.as_str(), "a tree was refused: 7");
     let written = written(alloc, &mut editor)?;
     let [(_, tree)] = written.trees.as_slice() else {
         return Err("one tree")?;

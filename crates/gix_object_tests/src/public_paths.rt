@@ -2,8 +2,9 @@
 
 mod root {
     pub use gix_object::{
-        Blob, BlobRef, Commit, CommitRef, CommitRefIter, Data, Header, Kind, Tree, WriteTo, actor,
-        commit, compute_hash, date, decode, encode, hash, kind, laws, tree,
+        Blob, BlobRef, Commit, CommitRef, CommitRefIter, Data, Header, Kind, OutOfMemory, Tree,
+        WriteTo, actor, commit, compute_hash, date, decode, encode, hash, kind, laws, streams,
+        tree,
     };
 }
 

@@ -2,10 +2,11 @@
 use Rattle.std.specs.Prelude.{ℕ, List, [], ◌∷◌, ◌++◌, codes}
 use Rattle.gixobj.specs.declared.refusal.Refusal.{Refusal}
 use Rattle.gixobj.specs.declared.refusal.Refusal.TheVariants.{Usage, InputFailed, OutputFailed, OutOfMemory, BadHeader, ShortData}
+use Rattle.gixobj_base.specs.Bytes.{newline}
 
 -- a text and a newline
 abbrev pub line : List ℕ → List ℕ
-line text = text ++ 10 ∷ []
+line text = text ++ newline ∷ []
 
 -- the line for standard error
 abbrev pub line_of : Refusal → List ℕ

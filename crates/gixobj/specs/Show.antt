@@ -8,6 +8,7 @@ use Rattle.gixobj_base.specs.ids.hash.object_id.ObjectId.{ObjectId}
 use Rattle.gixobj_base.specs.ids.kind.Kind.{Kind}
 use Rattle.gixobj.specs.declared.refusal.Refusal.{Refusal}
 use Rattle.gixobj.specs.declared.refusal.Refusal.TheVariants.{BadHeader, OutOfMemory, ShortData}
+use Rattle.gixobj_base.specs.Bytes.{newline, space}
 
 -- the input begins with a loose object of this kind, size and id: a loose header, and then its content
 abbrev pub IsObject : hash.Kind → List ℕ → Kind → ℕ → ObjectId → Type 0
@@ -31,4 +32,4 @@ RefusesObject input _ = ⊥
 
 -- the line that tells of an object: its kind, its size and its id, a space between them
 abbrev pub show_line : Kind → ℕ → ObjectId → List ℕ
-show_line kind size id = kind_word kind ++ 32 ∷ decimal size ++ 32 ∷ hex_text id ++ 10 ∷ []
+show_line kind size id = kind_word kind ++ space ∷ decimal size ++ space ∷ hex_text id ++ newline ∷ []

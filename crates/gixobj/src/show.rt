@@ -74,7 +74,8 @@ fn content_of(input: &[u8], size: u64, used: usize) -> Option<&[u8]>
 impl Shown {
     /// The line `<kind> <size> <id>`, with its newline. It has at most 93 bytes, so it takes no memory.
     pub fn line(&self, alloc: Global) -> SmallVec<u8, 96>
-        ensures { result.items ≡ show_line self.now.kind self.now.size self.now.id }
+        ensures text { result.items ≡ show_line self.now.kind self.now.size self.now.id }
+        ensures inline { result.capacity ≡ 96 }
     {
         let mut digits = Buffer::new();
         let mut hex = [0u8; 64];

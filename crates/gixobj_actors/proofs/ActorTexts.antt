@@ -1,5 +1,5 @@
 -- What is written of an actor is a line that names it.
-use Rattle.std.proofs.Common.{◌≡◌, ◌≢◌, ◌<◌, ◌+◌, ◌/◌, ◌%◌, ℕ, suc, Bool, true, false, List, [], ◌∷◌, ◌++◌, arith, inl, refl, sym, ap, ◌∙◌, append_assoc, append-nil}
+use Rattle.std.proofs.Common.{◌≡◌, ◌≢◌, ◌<◌, ◌+◌, ◌/◌, ◌%◌, ℕ, suc, Bool, true, false, List, [], ◌∷◌, ◌++◌, arith, inl, refl, sym, ap, ◌∙◌, append_assoc, append-nil, All, codes}
 use Rattle.std.proofs.lemmas.Bool.{true≢false}
 use Rattle.std.proofs.lemmas.Bool.Decides.{nat_tests}
 use Rattle.std.proofs.lemmas.Fmt.{decimal_is_IsNumeral}
@@ -62,9 +62,10 @@ written_free : (byte : ℕ) (name email time : List ℕ) → 32 ≢ byte → 60 
     → IsFree byte name → IsFree byte email → IsFree byte time → IsFree byte (actor_text name email time)
 written_free byte name email time space opening closing free_name free_email free_time =
     let P : ℕ → Type 0 = λ it. it ≢ byte in
-    let front = All-append P name (32 ∷ 60 ∷ email) free_name (All-cons P 32 (60 ∷ email) space (All-cons P 60 email opening free_email)) in
-    let back = All-cons P 62 (32 ∷ time) closing (All-cons P 32 time space free_time) in
-    All-append P (name ++ 32 ∷ 60 ∷ email) (62 ∷ 32 ∷ time) front back
+    let opened : All P (codes " <") = All-cons P 32 (60 ∷ []) space (All-cons P 60 [] opening (All-nil P)) in
+    let closed : All P (codes "> ") = All-cons P 62 (32 ∷ []) closing (All-cons P 32 [] space (All-nil P)) in
+    let front = All-append P (name ++ codes " <") email (All-append P name (codes " <") free_name opened) free_email in
+    All-append P (name ++ codes " <" ++ email ++ codes "> ") time (All-append P (name ++ codes " <" ++ email) (codes "> ") front closed) free_time
 
 joined_again : (name email time : List ℕ) → actor_text name email time ≡ (name ++ 32 ∷ []) ++ 60 ∷ email ++ 62 ∷ (32 ∷ []) ++ time ++ []
 joined_again name email time = simp (append_assoc, append-nil)

@@ -1,15 +1,16 @@
 -- Lines that name an actor and a time (git-commit-tree, "Commit Information"; git-fast-import, "author").
-use Rattle.std.specs.Prelude.{◌≡◌, ◌≢◌, ◌⊎◌, ◌||◌, ◌==◌, ℕ, Bool, List, [], ◌∷◌, ◌++◌, Contains, IsFalse, pos, ⊤}
+use Rattle.std.specs.Prelude.{◌≡◌, ◌≢◌, ◌⊎◌, ◌||◌, ◌==◌, ℕ, Bool, List, [], ◌∷◌, ◌++◌, Contains, IsFalse, pos, ⊤, codes}
 use Rattle.std.specs.Char.{is_ascii_digit, is_whitespace}
 use Rattle.std.specs.List.{AllPass}
 use Rattle.bstr.specs.Trim.{trim_end_by, trim_start_by}
 use Rattle.gixobj_actors.specs.Date.{IsNoTimeText, IsTimeText}
 use Rattle.gixobj_texts.specs.Parse.{IsFree}
 use Rattle.gixobj_actors.specs.declared.date.Time.{Time}
+use Rattle.gixobj_texts.specs.Bytes.{greater_than, less_than, minus, newline, plus, space, tab}
 
 -- a byte that may stand in a time: a digit, a plus, a minus, a space or a tab
 abbrev pub is_time_byte : ℕ → Bool
-is_time_byte byte = is_ascii_digit byte || byte == 43 || byte == 45 || byte == 32 || byte == 9
+is_time_byte byte = is_ascii_digit byte || byte == plus || byte == minus || byte == space || byte == tab
 
 -- no time goes on here
 abbrev pub EndsTime : List ℕ → Type 0
@@ -18,20 +19,20 @@ EndsTime (byte ∷ rest) = IsFalse (is_time_byte byte)
 
 -- the name is the text less one final space where there is one
 abbrev pub IsNameOf : List ℕ → List ℕ → Type 0
-IsNameOf text name = (text ≡ name ++ 32 ∷ []) ⊎ ((text ≡ name) × ((front : List ℕ) → text ≢ front ++ 32 ∷ []))
+IsNameOf text name = (text ≡ name ++ space ∷ []) ⊎ ((text ≡ name) × ((front : List ℕ) → text ≢ front ++ space ∷ []))
 
 -- the gap is one space, or nothing where no space follows
 abbrev pub IsGap : List ℕ → List ℕ → Type 0
-IsGap gap after = (gap ≡ 32 ∷ []) ⊎ ((gap ≡ []) × ((rest : List ℕ) → after ≢ 32 ∷ rest))
+IsGap gap after = (gap ≡ space ∷ []) ⊎ ((gap ≡ []) × ((rest : List ℕ) → after ≢ space ∷ rest))
 
 -- the line names an actor: a text before its first `<`, an email up to its last `>`, a gap, a time as long as it goes, a rest
 pub record IsActorLine (line name email time rest : List ℕ) : Type 0 where
   pub text : List ℕ
   pub gap : List ℕ
-  pub joined : line ≡ text ++ 60 ∷ email ++ 62 ∷ gap ++ time ++ rest
-  pub one_line : IsFree 10 line
-  pub first : IsFree 60 text
-  pub last : IsFree 62 (gap ++ time ++ rest)
+  pub joined : line ≡ text ++ less_than ∷ email ++ greater_than ∷ gap ++ time ++ rest
+  pub one_line : IsFree newline line
+  pub first : IsFree less_than text
+  pub last : IsFree greater_than (gap ++ time ++ rest)
   pub named : IsNameOf text name
   pub spaced : IsGap gap (time ++ rest)
   pub timed : AllPass is_time_byte time
@@ -49,17 +50,13 @@ trimmed text = trim_end_by is_whitespace (trim_start_by is_whitespace text)
 abbrev pub IsTimeOrDefault : List ℕ → Time → Type 0
 IsTimeOrDefault text time = IsTimeText text time.seconds time.offset ⊎ (IsNoTimeText text × (time.seconds ≡ pos 0) × (time.offset ≡ pos 0))
 
--- a `<`, a `>` or a newline stands in the text
-abbrev pub HasIllegalByte : List ℕ → Type 0
-HasIllegalByte text = Contains text 60 ⊎ Contains text 62 ⊎ Contains text 10
-
 -- a name or an email that can be written: no `<`, no `>`, no newline
 abbrev pub IsWritable : List ℕ → Type 0
-IsWritable text = IsFree 60 text × IsFree 62 text × IsFree 10 text
+IsWritable text = IsFree less_than text × IsFree greater_than text × IsFree newline text
 
 -- an actor as it is written
 abbrev pub actor_text : List ℕ → List ℕ → List ℕ → List ℕ
-actor_text name email time = name ++ 32 ∷ 60 ∷ email ++ 62 ∷ 32 ∷ time
+actor_text name email time = name ++ codes " <" ++ email ++ codes "> " ++ time
 
 -- the line names this actor, and nothing follows the time
 abbrev pub IsActor : List ℕ → List ℕ → List ℕ → List ℕ → Type 0

@@ -2,13 +2,14 @@
 use Rattle.std.specs.Prelude.{◌≡◌, ◌⊎◌, ℕ, List, [], ◌∷◌, ◌++◌}
 use Rattle.bstr.specs.BStr.{bstr_bytes}
 use Rattle.bstr.specs.Owned.{bstring_bytes}
-use Rattle.gixobj_actors.specs.Actor.{HasIllegalByte, IsWritable, actor_text}
+use Rattle.gixobj_actors.specs.Actor.{IsWritable, actor_text}
 use Rattle.gixobj_actors.specs.Date.{time_text}
 use Rattle.gixobj_fields.specs.Writing.{Refused, illegal_actor}
 use Rattle.gixobj_actors.specs.declared.actor.Signature.{Signature}
 use Rattle.gixobj_actors.specs.declared.actor.SignatureRef.{SignatureRef}
 use Rattle.gixobj_fields.specs.declared.encode.Error.{Error}
 use Rattle.gixobj_fields.specs.declared.encode.Error.TheVariants.{IllegalActor, Writer}
+use Rattle.gixobj_texts.specs.Bytes.{space}
 
 -- a borrowed actor as it is written
 abbrev pub borrowed_text : SignatureRef → List ℕ
@@ -22,23 +23,16 @@ owned_text actor = actor_text (bstring_bytes actor.name) (bstring_bytes actor.em
 abbrev pub IsLegalActor : List ℕ → List ℕ → Type 0
 IsLegalActor name email = IsWritable name × IsWritable email
 
--- an actor of this name and this email cannot be written
-abbrev pub IsIllegalActor : List ℕ → List ℕ → Type 0
-IsIllegalActor name email = HasIllegalByte name ⊎ HasIllegalByte email
-
 -- a name and an email that an owned actor can be written with
 abbrev pub IsLegal : Signature → Type 0
 IsLegal actor = IsLegalActor (bstring_bytes actor.name) (bstring_bytes actor.email)
 
-abbrev pub IsIllegal : Signature → Type 0
-IsIllegal actor = IsIllegalActor (bstring_bytes actor.name) (bstring_bytes actor.email)
-
 -- why an actor is not written: it cannot be, and all is unchanged; or there was no room, and a front of it was put
 abbrev pub RefusesActor : List ℕ → List ℕ → Type 0 → Type 0 → Error → Type 0
-RefusesActor name email unchanged puts_front IllegalActor = IsIllegalActor name email × unchanged
+RefusesActor name email unchanged puts_front IllegalActor = ¬ (IsLegalActor name email) × unchanged
 RefusesActor name email unchanged puts_front (Writer error) = IsLegalActor name email × puts_front
 RefusesActor name email unchanged puts_front other = ⊥
 
 -- an actor is refused behind the name of its field and a space
 abbrev pub RefusesSignature : List ℕ → Signature → Refused → List ℕ → Type 0
-RefusesSignature name actor value parts = IsIllegal actor × (value ≡ illegal_actor) × (parts ≡ name ++ 32 ∷ [])
+RefusesSignature name actor value parts = ¬ (IsLegal actor) × (value ≡ illegal_actor) × (parts ≡ name ++ space ∷ [])

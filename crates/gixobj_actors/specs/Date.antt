@@ -3,6 +3,7 @@ use Rattle.std.specs.Prelude.{◌≡◌, ◌≤◌, ◌<◌, ◌+◌, ◌*◌, �
 use Rattle.std.specs.Fmt.{signed_decimal}
 use Rattle.std.specs.Int.{w64}
 use Rattle.std.specs.Str.Parse.{IsNumeral, digits_value, starts_with_minus}
+use Rattle.gixobj_texts.specs.Bytes.{digit, minus, plus, space}
 
 -- whole minutes, at most 99 hours and 59 minutes either way
 abbrev pub IsOffset : ℤ → Type 0
@@ -28,11 +29,11 @@ pub record IsSecondsText (text : List ℕ) (seconds : ℤ) : Type 0 where
 
 -- the two digits of a number below a hundred
 abbrev pub two_digits : ℕ → List ℕ
-two_digits number = (48 + number / 10) ∷ (48 + number % 10) ∷ []
+two_digits number = digit (number / 10) ∷ digit (number % 10) ∷ []
 
 -- a plus or a minus, two digits of hours, two digits of minutes
 abbrev pub offset_text_of : Bool → ℕ → ℕ → List ℕ
-offset_text_of is_minus hours minutes = (if is_minus then 45 else 43) ∷ two_digits hours ++ two_digits minutes
+offset_text_of is_minus hours minutes = (if is_minus then minus else plus) ∷ two_digits hours ++ two_digits minutes
 
 -- the text of an offset: at most 99 hours, at most 59 minutes
 pub record IsOffsetText (text : List ℕ) (offset : ℤ) : Type 0 where
@@ -48,7 +49,7 @@ pub record IsOffsetText (text : List ℕ) (offset : ℤ) : Type 0 where
 pub record IsTimeText (text : List ℕ) (seconds offset : ℤ) : Type 0 where
   pub first : List ℕ
   pub second : List ℕ
-  pub joined : text ≡ first ++ 32 ∷ second
+  pub joined : text ≡ first ++ space ∷ second
   pub seconds_text : IsSecondsText first seconds
   pub offset_text : IsOffsetText second offset
 
@@ -67,4 +68,4 @@ offset_text offset = offset_text_of (is_below_zero offset) (unsigned_abs offset 
 
 -- a time as it is written
 abbrev pub time_text : ℤ → ℤ → List ℕ
-time_text seconds offset = signed_decimal seconds ++ 32 ∷ offset_text offset
+time_text seconds offset = signed_decimal seconds ++ space ∷ offset_text offset

@@ -1,13 +1,13 @@
 //! Actors: who made an object, and when (`git-commit-tree`, "Commit Information"; `git-fast-import`,
 //! "author" and "committer").
-ghost use Rattle.std.specs.Prelude.{◌≡◌, ◌<◌, ◌+◌, ◌-◌, ◌*◌, ◌^◌, ◌++◌, ℕ, List, length, IfErr, IfNone, IfOk, IfSome, MatchBool, OnErr, OnOk};
+ghost use Rattle.std.specs.Prelude.{◌≡◌, ◌<◌, ◌+◌, ◌-◌, ◌*◌, ◌^◌, ◌++◌, ℕ, List, length, IfErr, IfNone, IfOk, IfSome, MatchBool, OnErr, OnOk, IsTrue, ◌↔◌};
 ghost use Rattle.std.specs.Io.KnownBytes.{Appends};
 ghost use Rattle.std.specs.List.{AllPass};
 ghost use Rattle.std.specs.Option.{SomeIff};
 ghost use Rattle.bstr.specs.BStr.{bstr_bytes};
 ghost use Rattle.bstr.specs.Owned.{bstring_bytes};
-ghost use Rattle.gixobj_actors.specs.Actor.{EndsTime, IsActorLine, IsGap, IsNameOf, IsNoActorLine, IsTimeOrDefault, IsWritable, HasIllegalByte, actor_text, is_time_byte as is_time_byte_of, trimmed};
-ghost use Rattle.gixobj_actors.specs.ActorWriting.{IsIllegalActor, IsLegalActor, RefusesActor, borrowed_text, owned_text};
+ghost use Rattle.gixobj_actors.specs.Actor.{EndsTime, IsActorLine, IsGap, IsNameOf, IsNoActorLine, IsTimeOrDefault, IsWritable, actor_text, is_time_byte as is_time_byte_of, trimmed};
+ghost use Rattle.gixobj_actors.specs.ActorWriting.{IsLegalActor, RefusesActor, borrowed_text, owned_text};
 ghost use Rattle.gixobj_actors.specs.Date.{IsNoTimeText, IsTimeText, time_text};
 ghost use Rattle.gixobj_fields.specs.Streams.{Puts, PutsFront, writer_view};
 ghost use Rattle.gixobj_ids.specs.declared.decode.Error.TheVariants.{Malformed};
@@ -16,9 +16,9 @@ use crate::date::{Time, TimeBuf, parse_header};
 use bstr::{BStr, BString, ByteSlice};
 use gixobj_fields::encode::Error;
 use gixobj_fields::streams::{Sink, ToWrite, put_parts};
-use gixobj_ids::decode;
+use gixobj_ids::{OutOfMemory, decode};
 use gixobj_texts::parse::{has_byte, split_at_byte, split_at_last_byte};
-use std::alloc::{AllocError, Global};
+use std::alloc::Global;
 use std::io;
 use std::io::Write;
 
@@ -93,9 +93,8 @@ impl<'a> SignatureRef<'a> {
 
 /// Conversion
 impl<'a> SignatureRef<'a> {
-    /// The same, owned, with the default time where the text is that of no time. The one refusal is
-    /// want of memory.
-    pub fn to_owned(&self, alloc: Global) -> Result<Signature, AllocError>
+    /// The same, owned, with the default time where the text is that of no time.
+    pub fn to_owned(&self, alloc: Global) -> Result<Signature, OutOfMemory>
         ensures name { IfOk result (λ it. bstring_bytes it.name ≡ bstr_bytes self.now.name) }
         ensures email { IfOk result (λ it. bstring_bytes it.email ≡ bstr_bytes self.now.email) }
         ensures time { IfOk result (λ it. IsTimeOrDefault (bstr_bytes self.now.time) it.time) }
@@ -120,7 +119,7 @@ impl<'a> SignatureRef<'a> {
 
 /// Conversion
 impl Signature {
-    /// The same, borrowed. The buffer holds the text of the time.
+    /// The same, borrowed. The text of the time is borrowed from the buffer.
     pub fn to_ref<'a>(&'a self, time_buf: &'a mut TimeBuf) -> SignatureRef<'a>
         ensures name { bstr_bytes result.name ≡ bstring_bytes self.now.name }
         ensures email { bstr_bytes result.email ≡ bstring_bytes self.now.email }
@@ -167,7 +166,7 @@ impl SignatureRef<'_> {
 
     /// Whether it can be written.
     fn is_legal(&self) -> bool
-        ensures { MatchBool result (IsLegalActor (bstr_bytes self.now.name) (bstr_bytes self.now.email)) (IsIllegalActor (bstr_bytes self.now.name) (bstr_bytes self.now.email)) }
+        ensures { IsTrue result ↔ IsLegalActor (bstr_bytes self.now.name) (bstr_bytes self.now.email) }
     {
         is_writable(self.name.as_bytes()) && is_writable(self.email.as_bytes())
     }
@@ -223,7 +222,7 @@ impl Signature {
 
 /// Whether a name or an email can be written: it has no `<`, no `>` and no newline.
 fn is_writable(text: &[u8]) -> bool
-    ensures { MatchBool result (IsWritable text.now) (HasIllegalByte text.now) }
+    ensures { IsTrue result ↔ IsWritable text.now }
 {
     !(has_byte(text, b'<') || has_byte(text, b'>') || has_byte(text, b'\n'))
 }

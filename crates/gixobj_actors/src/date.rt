@@ -39,8 +39,9 @@ impl Time {
 
 /// Conversion
 impl Time {
-    /// The text of the time, which the buffer holds from then on: seconds in decimal, a space, the
-    /// offset's sign (`+` for 0), two digits of hours and two of minutes. At most 26 bytes.
+    /// The text of the time: seconds in decimal, a space, the offset's sign (`+` for 0), two digits of
+    /// hours and two of minutes. At most 26 bytes. The result borrows the buffer, of whose bytes nothing
+    /// is said afterwards.
     pub fn to_str<'a>(&self, buf: &'a mut TimeBuf) -> &'a str
         ensures text { result.now ≡ time_text self.now.seconds self.now.offset }
         ensures short { length result.now ≤ 26 }

@@ -4,6 +4,7 @@ ghost use Rattle.std.specs.Int.{w64};
 ghost use Rattle.gixobj_actors.specs.Actor.{IsActorLine, IsNoActorLine, actor_text};
 ghost use Rattle.gixobj_actors.specs.ActorWriting.{IsLegalActor};
 ghost use Rattle.gixobj_actors.specs.Date.{IsOffset, IsTimeText, time_text};
+ghost use Rattle.gixobj_texts.specs.Bytes.{newline};
 
 /// The text of a time that is written reads back as that time. A text says one time at most.
 pub fn time_reads_back()
@@ -17,7 +18,7 @@ pub fn actor_line_has_one_reading()
     ensures one_actor { (line name email time rest name' email' time' rest' : List ℕ) →
         IsActorLine line name email time rest → IsActorLine line name' email' time' rest' →
         (name ≡ name') × (email ≡ email') × (time ≡ time') × (rest ≡ rest') }
-    ensures no_newline { (line : List ℕ) → Contains line 10 → IsNoActorLine line }
+    ensures no_newline { (line : List ℕ) → Contains line newline → IsNoActorLine line }
 {}
 
 /// What is written of an owned actor is a line that names it, with nothing behind its time.

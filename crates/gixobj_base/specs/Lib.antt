@@ -12,6 +12,7 @@ pub use Rattle.gixobj_ids.specs.Decode
 pub use Rattle.gixobj_ids.specs.Encode
 pub use Rattle.gixobj_ids.specs.Hash
 pub use Rattle.gixobj_ids.specs.Kind
+pub use Rattle.gixobj_texts.specs.Bytes
 pub use Rattle.gixobj_texts.specs.Parse
 pub use Rattle.gixobj_ids.specs.declared as ids
 pub use Rattle.gixobj_trees.specs.Entries

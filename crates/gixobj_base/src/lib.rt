@@ -11,5 +11,5 @@ pub mod parse;
 
 pub use gixobj_actors::{actor, date};
 pub use gixobj_fields::{WriteTo, streams, traits};
-pub use gixobj_ids::{Header, Kind, compute_hash, decode, hash, kind};
+pub use gixobj_ids::{Header, Kind, OutOfMemory, compute_hash, decode, hash, kind};
 pub use gixobj_trees::{Blob, BlobRef, Tree, tree};

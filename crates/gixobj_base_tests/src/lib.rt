@@ -19,6 +19,8 @@ mod hash;
 mod kind;
 pub mod limited;
 #[cfg(test)]
+mod memory;
+#[cfg(test)]
 mod parse;
 #[cfg(test)]
 mod public_paths;

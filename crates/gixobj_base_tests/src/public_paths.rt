@@ -2,8 +2,8 @@
 
 mod root {
     pub use gixobj_base::{
-        Blob, BlobRef, Header, Kind, Tree, WriteTo, actor, compute_hash, date, decode, encode,
-        hash, kind, laws, parse, streams, traits, tree,
+        Blob, BlobRef, Header, Kind, OutOfMemory, Tree, WriteTo, actor, compute_hash, date, decode,
+        encode, hash, kind, laws, parse, streams, traits, tree,
     };
 }
 
@@ -34,7 +34,8 @@ mod of_kind {
 mod of_laws {
     pub use gixobj_base::laws::{
         actor_line_has_one_reading, actor_reads_back, header_fields_have_one_reading,
-        hex_reads_back, hex_writes_back, loose_header_reads_back, time_reads_back,
+        hex_reads_back, hex_writes_back, loose_header_reads_back, mode_reads_back, time_reads_back,
+        writers_fail_as_their_sinks,
     };
 }
 

@@ -11,8 +11,7 @@ use Rattle.bstr.specs.BStr.{bstr_bytes}
 use Rattle.bstr.specs.declared.bstr.BStr.{BStr}
 use Rattle.bstr.specs.declared.bstring.BString.{BString}
 use Rattle.bstr.specs.Owned.{bstring_bytes}
-use Rattle.gixobj_actors.specs.Actor.{HasIllegalByte, IsWritable}
-use Rattle.gixobj_actors.specs.ActorWriting.{IsIllegal, IsLegal, RefusesSignature, owned_text}
+use Rattle.gixobj_actors.specs.ActorWriting.{IsLegal, RefusesSignature, owned_text}
 use Rattle.gixobj_actors.specs.declared.actor.Signature.{Signature}
 use Rattle.gixobj_ids.specs.Hash.{Spells, hex_text}
 use Rattle.gixobj_fields.specs.HeaderReading.{header_of, owned_header_of}
@@ -177,18 +176,9 @@ owned_encoding_refused commit parents encoding value parts one two author commit
     )
     )
 
-writable_is_legal : (text : List ℕ) → IsWritable text → HasIllegalByte text → ⊥
-writable_is_legal text (opening, closing, newline) (inl has) = holds_none 60 text opening has
-writable_is_legal text (opening, closing, newline) (inr (inl has)) = holds_none 62 text closing has
-writable_is_legal text (opening, closing, newline) (inr (inr has)) = holds_none 10 text newline has
-
-legal_or_not : (actor : Signature) → IsLegal actor → IsIllegal actor → ⊥
-legal_or_not actor (name, email) (inl bad) = writable_is_legal (bstring_bytes actor.name) name bad
-legal_or_not actor (name, email) (inr bad) = writable_is_legal (bstring_bytes actor.email) email bad
-
 pub owned_not_refused : (commit : Commit) (encoding : Option BStr) → bytes_if_some encoding ≡ owned_bytes_if_some commit.encoding → IsLegal commit.author → IsLegal commit.committer
     → RefusesNothing (RefusesEncodingLine (bytes_if_some encoding)) → RefusesNothing (RefusesOwned commit)
-owned_not_refused commit encoding two author committer none value parts (inl it) = legal_or_not commit.author author it.0
-owned_not_refused commit encoding two author committer none value parts (inr (inl it)) = legal_or_not commit.committer committer it.1
+owned_not_refused commit encoding two author committer none value parts (inl it) = absurd (it.0 author)
+owned_not_refused commit encoding two author committer none value parts (inr (inl it)) = absurd (it.1 committer)
 owned_not_refused commit encoding two author committer none value parts (inr (inr it)) =
     none value [] (subst (λ (it : Option (List ℕ)). RefusesEncoding it value) (sym two) it.2.0, refl)

@@ -5,7 +5,7 @@ use Rattle.std.specs.List.{AllZip}
 use Rattle.std.specs.Str.{str_to_ascii_lowercase}
 use Rattle.std.proofs.lemmas.List.Elements.{All-contains}
 use Rattle.bstr.specs.Owned.{bstring_bytes}
-use Rattle.gixobj_actors.specs.ActorWriting.{IsIllegal, owned_text}
+use Rattle.gixobj_actors.specs.ActorWriting.{IsLegal, owned_text}
 use Rattle.gixobj_ids.specs.Hash.{Spells, hex_text}
 use Rattle.gixobj_fields.specs.HeaderText.{Header}
 use Rattle.gixobj_fields.specs.Streams.{SinkView}
@@ -57,7 +57,7 @@ encoding_refused None headers value is refused = absurd refused
 encoding_refused (Some encoding) headers value is (inl (none, is_empty)) = (is_empty, ap (λ (it : List ℕ). Some it) none)
 encoding_refused (Some encoding) headers value is (inr (has, is_newline)) = absurd (All-contains (λ (it : ℕ). it ≡ 10 → ⊥) encoding 10 is has refl)
 
-unwritable : (line : List ℕ) (actor : Signature) → IsOwnedActor line actor → IsIllegal actor → IsUnwritable line
+unwritable : (line : List ℕ) (actor : Signature) → IsOwnedActor line actor → ¬ (IsLegal actor) → IsUnwritable line
 unwritable line actor is illegal = (bstring_bytes actor.name, bstring_bytes actor.email, is.time, is.read, illegal)
 
 -- what is refused of the owned form of a commit that was read

@@ -6,6 +6,7 @@ use Rattle.gixobj_ids.specs.Hash.Hex.{IsHexOf}
 use Rattle.gixobj_fields.specs.HeaderText.{Header, IsHeaderText, field_text}
 use Rattle.gixobj_texts.specs.Parse.{IsFree}
 use Rattle.gixobj_ids.specs.declared.hash.kind.Kind.{Kind}
+use Rattle.gixobj_texts.specs.Bytes.{newline}
 
 -- what a commit's text holds: hex texts of ids, lines of actors, an encoding, headers, a message
 pub record CommitLines : Type 0 where
@@ -32,7 +33,7 @@ encoding_text (Some encoding) = field_text (codes "encoding") encoding
 
 -- without an encoding the first header is not named `encoding`
 abbrev pub IsEncoding : Option (List ℕ) → List Header → Type 0
-IsEncoding (Some encoding) headers = IsFree 10 encoding
+IsEncoding (Some encoding) headers = IsFree newline encoding
 IsEncoding None [] = ⊤
 IsEncoding None (header ∷ headers) = header.name ≢ codes "encoding"
 
@@ -46,7 +47,7 @@ pub record IsCommitText (kind : Kind) (text : List ℕ) (commit : CommitLines) :
   pub headers_text : List ℕ
   pub joined : text ≡ field_text (codes "tree") commit.tree ++ flat_map parent_text commit.parents
       ++ field_text (codes "author") commit.author ++ field_text (codes "committer") commit.committer
-      ++ encoding_text commit.encoding ++ headers_text ++ 10 ∷ commit.message
+      ++ encoding_text commit.encoding ++ headers_text ++ newline ∷ commit.message
   pub tree : IsHexOf kind commit.tree
   pub parents : All (IsHexOf kind) commit.parents
   pub author : NamesActor commit.author

@@ -7,6 +7,7 @@ use Rattle.gixobj_ids.specs.declared.decode.Error.{Error}
 use Rattle.gixobj_ids.specs.declared.decode.Error.TheVariants.{Malformed, OutOfMemory}
 use Rattle.gixobj_ids.specs.declared.hash.kind.Kind.{Kind}
 use Rattle.gixobj_commits.specs.Commit.{IsNoCommitText, NamesActor, parent_text}
+use Rattle.gixobj_texts.specs.Bytes.{newline, space}
 
 -- the input begins with a field whose value is the hex text of an id
 abbrev pub HasId : List ℕ → Kind → List ℕ → List ℕ → List ℕ → Type 0
@@ -24,12 +25,12 @@ HasNoActor name input = (line rest : List ℕ) → ¬ HasActor name input line r
 
 -- the input does not begin with this name and a space
 abbrev pub LacksName : List ℕ → List ℕ → Type 0
-LacksName name input = (rest : List ℕ) → input ≢ name ++ 32 ∷ rest
+LacksName name input = (rest : List ℕ) → input ≢ name ++ space ∷ rest
 
 -- the input begins with exactly these parents
 pub record HasParents (kind : Kind) (input : List ℕ) (parents : List (List ℕ)) (rest : List ℕ) : Type 0 where
   pub joined : input ≡ flat_map parent_text parents ++ rest
-  pub one_line : All (λ hex. All (λ byte. byte ≢ 10) hex) parents
+  pub one_line : All (λ hex. All (λ byte. byte ≢ newline) hex) parents
   pub hex : All (IsHexOf kind) parents
   pub ends : LacksName (codes "parent") rest
 
@@ -46,7 +47,7 @@ HasNoEncoding input = (encoding : Option (List ℕ)) (rest : List ℕ) → ¬ Ha
 
 -- a newline stands here, with which the headers end
 abbrev pub BeginsLine : List ℕ → Type 0
-BeginsLine input = (rest : List ℕ) × (input ≡ 10 ∷ rest)
+BeginsLine input = (rest : List ℕ) × (input ≡ newline ∷ rest)
 
 -- the input begins with these headers, up to an empty line
 abbrev pub HasHeaders : List ℕ → List Header → List ℕ → Type 0

@@ -2,7 +2,7 @@
 use Rattle.std.specs.Prelude.{◌≡◌, ◌⊎◌, ℕ, List, [], ◌∷◌, ◌++◌, All, Option, Some, None, codes, map}
 use Rattle.std.specs.List.{flat_map}
 use Rattle.std.specs.Str.{str_to_ascii_lowercase}
-use Rattle.gixobj_actors.specs.ActorWriting.{IsIllegal, IsLegal}
+use Rattle.gixobj_actors.specs.ActorWriting.{IsLegal}
 use Rattle.gixobj_ids.specs.Hash.{IsHexOfAnId}
 use Rattle.gixobj_fields.specs.FieldWriting.{RefusesValue, header_text}
 use Rattle.gixobj_fields.specs.HeaderText.{field_text}
@@ -10,6 +10,7 @@ use Rattle.gixobj_fields.specs.Writing.{Refused, illegal_actor}
 use Rattle.gixobj_commits.specs.Commit.{CommitLines, encoding_text, parent_text}
 use Rattle.gixobj_commits.specs.CommitViews.{owned_lines}
 use Rattle.gixobj_commits.specs.declared.commit.Commit.{Commit}
+use Rattle.gixobj_texts.specs.Bytes.{newline, space}
 
 -- a commit with its hex in lower case
 abbrev pub in_lower_case : CommitLines → CommitLines
@@ -29,11 +30,11 @@ ids_text commit = field_text (codes "tree") commit.tree ++ flat_map parent_text 
 
 -- what is written before the author's bytes
 abbrev pub before_author : CommitLines → List ℕ
-before_author commit = ids_text commit ++ codes "author" ++ 32 ∷ []
+before_author commit = ids_text commit ++ codes "author" ++ space ∷ []
 
 -- what is written before the committer's bytes
 abbrev pub before_committer : CommitLines → List ℕ
-before_committer commit = ids_text commit ++ field_text (codes "author") commit.author ++ codes "committer" ++ 32 ∷ []
+before_committer commit = ids_text commit ++ field_text (codes "author") commit.author ++ codes "committer" ++ space ∷ []
 
 -- what is written before the line of the encoding
 abbrev pub before_encoding : CommitLines → List ℕ
@@ -41,7 +42,7 @@ before_encoding commit = ids_text commit ++ field_text (codes "author") commit.a
 
 -- a commit as it is written
 abbrev pub commit_text : CommitLines → List ℕ
-commit_text commit = before_encoding commit ++ encoding_text commit.encoding ++ flat_map header_text commit.extra_headers ++ 10 ∷ commit.message
+commit_text commit = before_encoding commit ++ encoding_text commit.encoding ++ flat_map header_text commit.extra_headers ++ newline ∷ commit.message
 
 -- an encoding is refused that is empty or has a newline
 abbrev pub RefusesEncoding : Option (List ℕ) → Refused → Type 0
@@ -59,8 +60,8 @@ RefusesLines commit value parts = RefusesEncoding commit.encoding value × (part
 -- an owned commit is refused for its author, or else its committer, or else its encoding
 abbrev pub RefusesOwned : Commit → Refused → List ℕ → Type 0
 RefusesOwned commit value parts =
-    (IsIllegal commit.author × (value ≡ illegal_actor) × (parts ≡ before_author (owned_lines commit)))
-    ⊎ ((IsLegal commit.author × IsIllegal commit.committer × (value ≡ illegal_actor) × (parts ≡ before_committer (owned_lines commit)))
+    (¬ (IsLegal commit.author) × (value ≡ illegal_actor) × (parts ≡ before_author (owned_lines commit)))
+    ⊎ ((IsLegal commit.author × ¬ (IsLegal commit.committer) × (value ≡ illegal_actor) × (parts ≡ before_committer (owned_lines commit)))
     ⊎ (IsLegal commit.author × IsLegal commit.committer × RefusesLines (owned_lines commit) value parts))
 
 -- the hex fields of a commit are ids

@@ -2,7 +2,7 @@
 use Rattle.std.specs.Prelude.{◌≡◌, ◌⊎◌, ℕ, List, [], Some, map, ⊤}
 use Rattle.std.specs.Str.{str_to_ascii_lowercase}
 use Rattle.gixobj_actors.specs.Actor.{IsActor, IsTimeOrDefault, actor_text}
-use Rattle.gixobj_actors.specs.ActorWriting.{IsIllegalActor}
+use Rattle.gixobj_actors.specs.ActorWriting.{IsLegalActor}
 use Rattle.gixobj_actors.specs.Date.{time_text}
 use Rattle.gixobj_actors.specs.declared.date.Time.{Time}
 use Rattle.gixobj_fields.specs.declared.encode.Error.TheVariants as encode
@@ -47,7 +47,7 @@ HasEmptyEncoding commit = commit.encoding ≡ Some []
 
 -- the line is an actor that no owned form writes
 abbrev pub IsUnwritable : List ℕ → Type 0
-IsUnwritable line = (name email time : List ℕ) × IsActor line name email time × IsIllegalActor name email
+IsUnwritable line = (name email time : List ℕ) × IsActor line name email time × ¬ (IsLegalActor name email)
 
 -- why the owned form is not written back: there is no commit, an actor can't be written, an encoding is empty, or memory was wanting
 abbrev pub RefusesOwnBack : Kind → List ℕ → WriteBackError → Type 0

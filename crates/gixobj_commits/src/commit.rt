@@ -9,6 +9,7 @@ ghost use Rattle.gixobj_extra_headers.specs.ParentsLeft.{parents_left};
 ghost use Rattle.gixobj_commits.specs.CommitOwned.{IsOwnedForm, IsTimeOfLine, IsTrimmedActor, RefusesOwning};
 ghost use Rattle.gixobj_commits.specs.CommitViews.{commit_lines};
 ghost use Rattle.gixobj_commits.specs.CommitWriting.{HasIds};
+ghost use Rattle.gixobj_extra_headers.specs.ExtraHeaders.{hash_kind_of, iterator_of};
 ghost use Rattle.gixobj_extra_headers.specs.HeadersLeft.{headers_left, owned_headers_left};
 ghost use Rattle.gixobj_ids.specs.Hash.Hex.{IsHexOf, spelled_id};
 
@@ -90,8 +91,8 @@ impl<'a> CommitRef<'a> {
     /// The headers behind the author, the committer and the encoding. It takes no memory.
     pub fn extra_headers(&self) -> ExtraHeaders<BorrowedHeaders<'_, 'a>>
         requires { IsHexOfAnId (commit_lines self.now).tree }
-        ensures headers { headers_left result.inner ≡ (commit_lines self.now).extra_headers }
-        ensures hash_kind { IsHexOf result.hash_kind (commit_lines self.now).tree }
+        ensures headers { headers_left (iterator_of result) ≡ (commit_lines self.now).extra_headers }
+        ensures hash_kind { IsHexOf (hash_kind_of result) (commit_lines self.now).tree }
     {
         let hash_kind = self.tree().kind();
         ExtraHeaders::new(BorrowedHeaders::new(&self.extra_headers), hash_kind)
@@ -164,8 +165,8 @@ impl CommitRef<'_> {
 impl Commit {
     /// The headers behind the author, the committer and the encoding. It takes no memory.
     pub fn extra_headers(&self) -> ExtraHeaders<OwnedHeaders<'_>>
-        ensures headers { owned_headers_left result.inner ≡ map owned_header_of self.now.extra_headers.items }
-        ensures hash_kind { result.hash_kind ≡ id_kind self.now.tree }
+        ensures headers { owned_headers_left (iterator_of result) ≡ map owned_header_of self.now.extra_headers.items }
+        ensures hash_kind { hash_kind_of result ≡ id_kind self.now.tree }
     {
         ExtraHeaders::new(OwnedHeaders::new(&self.extra_headers), self.tree.kind())
     }

@@ -6,6 +6,8 @@ use Rattle.std.specs.Str.{bytes_eq}
 use Rattle.bstr.specs.BStr.{bstr_bytes}
 use Rattle.bstr.specs.declared.bstr.BStr.{BStr}
 use Rattle.gixobj_fields.specs.HeaderText.{Header}
+use Rattle.gixobj_extra_headers.specs.declared.extra_headers.ExtraHeaders.{ExtraHeaders}
+use Rattle.gixobj_extra_headers.specs.declared.extra_headers.FindAll.{FindAll}
 use Rattle.gixobj_ids.specs.declared.hash.kind.Kind.{Kind}
 use Rattle.gixobj_ids.specs.declared.hash.kind.Kind.TheVariants as hash
 
@@ -13,6 +15,22 @@ use Rattle.gixobj_ids.specs.declared.hash.kind.Kind.TheVariants as hash
 abbrev pub signature_field : Kind → List ℕ
 signature_field hash.Sha1 = codes "gpgsig"
 signature_field hash.Sha256 = codes "gpgsig-sha256"
+
+-- the iterator that gives the headers
+abbrev pub iterator_of : {I : Type 0} → ExtraHeaders I → I
+iterator_of headers = headers.inner
+
+-- the kind of the commit's ids
+abbrev pub hash_kind_of : {I : Type 0} → ExtraHeaders I → Kind
+hash_kind_of headers = headers.hash_kind
+
+-- the iterator that gives the headers among which all of a name are searched
+abbrev pub searched : {I : Type 0} → FindAll I → I
+searched values = values.inner
+
+-- the name that is searched
+abbrev pub sought : {I : Type 0} → FindAll I → List ℕ
+sought values = values.name.now
 
 -- a header that an iterator gave: a name and a value
 abbrev pub pair_of : BStr × BStr → Header

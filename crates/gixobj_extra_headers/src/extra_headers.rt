@@ -3,7 +3,7 @@ ghost use Rattle.std.specs.Prelude.{◌≡◌, ◌↔◌, ◌<◌, ◌^◌, IsTr
 ghost use Rattle.bstr.specs.BStr.{bstr_bytes};
 ghost use Rattle.std.specs.Iterator.{IsFinite, MakesProgress, size};
 ghost use Rattle.gixobj_fields.specs.HeaderReading.{header_of, owned_header_of};
-ghost use Rattle.gixobj_extra_headers.specs.ExtraHeaders.{FindsPlace, FindsValue, GivesValue, signature_field};
+ghost use Rattle.gixobj_extra_headers.specs.ExtraHeaders.{FindsPlace, FindsValue, GivesValue, hash_kind_of, iterator_of, searched, signature_field, sought};
 ghost use Rattle.gixobj_extra_headers.specs.HeadersLeft.{headers_left, owned_headers_left};
 
 use bstr::{BStr, BString};
@@ -38,8 +38,8 @@ pub struct ExtraHeaders<I> {
 impl<'a, I: Iterator<Item = (BStr<'a>, BStr<'a>)> + Drop> ExtraHeaders<I> {
     /// The headers, a name and a value each, of a commit with ids of this kind. It takes no memory.
     pub fn new(iter: I, hash_kind: Kind) -> ExtraHeaders<I>
-        ensures headers { result.inner ≡ iter }
-        ensures hash_kind { result.hash_kind ≡ hash_kind }
+        ensures headers { iterator_of result ≡ iter }
+        ensures hash_kind { hash_kind_of result ≡ hash_kind }
     {
         ExtraHeaders {
             inner: iter,
@@ -52,9 +52,9 @@ impl<'a, I: Iterator<Item = (BStr<'a>, BStr<'a>)> + Drop> ExtraHeaders<I> {
 impl<'a, I: Iterator<Item = (BStr<'a>, BStr<'a>)> + Drop> ExtraHeaders<I> {
     /// The value of the first header of this name, or none. It takes no memory.
     pub fn find(self, name: &str) -> Option<BStr<'a>>
-        requires can { I.can_next self.inner }
-        requires ends { IsFinite (I.remaining self.inner) }
-        ensures { FindsValue I.next_gives name.now self.inner result }
+        requires can { I.can_next (iterator_of self) }
+        requires ends { IsFinite (I.remaining (iterator_of self)) }
+        ensures { FindsValue I.next_gives name.now (iterator_of self) result }
     {
         let mut headers = self.inner;
         next_value(&mut headers, name)
@@ -63,10 +63,10 @@ impl<'a, I: Iterator<Item = (BStr<'a>, BStr<'a>)> + Drop> ExtraHeaders<I> {
     /// The place of the first header of this name, counted from 0, or none. It takes no memory.
     #[tactic(auto, using(crate::proofs::HeaderSearches::none_before, crate::proofs::HeaderSearches::one_more))]
     pub fn find_pos(self, name: &str) -> Option<usize>
-        requires can { I.can_next self.inner }
-        requires ends { IsFinite (I.remaining self.inner) }
-        requires fits { size (I.remaining self.inner) < 2 ^ 64 }
-        ensures { FindsPlace I.next_gives name.now self.inner result }
+        requires can { I.can_next (iterator_of self) }
+        requires ends { IsFinite (I.remaining (iterator_of self)) }
+        requires fits { size (I.remaining (iterator_of self)) < 2 ^ 64 }
+        ensures { FindsPlace I.next_gives name.now (iterator_of self) result }
     {
         let mut place = 0;
         for (key, _) in self.inner {
@@ -80,8 +80,8 @@ impl<'a, I: Iterator<Item = (BStr<'a>, BStr<'a>)> + Drop> ExtraHeaders<I> {
 
     /// The values of all headers of this name, in order. It takes no memory.
     pub fn find_all(self, name: &'a str) -> FindAll<'a, I>
-        ensures headers { result.inner ≡ self.inner }
-        ensures name { result.name.now ≡ name.now }
+        ensures headers { searched result ≡ iterator_of self }
+        ensures name { sought result ≡ name.now }
     {
         FindAll {
             inner: self.inner,
@@ -92,9 +92,9 @@ impl<'a, I: Iterator<Item = (BStr<'a>, BStr<'a>)> + Drop> ExtraHeaders<I> {
     /// The signature of the commit: the value of the first header that is named as
     /// [`signature_field_name`] says for the kind of its ids, or none. It takes no memory.
     pub fn pgp_signature(self) -> Option<BStr<'a>>
-        requires can { I.can_next self.inner }
-        requires ends { IsFinite (I.remaining self.inner) }
-        ensures { FindsValue I.next_gives (signature_field self.hash_kind) self.inner result }
+        requires can { I.can_next (iterator_of self) }
+        requires ends { IsFinite (I.remaining (iterator_of self)) }
+        ensures { FindsValue I.next_gives (signature_field (hash_kind_of self)) (iterator_of self) result }
     {
         let name = signature_field_name(self.hash_kind);
         self.find(name)
@@ -111,15 +111,15 @@ pub struct FindAll<'a, I> {
 impl<'a, I: Iterator<Item = (BStr<'a>, BStr<'a>)> + Drop> Iterator for FindAll<'a, I> {
     ghost use Rattle.std.specs.Prelude.{◌≡◌};
     ghost use Rattle.std.specs.Iterator.{IsFinite};
-    ghost use Rattle.gixobj_extra_headers.specs.ExtraHeaders.{GivesValue};
+    ghost use Rattle.gixobj_extra_headers.specs.ExtraHeaders.{GivesValue, searched, sought};
 
     type Item = BStr<'a>;
 
-    ghost can_next = { λ s. I.can_next s.inner × IsFinite (I.remaining s.inner) };
+    ghost can_next = { λ s. I.can_next (searched s) × IsFinite (I.remaining (searched s)) };
 
-    ghost next_gives = { λ s result t. (t.name ≡ s.name) × GivesValue I.next_gives s.name.now s.inner result t.inner };
+    ghost next_gives = { λ s result t. (sought t ≡ sought s) × GivesValue I.next_gives (sought s) (searched s) result (searched t) };
 
-    ghost remaining = { λ s. I.remaining s.inner };
+    ghost remaining = { λ s. I.remaining (searched s) };
 
     fn next(&mut self) -> Option<BStr<'a>> {
         next_value(&mut self.inner, self.name)

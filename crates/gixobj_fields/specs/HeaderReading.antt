@@ -12,6 +12,7 @@ use Rattle.gixobj_fields.specs.HeaderText.{BeginsSeveralLines, EndsHeader, HasNo
 use Rattle.gixobj_texts.specs.Parse.{IsFree}
 use Rattle.gixobj_ids.specs.declared.decode.Error.{Error}
 use Rattle.gixobj_ids.specs.declared.decode.Error.TheVariants.{Malformed, OutOfMemory}
+use Rattle.gixobj_texts.specs.Bytes.{newline}
 
 -- a header as it was read
 abbrev pub header_of : BStr × CowSlice ℕ Global → Header
@@ -29,7 +30,7 @@ RefusesHeaderField input OutOfMemory = BeginsSeveralLines input
 -- these lines follow, and then the rest
 pub record HasLines (input : List ℕ) (more : List (List ℕ)) (rest : List ℕ) : Type 0 where
   pub joined : input ≡ flat_map following_text more ++ rest
-  pub each_one_line : All (λ line. IsFree 10 line) more
+  pub each_one_line : All (λ line. IsFree newline line) more
   pub ends : EndsHeader rest
 
 -- a line that begins with a space does not end

@@ -2,23 +2,24 @@
 use Rattle.std.specs.Prelude.{◌≡◌, ◌≢◌, ℕ, List, [], ◌∷◌, ◌++◌, All, ⊤}
 use Rattle.std.specs.List.{flat_map}
 use Rattle.gixobj_texts.specs.Parse.{IsFree}
+use Rattle.gixobj_texts.specs.Bytes.{newline, space}
 
 -- a line: its bytes and a newline
 abbrev pub line_text : List ℕ → List ℕ
-line_text line = line ++ 10 ∷ []
+line_text line = line ++ newline ∷ []
 
 -- a line that goes on with the header of the line before it: a space stands first
 abbrev pub following_text : List ℕ → List ℕ
-following_text line = 32 ∷ line_text line
+following_text line = space ∷ line_text line
 
 -- a field of one line: its name, a space, its value, a newline
 abbrev pub field_text : List ℕ → List ℕ → List ℕ
-field_text name value = name ++ 32 ∷ line_text value
+field_text name value = name ++ space ∷ line_text value
 
 -- the input begins with the field of this name and this value, and goes on with the rest
 pub record HasField (name input value rest : List ℕ) : Type 0 where
   pub joined : input ≡ field_text name value ++ rest
-  pub one_line : IsFree 10 value
+  pub one_line : IsFree newline value
 
 -- the input begins with no field of this name
 abbrev pub HasNoField : List ℕ → List ℕ → Type 0
@@ -32,8 +33,8 @@ pub record Header : Type 0 where
 -- a name of a header: not empty, without space and newline
 pub record IsHeaderName (name : List ℕ) : Type 0 where
   pub not_empty : name ≢ []
-  pub no_space : IsFree 32 name
-  pub no_newline : IsFree 10 name
+  pub no_space : IsFree space name
+  pub no_newline : IsFree newline name
 
 -- the value of these lines: the one line, or all of them with their newlines
 abbrev pub value_of_lines : List ℕ → List (List ℕ) → List ℕ
@@ -44,16 +45,16 @@ value_of_lines first (second ∷ more) = flat_map line_text (first ∷ second �
 pub record IsHeaderText (text : List ℕ) (header : Header) : Type 0 where
   pub first : List ℕ
   pub more : List (List ℕ)
-  pub joined : text ≡ header.name ++ 32 ∷ line_text first ++ flat_map following_text more
+  pub joined : text ≡ header.name ++ space ∷ line_text first ++ flat_map following_text more
   pub named : IsHeaderName header.name
-  pub one_line : IsFree 10 first
-  pub each_one_line : All (λ line. IsFree 10 line) more
+  pub one_line : IsFree newline first
+  pub each_one_line : All (λ line. IsFree newline line) more
   pub value : header.value ≡ value_of_lines first more
 
 -- no line goes on here with the header before it
 abbrev pub EndsHeader : List ℕ → Type 0
 EndsHeader [] = ⊤
-EndsHeader (byte ∷ rest) = byte ≢ 32
+EndsHeader (byte ∷ rest) = byte ≢ space
 
 -- the input begins with this header, and goes on with the rest
 pub record HasHeader (input : List ℕ) (header : Header) (rest : List ℕ) : Type 0 where
@@ -71,6 +72,6 @@ pub record BeginsSeveralLines (input : List ℕ) : Type 0 where
   pub name : List ℕ
   pub first : List ℕ
   pub rest : List ℕ
-  pub joined : input ≡ field_text name first ++ 32 ∷ rest
+  pub joined : input ≡ field_text name first ++ space ∷ rest
   pub named : IsHeaderName name
-  pub one_line : IsFree 10 first
+  pub one_line : IsFree newline first

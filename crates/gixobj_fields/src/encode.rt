@@ -7,6 +7,7 @@ ghost use Rattle.gixobj_fields.specs.FieldWriting.{IsLastLine, RefusesField, fol
 ghost use Rattle.gixobj_fields.specs.HeaderText.{field_text};
 ghost use Rattle.gixobj_fields.specs.Streams.{Puts, PutsFront};
 ghost use Rattle.gixobj_fields.specs.Writing.{RefusesNothing, SaysWhy};
+ghost use Rattle.gixobj_texts.specs.Bytes.{newline, space};
 
 use crate::streams::{Sink, put_parts};
 use bstr::BString;
@@ -161,8 +162,8 @@ pub fn header_field<S: Sink>(
 /// A newline is put at the end where the value has none there. The error is the sink's. It takes no
 /// memory.
 pub fn header_field_multi_line<S: Sink>(name: &[u8], value: &[u8], sink: &mut S) -> io::Result<()>
-    ensures written { OnOk result (Puts (S.view sink.old) (S.view sink.new) (name.now ++ 32 ∷ folded value.now)) }
-    ensures err { OnErr result (PutsFront (S.view sink.old) (S.view sink.new) (name.now ++ 32 ∷ folded value.now)) }
+    ensures written { OnOk result (Puts (S.view sink.old) (S.view sink.new) (name.now ++ space ∷ folded value.now)) }
+    ensures err { OnErr result (PutsFront (S.view sink.old) (S.view sink.new) (name.now ++ space ∷ folded value.now)) }
     ensures same_loan { S.loan sink.new ≡ S.loan sink.old }
 {
     put_parts(&[name, b" "], sink)?;
@@ -185,8 +186,8 @@ fn put_folded<S: Sink>(value: &[u8], sink: &mut S) -> io::Result<()>
 
 /// Puts a line, and the space before the next.
 fn put_line<S: Sink>(line: &[u8], sink: &mut S) -> io::Result<()>
-    ensures written { OnOk result (Puts (S.view sink.old) (S.view sink.new) (line.now ++ 10 ∷ 32 ∷ [])) }
-    ensures err { OnErr result (PutsFront (S.view sink.old) (S.view sink.new) (line.now ++ 10 ∷ 32 ∷ [])) }
+    ensures written { OnOk result (Puts (S.view sink.old) (S.view sink.new) (line.now ++ newline ∷ space ∷ [])) }
+    ensures err { OnErr result (PutsFront (S.view sink.old) (S.view sink.new) (line.now ++ newline ∷ space ∷ [])) }
     ensures same_loan { S.loan sink.new ≡ S.loan sink.old }
 {
     put_parts(&[line, b"\n "], sink)
@@ -215,7 +216,7 @@ fn missing_newline(line: &[u8]) -> &[u8]
 /// The first line and what follows it, or none where no byte follows the first newline.
 #[tactic(auto, using(crate::proofs::FieldWrites::folded_cut, crate::proofs::FieldWrites::cut_shorter, crate::proofs::FieldWrites::last_line))]
 fn first_line(value: &[u8]) -> Option<(&[u8], &[u8])>
-    ensures { MatchOption result (IsLastLine value.now) (λ it. (folded value.now ≡ it.0.now ++ 10 ∷ 32 ∷ folded it.1.now) × (length it.1.now < length value.now)) }
+    ensures { MatchOption result (IsLastLine value.now) (λ it. (folded value.now ≡ it.0.now ++ newline ∷ space ∷ folded it.1.now) × (length it.1.now < length value.now)) }
 {
     let (line, after) = split_at_byte(value, b'\n')?;
     if after.is_empty() {
@@ -247,7 +248,7 @@ pub fn size_with_id(size: u64, name: &[u8], id: &ObjectId) -> Option<u64>
 /// The size in bytes with that of what [`header_field_multi_line`] puts, or none past 64 bits. It takes
 /// no memory.
 pub fn size_with_multi_line(size: u64, name: &[u8], value: &[u8]) -> Option<u64>
-    ensures { SomeIff result (size + length (name.now ++ 32 ∷ folded value.now) < 2 ^ 64) (size + length (name.now ++ 32 ∷ folded value.now)) }
+    ensures { SomeIff result (size + length (name.now ++ space ∷ folded value.now) < 2 ^ 64) (size + length (name.now ++ space ∷ folded value.now)) }
 {
     let with_name = size.checked_add(name.len() as u64)?.checked_add(1)?;
     size_with_folded(with_name, value)

@@ -4,6 +4,7 @@ ghost use Rattle.gixobj_fields.specs.HeaderReading.{HasNoLines, IsUnfolded, Refu
 ghost use Rattle.gixobj_fields.specs.HeaderText.{EndsHeader, HasField, HasHeader, HasNoField, IsHeaderName};
 ghost use Rattle.gixobj_texts.specs.Parse.{IsFree};
 ghost use Rattle.gixobj_ids.specs.declared.decode.Error.TheVariants.{Malformed};
+ghost use Rattle.gixobj_texts.specs.Bytes.{newline, space};
 
 use bstr::BStr;
 use gixobj_ids::decode::Error;
@@ -29,8 +30,8 @@ pub fn header_field<'a>(input: &'a [u8], name: &[u8]) -> Option<(&'a [u8], &'a [
 
 /// What stands after the name and a space at the front of the input.
 pub fn after_name<'a>(input: &'a [u8], name: &[u8]) -> Option<&'a [u8]>
-    ensures found { IfSome result (λ rest. input.now ≡ name.now ++ 32 ∷ rest.now) }
-    ensures none { IfNone result ((rest : List ℕ) → input.now ≢ name.now ++ 32 ∷ rest) }
+    ensures found { IfSome result (λ rest. input.now ≡ name.now ++ space ∷ rest.now) }
+    ensures none { IfNone result ((rest : List ℕ) → input.now ≢ name.now ++ space ∷ rest) }
 {
     let Some(behind) = after_front(input, name) else {
         return None;
@@ -102,7 +103,7 @@ fn after_front<'a>(input: &'a [u8], front: &[u8]) -> Option<&'a [u8]>
 
 /// What stands after one space at the front.
 fn after_space(input: &[u8]) -> Option<&[u8]>
-    ensures { MatchOption result (EndsHeader input.now) (λ rest. input.now ≡ 32 ∷ rest.now) }
+    ensures { MatchOption result (EndsHeader input.now) (λ rest. input.now ≡ space ∷ rest.now) }
 {
     match input {
         [b' ', rest @ ..] => Some(rest),
@@ -112,7 +113,7 @@ fn after_space(input: &[u8]) -> Option<&[u8]>
 
 /// Whether a text without space can be the name of a header.
 fn is_header_name(name: &[u8]) -> bool
-    ensures { MatchBool result ((name.now ≢ []) × IsFree 10 name.now) (¬ IsHeaderName name.now) }
+    ensures { MatchBool result ((name.now ≢ []) × IsFree newline name.now) (¬ IsHeaderName name.now) }
 {
     !name.is_empty() && !has_byte(name, b'\n')
 }

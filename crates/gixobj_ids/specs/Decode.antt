@@ -11,6 +11,7 @@ use Rattle.gixobj_ids.specs.declared.kind.Error.TheVariants as word
 use Rattle.gixobj_ids.specs.declared.kind.Kind.{Kind}
 use Rattle.gixobj_ids.specs.Kind.{IsNoKindWord, kind_word}
 use Rattle.gixobj_texts.specs.Parse.{IsFree, SplitsAt}
+use Rattle.gixobj_texts.specs.Bytes.{space}
 
 -- what a size text has after its sign, or all of it where it has none
 abbrev pub size_digits : List ℕ → List ℕ
@@ -43,7 +44,7 @@ RefusesSize text _ = ⊥
 -- the text is a loose header: a kind's word, a space, a size text, a zero byte
 pub record IsLooseHeader (text : List ℕ) (kind : Kind) (size : ℕ) : Type 0 where
   pub size_text : List ℕ
-  pub joined : text ≡ kind_word kind ++ 32 ∷ size_text ++ 0 ∷ []
+  pub joined : text ≡ kind_word kind ++ space ∷ size_text ++ 0 ∷ []
   pub reads : IsSizeText size_text size
 
 -- the input begins with a loose header, which takes this many bytes
@@ -52,21 +53,21 @@ HasLooseHeader input kind size used = (used ≤ length input) × IsLooseHeader (
 
 -- what stands before the first space names no kind
 abbrev pub HasUnknownKind : List ℕ → List ℕ → Type 0
-HasUnknownKind input word = (rest : List ℕ) × SplitsAt 32 input word rest × IsNoKindWord word
+HasUnknownKind input word = (rest : List ℕ) × SplitsAt space input word rest × IsNoKindWord word
 
 -- after a kind's word and a space comes no zero byte
 abbrev pub LacksZero : List ℕ → Type 0
-LacksZero input = (kind : Kind) × (rest : List ℕ) × (input ≡ kind_word kind ++ 32 ∷ rest) × IsFree 0 rest
+LacksZero input = (kind : Kind) × (rest : List ℕ) × (input ≡ kind_word kind ++ space ∷ rest) × IsFree 0 rest
 
 -- after a kind's word and a space this text stands before the first zero byte, and it has this fault
 abbrev pub HasFaultySize : List ℕ → List ℕ → ParseIntegerErrorKind → Type 0
 HasFaultySize input text fault =
-    (kind : Kind) × (after rest : List ℕ) × (input ≡ kind_word kind ++ 32 ∷ after) × SplitsAt 0 after text rest × HasSizeFault text fault
+    (kind : Kind) × (after rest : List ℕ) × (input ≡ kind_word kind ++ space ∷ after) × SplitsAt 0 after text rest × HasSizeFault text fault
 
 -- why an input begins with no loose header: the first of no space, an unknown kind, no zero byte, a faulty size.
 -- What a refusal hands back is a copy, so those two may find no memory
 abbrev pub RefusesHeader : List ℕ → LooseHeaderDecodeError → Type 0
-RefusesHeader input (InvalidHeader message) = IsFree 32 input ⊎ LacksZero input
+RefusesHeader input (InvalidHeader message) = IsFree space input ⊎ LacksZero input
 RefusesHeader input (ObjectHeader (word.InvalidObjectKind copy)) = HasUnknownKind input (bstring_bytes copy)
 RefusesHeader input (ObjectHeader word.OutOfMemory) = ⊥
 RefusesHeader input (ParseIntegerError fault message copy) = HasFaultySize input (bstring_bytes copy) fault

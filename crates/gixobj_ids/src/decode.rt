@@ -30,6 +30,14 @@ impl From<AllocError> for Error {
     }
 }
 
+impl From<crate::OutOfMemory> for Error {
+    ghost from_gives = { λ _ error. error ≡ OutOfMemory };
+
+    fn from(_: crate::OutOfMemory) -> Error {
+        Error::OutOfMemory
+    }
+}
+
 impl<T: Drop> From<AllocFailed<T>> for Error {
     ghost from_gives = { λ _ error. error ≡ OutOfMemory };
 

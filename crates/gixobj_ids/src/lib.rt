@@ -11,8 +11,10 @@ pub mod hash;
 mod header;
 pub mod kind;
 pub mod laws;
+pub mod memory;
 pub mod parse;
 
 pub use digest::compute_hash;
 pub use header::Header;
 pub use kind::Kind;
+pub use memory::OutOfMemory;

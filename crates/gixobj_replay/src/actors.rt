@@ -23,7 +23,8 @@ fn columns(alloc: Global, actor: SignatureRef<'_>, rest: &[u8]) -> Result<Vec<u8
     let trimmed = borrowed_text(alloc, actor.trim())?;
     let size = size_text(alloc, actor.size())?;
     let written = borrowed_written(alloc, actor)?;
-    let owned = owned_columns(alloc, &actor.to_owned(alloc)?)?;
+    let owned = actor.to_owned(alloc).map_err(|_| AllocError)?;
+    let owned = owned_columns(alloc, &owned)?;
     let answer = format!(in alloc;
         "ok {read} rest {rest}\ttrim {trimmed}\tsize {size}\twritten {written}\t{owned}"
     )?;

@@ -14,6 +14,7 @@ use Rattle.gixobj_tokens.specs.declared.ref_iter.State.{State}
 use Rattle.gixobj_tokens.specs.declared.ref_iter.State.TheVariants as state
 use Rattle.gixobj_tokens.specs.declared.ref_iter.Token.{Token}
 use Rattle.gixobj_tokens.specs.declared.ref_iter.Token.TheVariants as token
+use Rattle.gixobj_texts.specs.Bytes.{newline}
 
 -- a token, wherever it lies
 pub data TokenView : Type 0 where
@@ -53,9 +54,9 @@ IsTokenText kind (tree_token id) text = IsIdText (codes "tree") kind text id
 IsTokenText kind (parent_token id) text = IsIdText (codes "parent") kind text id
 IsTokenText kind (author_token name email time) text = IsActorText (codes "author") text name email time
 IsTokenText kind (committer_token name email time) text = IsActorText (codes "committer") text name email time
-IsTokenText kind (encoding_token encoding) text = (text ≡ field_text (codes "encoding") encoding) × IsFree 10 encoding
+IsTokenText kind (encoding_token encoding) text = (text ≡ field_text (codes "encoding") encoding) × IsFree newline encoding
 IsTokenText kind (header_token header) text = IsHeaderText text header
-IsTokenText kind (message_token message) text = text ≡ 10 ∷ message
+IsTokenText kind (message_token message) text = text ≡ newline ∷ message
 
 -- where the reader stands behind the token, or none where no such token comes here
 abbrev pub state_behind : State → TokenView → Option State

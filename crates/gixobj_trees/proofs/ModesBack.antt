@@ -49,7 +49,7 @@ and_false false = refl
 -- digits that do not spell a tree's mode with a first 0 read as their number
 plain_mode : (digits : List ℕ) (n : ℕ) → digits_value 8 digits ≡ n → n < 65536 → ((n == tree_type) && (slice_index digits 0 == 48)) ≡ false → n ≡ mode_of_digits digits
 plain_mode digits n value small other =
-    let number : digits_value 8 digits % 65536 ≡ n = omega (arith, value) in
+    let number : digits_value 8 digits % 2 ^ 16 ≡ n = omega (arith, value) in
     rw (number, other) refl
 
 all_octal_last : (n : ℕ) → AllDigits 8 (last_digits n)
@@ -78,7 +78,7 @@ old_tree_back : ReadsAsMode (codes "0" ++ last_digits old_tree_type) old_tree_ty
 old_tree_back = record { octal = (lit< tt, all_octal_last old_tree_type); short = lit≤ tt; value = refl }
 
 by_cases : (n : ℕ) (zero four one : Bool) → (n == 0) ≡ zero → (n / 4096 % 8 == 4) ≡ four → (n / 32768 % 8 == 1) ≡ one → n < 65536 → ((old_tree_type < n) × (n < old_tree_type + 4096) → ⊥)
-    → ReadsAsMode (if zero then codes "0" else if four then (if one then codes "0" ++ last_digits n else last_digits n) else octal_digits n) n
+    → ReadsAsMode (if zero then codes "0" else if four && one then codes "0" ++ last_digits n else if four then last_digits n else octal_digits n) n
 by_cases n true four one is_zero is_four is_one small kept =
     let same : 0 ≡ n = grind (arith, nat_tests, is_zero) in
     let P : ℕ → Type 0 = λ it. ReadsAsMode (codes "0") it in subst P same zero_back

@@ -10,6 +10,7 @@ use Rattle.std.specs.declared.cmp.Ordering.TheVariants.{Less}
 use Rattle.gixobj_trees.specs.Mode.{is_tree_mode}
 use Rattle.gixobj_texts.specs.Parse.{IsFree}
 use Rattle.gixobj_ids.specs.declared.hash.object_id.ObjectId.{ObjectId}
+use Rattle.gixobj_texts.specs.Bytes.{slash}
 
 -- an entry as contracts see it
 pub record EntryView : Type 0 where
@@ -19,7 +20,7 @@ pub record EntryView : Type 0 where
 
 -- the key of a name: with a slash after a tree's
 abbrev pub key_of : List ℕ → Bool → List ℕ
-key_of name is_tree = if is_tree then name ++ (47 ∷ []) else name
+key_of name is_tree = if is_tree then name ++ (slash ∷ []) else name
 
 abbrev pub entry_key : EntryView → List ℕ
 entry_key e = key_of e.name (is_tree_mode e.mode)
@@ -41,7 +42,7 @@ ComesBefore x y = slice_cmp nat_cmp (entry_key x) (entry_key y) ≡ Less
 -- a name that an entry of a well-formed tree may have
 pub record IsEntryName (name : List ℕ) : Type 0 where
   pub filled : name ≢ []
-  pub one_name : IsFree 47 name
+  pub one_name : IsFree slash name
 
 -- R holds of each element and each later one
 abbrev pub EachLater : {X : Type 0} → (X → X → Type 0) → List X → Type 0

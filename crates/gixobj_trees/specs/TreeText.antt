@@ -6,10 +6,11 @@ use Rattle.gixobj_ids.specs.Hash.{id_bytes}
 use Rattle.gixobj_trees.specs.Mode.{mode_text}
 use Rattle.gixobj_texts.specs.Parse.{IsFree}
 use Rattle.gixobj_fields.specs.Writing.{Refused, name_with_zero_byte}
+use Rattle.gixobj_texts.specs.Bytes.{space}
 
 -- the mode and a space
 abbrev pub before_name : EntryView → List ℕ
-before_name e = mode_text e.mode ++ 32 ∷ []
+before_name e = mode_text e.mode ++ space ∷ []
 
 -- an entry: mode, space, name, zero byte, id
 abbrev pub entry_text : EntryView → List ℕ

@@ -3,8 +3,8 @@ ghost use Rattle.std.specs.Prelude.{◌≡◌, IfOk};
 
 use gixobj_fields::streams::Sink;
 use gixobj_fields::{WriteTo, encode};
-use gixobj_ids::Kind;
-use std::alloc::{AllocError, Global};
+use gixobj_ids::{Kind, OutOfMemory};
+use std::alloc::Global;
 
 /// The content of a file, borrowed.
 #[derive(Clone, Copy, Debug, PartialEq, Eq, PartialOrd, Ord, Hash)]
@@ -21,8 +21,8 @@ impl<'a> BlobRef<'a> {
         BlobRef { bytes }
     }
 
-    /// A copy that owns its bytes. The error is want of memory.
-    pub fn into_owned(self, alloc: Global) -> Result<Blob, AllocError>
+    /// A copy that owns its bytes.
+    pub fn into_owned(self, alloc: Global) -> Result<Blob, OutOfMemory>
         ensures { IfOk result (λ blob. blob.bytes.items ≡ self.entry.bytes.now) }
     {
         Ok(Blob {

@@ -24,6 +24,7 @@ use gixobj_base::hash::{self, ObjectId};
 use gixobj_base::parse::has_byte;
 use gixobj_base::tree::{Entry, EntryKind};
 use std::alloc::AllocError;
+use std::fmt::Display;
 use std::marker::Model;
 
 /// The refusal of an edit. The editor is as it was.
@@ -60,11 +61,14 @@ pub struct Written {
 }
 
 /// Why a write stopped. The editor is as it was.
-#[derive(Debug, Drop)]
+#[derive(Debug, Drop, thiserror::Error)]
+#[error_bound(E: Display)]
 pub enum WriteError<E> {
     /// A tree was refused.
+    #[error("a tree was refused: {0}")]
     Out(E),
     /// There was no memory.
+    #[error("out of memory")]
     OutOfMemory,
 }
 

@@ -6,6 +6,7 @@ ghost use Rattle.gixobj_commits.specs.Commit.{IsCommitText};
 ghost use Rattle.gixobj_commits.specs.CommitReading.{HasActor, HasEncoding, HasHeaders, HasId, HasNoActor, HasNoEncoding, HasNoHeaders, HasNoId, HasNoParents, HasParents, RefusesCommit, RefusesUnless};
 ghost use Rattle.gixobj_commits.specs.CommitViews.{bytes_if_some, commit_lines};
 ghost use Rattle.gixobj_commits.specs.CommitWriting.{HasIds};
+ghost use Rattle.gixobj_texts.specs.Bytes.{newline};
 
 use super::CommitRef;
 use bstr::BStr;
@@ -125,7 +126,7 @@ fn extra_headers(
     alloc: Global,
     input: &[u8],
 ) -> Result<(Vec<(BStr<'_>, CowSlice<'_, u8>)>, &[u8]), Error>
-    ensures found { IfOk result (λ it. HasHeaders input.now (map header_of it.0.items) (10 ∷ it.1.now)) }
+    ensures found { IfOk result (λ it. HasHeaders input.now (map header_of it.0.items) (newline ∷ it.1.now)) }
     ensures refusal { IfErr result (RefusesUnless (HasNoHeaders input.now)) }
 {
     let mut headers = Vec::new(alloc);
@@ -142,7 +143,7 @@ fn extra_headers(
 
 /// The message: what follows an empty line at the front.
 fn message(input: &[u8]) -> Option<&[u8]>
-    ensures { MatchOption result ((rest : List ℕ) → input.now ≢ 10 ∷ rest) (λ rest. input.now ≡ 10 ∷ rest.now) }
+    ensures { MatchOption result ((rest : List ℕ) → input.now ≢ newline ∷ rest) (λ rest. input.now ≡ newline ∷ rest.now) }
 {
     match input {
         [b'\n', message @ ..] => Some(message),

@@ -12,10 +12,11 @@ ghost use Rattle.gixobj_commits.specs.CommitWriting.{HasIds};
 use super::{Commit, CommitRef};
 use bstr::{BStr, BString};
 use gixobj_actors::actor::{Signature, SignatureRef};
+use gixobj_ids::OutOfMemory;
 use gixobj_ids::hash::ObjectId;
 use gixobj_ids::parse::id_of_hex;
 use smallvec::SmallVec;
-use std::alloc::{AllocError, Global};
+use std::alloc::Global;
 use std::borrow::CowSlice;
 
 /// The same commit, with parts of its own: these actors, which are those of its lines, ids, and copies
@@ -25,7 +26,7 @@ pub(super) fn commit(
     commit: &CommitRef<'_>,
     author: SignatureRef<'_>,
     committer: SignatureRef<'_>,
-) -> Result<Commit, AllocError>
+) -> Result<Commit, OutOfMemory>
     requires ids { HasIds (commit_lines commit.now) }
     requires author { IsActor (bstr_bytes commit.now.author) (bstr_bytes author.name) (bstr_bytes author.email) (bstr_bytes author.time) }
     requires committer { IsActor (bstr_bytes commit.now.committer) (bstr_bytes committer.name) (bstr_bytes committer.email) (bstr_bytes committer.time) }
@@ -43,14 +44,14 @@ pub(super) fn commit(
 }
 
 /// A copy of an actor, as it stands, with the time that it says.
-fn actor(alloc: Global, actor: SignatureRef<'_>) -> Result<Signature, AllocError>
+fn actor(alloc: Global, actor: SignatureRef<'_>) -> Result<Signature, OutOfMemory>
     ensures { IfOk result (λ it. (line : List ℕ) → IsActor line (bstr_bytes actor.entry.name) (bstr_bytes actor.entry.email) (bstr_bytes actor.entry.time) → IsOwnedActor line it) }
 {
     actor.to_owned(alloc)
 }
 
 /// The ids that hex texts spell.
-fn ids(alloc: Global, hexes: &[BStr<'_>]) -> Result<SmallVec<ObjectId, 1>, AllocError>
+fn ids(alloc: Global, hexes: &[BStr<'_>]) -> Result<SmallVec<ObjectId, 1>, OutOfMemory>
     requires { All IsHexOfAnId (map bstr_bytes hexes.now) }
     ensures { IfOk result (λ it. AllZip Spells (map bstr_bytes hexes.now) it.items) }
 {
@@ -62,7 +63,7 @@ fn ids(alloc: Global, hexes: &[BStr<'_>]) -> Result<SmallVec<ObjectId, 1>, Alloc
 }
 
 /// A copy of an encoding.
-fn encoding(alloc: Global, encoding: Option<BStr<'_>>) -> Result<Option<BString>, AllocError>
+fn encoding(alloc: Global, encoding: Option<BStr<'_>>) -> Result<Option<BString>, OutOfMemory>
     ensures { IfOk result (λ it. owned_bytes_if_some it ≡ bytes_if_some encoding.entry) }
 {
     match encoding {
@@ -75,7 +76,7 @@ fn encoding(alloc: Global, encoding: Option<BStr<'_>>) -> Result<Option<BString>
 fn headers(
     alloc: Global,
     headers: &[(BStr<'_>, CowSlice<'_, u8>)],
-) -> Result<Vec<(BString, BString)>, AllocError>
+) -> Result<Vec<(BString, BString)>, OutOfMemory>
     ensures { IfOk result (λ it. map owned_header_of it.items ≡ map header_of headers.now) }
 {
     let mut copies = Vec::new(alloc);
@@ -89,7 +90,7 @@ fn headers(
 fn header(
     alloc: Global,
     header: &(BStr<'_>, CowSlice<'_, u8>),
-) -> Result<(BString, BString), AllocError>
+) -> Result<(BString, BString), OutOfMemory>
     ensures { IfOk result (λ it. owned_header_of it ≡ header_of header.now) }
 {
     let name = BString::from_slice(alloc, header.0.as_bytes())?;

@@ -9,6 +9,7 @@ ghost use Rattle.gixobj_fields.specs.Writing.{RefusesNothing, SaysWhy};
 ghost use Rattle.gixobj_commits.specs.Commit.{encoding_text};
 ghost use Rattle.gixobj_commits.specs.CommitViews.{bytes_if_some};
 ghost use Rattle.gixobj_commits.specs.CommitWriting.{RefusesEncodingLine};
+ghost use Rattle.gixobj_texts.specs.Bytes.{newline};
 
 mod owned;
 
@@ -213,9 +214,9 @@ fn put_rest<T: Field, S: Sink>(
     sink: &mut S,
 ) -> Result<(), Error>
     requires { All T.can_put headers.now }
-    ensures written { OnOk result (Puts (S.view sink.old) (S.view sink.new) (encoding_text (bytes_if_some encoding.entry) ++ flat_map T.written headers.now ++ 10 ∷ message.now)) }
+    ensures written { OnOk result (Puts (S.view sink.old) (S.view sink.new) (encoding_text (bytes_if_some encoding.entry) ++ flat_map T.written headers.now ++ newline ∷ message.now)) }
     ensures nothing_refused { OnOk result (RefusesNothing (RefusesEncodingLine (bytes_if_some encoding.entry))) }
-    ensures refusal { IfErr result (SaysWhy (RefusesEncodingLine (bytes_if_some encoding.entry)) (S.view sink.old) (S.view sink.new) (encoding_text (bytes_if_some encoding.entry) ++ flat_map T.written headers.now ++ 10 ∷ message.now)) }
+    ensures refusal { IfErr result (SaysWhy (RefusesEncodingLine (bytes_if_some encoding.entry)) (S.view sink.old) (S.view sink.new) (encoding_text (bytes_if_some encoding.entry) ++ flat_map T.written headers.now ++ newline ∷ message.now)) }
     ensures same_loan { S.loan sink.new ≡ S.loan sink.old }
 {
     put_encoding(alloc, encoding, sink)?;
@@ -248,8 +249,8 @@ fn size_with_rest<T: Field>(
     headers: &[T],
     message: &[u8],
 ) -> Option<u64>
-    ensures { SomeIff result (size + length (encoding_text (bytes_if_some encoding.entry) ++ flat_map T.written headers.now ++ 10 ∷ message.now) < 2 ^ 64)
-        (size + length (encoding_text (bytes_if_some encoding.entry) ++ flat_map T.written headers.now ++ 10 ∷ message.now)) }
+    ensures { SomeIff result (size + length (encoding_text (bytes_if_some encoding.entry) ++ flat_map T.written headers.now ++ newline ∷ message.now) < 2 ^ 64)
+        (size + length (encoding_text (bytes_if_some encoding.entry) ++ flat_map T.written headers.now ++ newline ∷ message.now)) }
 {
     let with_encoding = size_with_encoding(size, encoding)?;
     let with_headers = size_with_all(with_encoding, headers)?;

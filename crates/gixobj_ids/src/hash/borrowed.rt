@@ -101,10 +101,11 @@ impl<'a> oid<'a> {
 /// Hashes the bytes, as an owned id does.
 impl Hash for oid<'_> {
     ghost use Rattle.std.specs.Prelude.{◌∷◌};
+    ghost use Rattle.gixobj_ids.specs.Hash.Borrowed.{borrowed_id};
     ghost use Rattle.std.proofs.Common.{rules};
     ghost use Rattle.std.specs.Cmp.Rules.{hashing};
 
-    ghost hash_input = { λ it. it.bytes.now ∷ [] };
+    ghost hash_input = { λ it. id_bytes (borrowed_id it) ∷ [] };
 
     ghost respects_eq = { Prim.search (hashing, rules) };
 

@@ -125,7 +125,8 @@ impl ObjectId {
         out.write_all(self.hex_to_buf(&mut buffer).as_bytes())
     }
 
-    /// The hex digits of the id, in lower case, 40 or 64 of them at the front of the buffer.
+    /// The hex digits of the id, in lower case, 40 or 64 of them. The result borrows the buffer, of
+    /// whose bytes nothing is said afterwards.
     pub fn hex_to_buf<'a>(&self, buffer: &'a mut [u8; 64]) -> &'a str
         ensures text { result.now ≡ hex_text self.now }
         ensures short { length result.now ≤ 64 }

@@ -6,6 +6,7 @@ ghost use Rattle.gixobj_ids.specs.declared.hash.object_id.ObjectId.{ObjectId};
 ghost use Rattle.gixobj_tokens.specs.CommitTokens.{HasToken, RefusesToken, token_view};
 ghost use Rattle.gixobj_tokens.specs.TokenReading.{SpellsOf, TellsActor, TellsId, TellsNoActor, TellsNoId};
 ghost use Rattle.gixobj_tokens.specs.declared.ref_iter.State.TheVariants as state;
+ghost use Rattle.gixobj_texts.specs.Bytes.{newline};
 
 use super::{State, Token};
 use bstr::BStr;
@@ -110,7 +111,7 @@ fn read_header_or_message(alloc: Global, input: &[u8]) -> Result<(Token<'_>, Sta
 
 /// What stands behind a newline at the front of the input.
 fn after_newline(input: &[u8]) -> Option<&[u8]>
-    ensures { MatchOption result ((rest : List ℕ) → input.now ≢ 10 ∷ rest) (λ rest. input.now ≡ 10 ∷ rest.now) }
+    ensures { MatchOption result ((rest : List ℕ) → input.now ≢ newline ∷ rest) (λ rest. input.now ≡ newline ∷ rest.now) }
 {
     match input {
         [b'\n', rest @ ..] => Some(rest),

@@ -1,10 +1,11 @@
 //! The modes of tree entries.
-ghost use Rattle.std.specs.Prelude.{◌≡◌, ◌≢◌, ◌++◌, slice_index, ◌≤◌, ◌↔◌, ◌+◌, ◌%◌, ℕ, List, [], IsTrue, IfSome, IfNone, length};
+ghost use Rattle.std.specs.Prelude.{◌≡◌, ◌≢◌, ◌++◌, slice_index, ◌≤◌, ◌↔◌, ◌+◌, ◌%◌, ℕ, List, [], IsTrue, IfSome, IfNone, length, ◌^◌, ◌⊎◌, not};
 ghost use Rattle.std.specs.Option.{SomeIff};
 ghost use Rattle.std.specs.Str.Parse.{AllDigits, digits_value};
 ghost use Rattle.bstr.specs.BStr.{bstr_bytes};
 ghost use Rattle.gixobj_texts.specs.Parse.{IsFree};
-ghost use Rattle.gixobj_trees.specs.Mode.{BeginsWithMode, IsModeNumber, KeepsByteSix, EndsMode, blob_type, commit_type, entry_word, is_tree_mode, kind_of_mode, link_type, mode_of_digits, mode_of_kind, mode_text, mode_type, mode_value, tree_type, type_bits};
+ghost use Rattle.gixobj_trees.specs.Mode.{BeginsWithMode, IsModeNumber, KeepsByteSix, EndsMode, blob_type, commit_type, entry_word, is_tree_mode, kind_of_mode, link_type, mode_of_digits, mode_of_kind, mode_text, mode_type, mode_value, tree_type, type_bits, is_blob_mode, is_commit_mode, is_link_mode};
+ghost use Rattle.gixobj_texts.specs.Bytes.{digit, space};
 
 use super::EntryKind;
 use bstr::{BStr, ByteSlice};
@@ -66,21 +67,21 @@ impl EntryMode {
 
     /// Whether the type bits are not a tree's.
     pub fn is_no_tree(&self) -> bool
-        ensures { IsTrue result ↔ (mode_type self.now ≢ tree_type) }
+        ensures { result ≡ not (is_tree_mode self.now) }
     {
         self.value() & IFMT != 0o040000
     }
 
     /// Whether the type bits are a symbolic link's.
     pub fn is_link(&self) -> bool
-        ensures { IsTrue result ↔ (mode_type self.now ≡ link_type) }
+        ensures { result ≡ is_link_mode self.now }
     {
         self.value() & IFMT == 0o120000
     }
 
     /// Whether the type bits are a file's.
     pub fn is_blob(&self) -> bool
-        ensures { IsTrue result ↔ (mode_type self.now ≡ blob_type) }
+        ensures { result ≡ is_blob_mode self.now }
     {
         self.value() & IFMT == 0o100000
     }
@@ -88,7 +89,7 @@ impl EntryMode {
     /// Whether the type bits are a submodule's. A mode of no type of git's isn't one, though its
     /// kind is `Commit`.
     pub fn is_commit(&self) -> bool
-        ensures { IsTrue result ↔ (mode_type self.now ≡ commit_type) }
+        ensures { result ≡ is_commit_mode self.now }
     {
         self.value() & IFMT == 0o160000
     }
@@ -102,7 +103,7 @@ impl EntryMode {
 
     /// Whether this is a file or a symbolic link.
     pub fn is_blob_or_symlink(&self) -> bool
-        ensures { IsTrue result ↔ ((kind_of_mode self.now ≢ EntryKind.Tree) × (kind_of_mode self.now ≢ EntryKind.Commit)) }
+        ensures { IsTrue result ↔ ((kind_of_mode self.now ≡ EntryKind.Blob) ⊎ (kind_of_mode self.now ≡ EntryKind.BlobExecutable) ⊎ (kind_of_mode self.now ≡ EntryKind.Link)) }
     {
         matches!(
             self.kind(),
@@ -238,7 +239,7 @@ impl<'a> TryFrom<&'a [u8]> for EntryMode {
 /// What stands before the first space, and the rest from there on.
 fn split_digits(i: &[u8]) -> (&[u8], &[u8])
     ensures joined { i.now ≡ result.0.now ++ result.1.now }
-    ensures first { IsFree 32 result.0.now }
+    ensures first { IsFree space result.0.now }
     ensures ends { EndsMode result.1.now }
 {
     match i.find_byte(b' ') {
@@ -249,7 +250,7 @@ fn split_digits(i: &[u8]) -> (&[u8], &[u8])
 
 /// Whether byte 6 asks for six digits, and there are more or fewer.
 fn breaks_byte_six(i: &[u8], digits: usize) -> bool
-    ensures { IsTrue result ↔ ((slice_index i.now 6 ≡ 32) × (slice_index i.now 5 ≢ 32) × (digits ≢ 6)) }
+    ensures { IsTrue result ↔ ((slice_index i.now 6 ≡ space) × (slice_index i.now 5 ≢ space) × (digits ≢ 6)) }
 {
     i.get(6) == Some(&b' ') && i.get(5) != Some(&b' ') && digits != 6
 }
@@ -279,7 +280,7 @@ fn are_octal(digits: &[u8]) -> bool
 /// The number that octal digits spell, modulo 65536.
 fn octal_number(digits: &[u8]) -> u16
     requires { AllDigits 8 digits.now }
-    ensures { result ≡ digits_value 8 digits.now % 65536 }
+    ensures { result ≡ digits_value 8 digits.now % 2 ^ 16 }
 {
     let mut number = 0u32;
     for digit in digits {
@@ -290,7 +291,7 @@ fn octal_number(digits: &[u8]) -> u16
 
 /// The last octal digit of a number.
 fn octal_digit(number: u16) -> u8
-    ensures { result ≡ 48 + number % 8 }
+    ensures { result ≡ digit (number % 8) }
 {
     b'0' + (number % 8) as u8
 }

@@ -4,6 +4,7 @@ ghost use Rattle.std.specs.Cmp.Lexicographic.{slice_cmp};
 ghost use Rattle.std.specs.Ordering.{nat_cmp};
 ghost use Rattle.gixobj_trees.specs.Entries.{key_of, name_cmp, next_byte};
 ghost use Rattle.gixobj_texts.specs.Parse.{IsFree};
+ghost use Rattle.gixobj_texts.specs.Bytes.{slash};
 
 use std::cmp::Ordering;
 
@@ -14,7 +15,7 @@ use std::cmp::Ordering;
 /// memory.
 pub fn name_order(left: &[u8], left_is_tree: bool, right: &[u8], right_is_tree: bool) -> Ordering
     ensures rule { result ≡ name_cmp left.now left_is_tree right.now right_is_tree }
-    ensures by_keys { IsFree 47 left.now → IsFree 47 right.now → result ≡ slice_cmp nat_cmp (key_of left.now left_is_tree) (key_of right.now right_is_tree) }
+    ensures by_keys { IsFree slash left.now → IsFree slash right.now → result ≡ slice_cmp nat_cmp (key_of left.now left_is_tree) (key_of right.now right_is_tree) }
 {
     let common = left.len().min(right.len());
     let (front, rest) = left.split_at(common);

@@ -5,6 +5,7 @@ ghost use Rattle.gixobj_base.specs.Entries.{EachLater, IsEntryName, IsWellFormed
 ghost use Rattle.gixobj_base.specs.Parse.{IsFree};
 ghost use Rattle.gix_object.specs.Editing.{comes_before, kept, same_name, with_entry, without};
 ghost use Rattle.gix_object.specs.Files.{is_null};
+ghost use Rattle.gixobj_base.specs.Bytes.{slash};
 
 use crate::tree::{Entry, name_order};
 use bstr::BString;
@@ -62,8 +63,8 @@ fn is_named(entry: &Entry, name: &[u8]) -> bool
 
 /// How many of the first entries come before this one.
 fn place_for(entries: &[Entry], entry: &Entry) -> usize
-    requires names { All (λ e. IsFree 47 e.name) entries.now }
-    requires name { IsFree 47 entry.now.name }
+    requires names { All (λ e. IsFree slash e.name) entries.now }
+    requires name { IsFree slash entry.now.name }
     ensures { result ≡ prefix_len (λ e. comes_before e entry.now) entries.now }
 {
     let mut place = 0;
@@ -77,8 +78,8 @@ fn place_for(entries: &[Entry], entry: &Entry) -> usize
 }
 
 fn is_before(entry: &Entry, other: &Entry) -> bool
-    requires name { IsFree 47 entry.now.name }
-    requires other_name { IsFree 47 other.now.name }
+    requires name { IsFree slash entry.now.name }
+    requires other_name { IsFree slash other.now.name }
     ensures { result ≡ comes_before entry.now other.now }
 {
     name_order(
