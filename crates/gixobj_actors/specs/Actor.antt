@@ -1,5 +1,5 @@
 -- Lines that name an actor and a time (git-commit-tree, "Commit Information"; git-fast-import, "author").
-use Rattle.std.specs.Prelude.{◌≡◌, ◌≢◌, ◌⊎◌, ◌||◌, ◌==◌, ℕ, Bool, List, [], ◌∷◌, ◌++◌, Contains, IsFalse, pos, ⊤, codes}
+use Rattle.std.specs.Prelude.{◌≡◌, ◌≢◌, ◌⊎◌, ◌||◌, ◌==◌, ℕ, Bool, List, [], ◌∷◌, ◌++◌, IsFalse, pos, ⊤, codes}
 use Rattle.std.specs.Char.{is_ascii_digit, is_whitespace}
 use Rattle.std.specs.List.{AllPass}
 use Rattle.bstr.specs.Trim.{trim_end_by, trim_start_by}

@@ -12,13 +12,11 @@ use Rattle.bstr.specs.declared.bstr.BStr.{BStr}
 use Rattle.bstr.specs.declared.bstring.BString.{BString}
 use Rattle.bstr.specs.Owned.{bstring_bytes}
 use Rattle.gixobj_actors.specs.ActorWriting.{IsLegal, RefusesSignature, owned_text}
-use Rattle.gixobj_actors.specs.declared.actor.Signature.{Signature}
 use Rattle.gixobj_ids.specs.Hash.{Spells, hex_text}
 use Rattle.gixobj_fields.specs.HeaderReading.{header_of, owned_header_of}
 use Rattle.gixobj_fields.specs.HeaderText.{field_text}
 use Rattle.gixobj_fields.specs.Writing.{Refused, RefusesNothing}
 use Rattle.gixobj_ids.specs.declared.hash.object_id.ObjectId.{ObjectId}
-use Rattle.gixobj_fields.proofs.FieldWrites.{holds_none}
 use Rattle.gixobj_ids.proofs.HexCase.{hex_in_lower_case}
 use Rattle.gixobj_fields.proofs.Steps.{IsInParts, in_parts}
 use Rattle.gixobj_commits.specs.Commit.{encoding_text, parent_text}
