@@ -9,7 +9,6 @@ pub use Rattle.gixobj_commits.specs.CommitViews
 pub use Rattle.gixobj_commits.specs.CommitWriting
 pub use Rattle.gixobj_commits.specs.Rewriting
 pub use Rattle.gixobj_commits.specs.declared as commits
-pub use Rattle.gixobj_data.specs.DataReading
 pub use Rattle.gixobj_data.specs.declared as unread
 pub use Rattle.gixobj_extra_headers.specs.ExtraHeaders
 pub use Rattle.gixobj_extra_headers.specs.HeadersLeft

@@ -1,8 +1,10 @@
 //! Laws of commits: most functions here do nothing, and their contract is the law.
 
 pub use gixobj_commits::laws::{
-    commit_has_one_reading, commit_reads_and_writes, commit_writes_back, extra_headers, rewriting,
+    commit_has_one_reading, commit_reads_and_writes, commit_writes_back,
+    owned_forms_have_the_parts,
 };
+pub use gixobj_extra_headers::laws::{borrowed_headers_are_found, owned_headers_are_found};
 pub use gixobj_fields::laws::header_reads_back;
 pub use gixobj_ids::laws::hex_spells_one_id;
 pub use gixobj_tokens::laws::{readers, tokens};

@@ -1,15 +1,10 @@
-//! The laws that make calls, on a commit.
+//! Commits read, told, made owned, written and searched, by the calls of which laws speak.
 
 use bstr::BStr;
+use gixobj_base::WriteTo;
 use gixobj_base::hash::Kind;
-use gixobj_codec::CommitRef;
 use gixobj_codec::laws::commit_reads_and_writes;
-use gixobj_codec::laws::extra_headers::{
-    header_of_borrowed, header_of_owned, place_in_borrowed, place_in_owned, signature_of_borrowed,
-    signature_of_owned, values_in_borrowed, values_in_owned,
-};
-use gixobj_codec::laws::readers::readers_agree;
-use gixobj_codec::laws::rewriting::owned_commit_is_written_back;
+use gixobj_codec::{CommitRef, CommitRefIter};
 use std::test::Fail;
 
 const SIGNED: &[u8] = b"tree 4b825dc642cb6eb9a060e54bf8d69288fbee4904\n\
@@ -25,24 +20,27 @@ const SIGNED_SHA256: &[u8] =
     gpgsig A\n\
     gpgsig-sha256 B\n\nhi\n";
 
+/// What is told of a commit, and whether the last token is its message.
 #[test]
 fn read_and_told(rt: HostRuntime) -> Result<(), Fail> {
-    let both = readers_agree(rt.alloc(), SIGNED, Kind::Sha1)?;
-    assert!(rt; both.whole.is_ok());
-    assert!(rt; both.told.error.is_none());
-    assert_eq!(rt; both.told.tokens.len(), 5);
+    let alloc = rt.alloc();
+    let commit = CommitRef::from_bytes(alloc, SIGNED, Kind::Sha1)?;
+    let reader = CommitRefIter::from_bytes(alloc, SIGNED, Kind::Sha1);
+    assert_eq!(rt; reader.count(), 5);
+    assert!(rt; reader.message()? == commit.message);
     Ok(())
 }
 
 #[test]
 fn read_and_written(rt: HostRuntime) -> Result<(), Fail> {
     let alloc = rt.alloc();
-    let owned = owned_commit_is_written_back(alloc, SIGNED, Kind::Sha1)?;
-    assert!(rt; owned.as_slice() == SIGNED);
     let commit = CommitRef::from_bytes(alloc, SIGNED, Kind::Sha1)?;
     let mut written = Vec::new(alloc);
     commit_reads_and_writes(alloc, &commit, &mut written)?;
     assert!(rt; written.as_slice() == SIGNED);
+    let mut owned = Vec::new(alloc);
+    commit.into_owned(alloc)?.write_to_vec(alloc, &mut owned)?;
+    assert!(rt; owned.as_slice() == SIGNED);
     Ok(())
 }
 
@@ -50,11 +48,11 @@ fn read_and_written(rt: HostRuntime) -> Result<(), Fail> {
 fn headers_of_borrowed(rt: HostRuntime) -> Result<(), Fail> {
     let alloc = rt.alloc();
     let commit = CommitRef::from_bytes(alloc, SIGNED, Kind::Sha1)?;
-    let value = header_of_borrowed(&commit, "gpgsig");
+    let value = commit.extra_headers().find("gpgsig");
     assert!(rt; value == Some(BStr::new(b"A\nB\n")));
-    assert!(rt; place_in_borrowed(&commit, "gpgsig") == Some(0));
-    assert!(rt; signature_of_borrowed(&commit).is_some());
-    assert!(rt; values_in_borrowed(alloc, &commit, "x")?.is_empty());
+    assert!(rt; commit.extra_headers().find_pos("gpgsig") == Some(0));
+    assert!(rt; commit.extra_headers().pgp_signature().is_some());
+    assert_eq!(rt; commit.extra_headers().find_all("x").count(), 0);
     Ok(())
 }
 
@@ -62,11 +60,11 @@ fn headers_of_borrowed(rt: HostRuntime) -> Result<(), Fail> {
 fn headers_of_owned(rt: HostRuntime) -> Result<(), Fail> {
     let alloc = rt.alloc();
     let commit = CommitRef::from_bytes(alloc, SIGNED, Kind::Sha1)?.into_owned(alloc)?;
-    let value = header_of_owned(&commit, "gpgsig");
+    let value = commit.extra_headers().find("gpgsig");
     assert!(rt; value == Some(BStr::new(b"A\nB\n")));
-    assert!(rt; place_in_owned(&commit, "gpgsig") == Some(0));
-    assert!(rt; signature_of_owned(&commit).is_some());
-    assert_eq!(rt; values_in_owned(alloc, &commit, "gpgsig")?.len(), 1);
+    assert!(rt; commit.extra_headers().find_pos("gpgsig") == Some(0));
+    assert!(rt; commit.extra_headers().pgp_signature().is_some());
+    assert_eq!(rt; commit.extra_headers().find_all("gpgsig").count(), 1);
     Ok(())
 }
 
@@ -74,9 +72,9 @@ fn headers_of_owned(rt: HostRuntime) -> Result<(), Fail> {
 fn headers_of_borrowed_with_sha256(rt: HostRuntime) -> Result<(), Fail> {
     let alloc = rt.alloc();
     let commit = CommitRef::from_bytes(alloc, SIGNED_SHA256, Kind::Sha256)?;
-    assert!(rt; place_in_borrowed(&commit, "gpgsig-sha256") == Some(1));
-    assert!(rt; signature_of_borrowed(&commit) == Some(BStr::new(b"B")));
-    assert_eq!(rt; values_in_borrowed(alloc, &commit, "gpgsig")?.len(), 1);
+    assert!(rt; commit.extra_headers().find_pos("gpgsig-sha256") == Some(1));
+    assert!(rt; commit.extra_headers().pgp_signature() == Some(BStr::new(b"B")));
+    assert_eq!(rt; commit.extra_headers().find_all("gpgsig").count(), 1);
     Ok(())
 }
 
@@ -84,7 +82,7 @@ fn headers_of_borrowed_with_sha256(rt: HostRuntime) -> Result<(), Fail> {
 fn headers_of_owned_with_sha256(rt: HostRuntime) -> Result<(), Fail> {
     let alloc = rt.alloc();
     let commit = CommitRef::from_bytes(alloc, SIGNED_SHA256, Kind::Sha256)?.into_owned(alloc)?;
-    assert!(rt; place_in_owned(&commit, "gpgsig-sha256") == Some(1));
-    assert!(rt; signature_of_owned(&commit) == Some(BStr::new(b"B")));
+    assert!(rt; commit.extra_headers().find_pos("gpgsig-sha256") == Some(1));
+    assert!(rt; commit.extra_headers().pgp_signature() == Some(BStr::new(b"B")));
     Ok(())
 }

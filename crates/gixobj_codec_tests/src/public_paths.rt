@@ -17,17 +17,15 @@ mod of_ref_iter {
 
 mod of_laws {
     pub use gixobj_codec::laws::{
-        commit_has_one_reading, commit_reads_and_writes, commit_writes_back, extra_headers,
-        header_reads_back, hex_spells_one_id, readers, rewriting, tokens,
+        borrowed_headers_are_found, commit_has_one_reading, commit_reads_and_writes,
+        commit_writes_back, header_reads_back, hex_spells_one_id, owned_forms_have_the_parts,
+        owned_headers_are_found, readers, tokens,
     };
 }
 
 mod of_laws_by_topic {
-    pub use gixobj_codec::laws::extra_headers::{
-        header_of_borrowed, header_of_owned, place_in_borrowed, place_in_owned,
-        signature_of_borrowed, signature_of_owned, values_in_borrowed, values_in_owned,
+    pub use gixobj_codec::laws::readers::{
+        actors_are_found, ids_are_found, message_is_found, readers_read_one_language,
     };
-    pub use gixobj_codec::laws::readers::{BothReadings, Told, readers_agree};
-    pub use gixobj_codec::laws::rewriting::{WriteBackError, owned_commit_is_written_back};
     pub use gixobj_codec::laws::tokens::{runs_are_their_tokens, tokens_have_one_reading};
 }

@@ -10,8 +10,7 @@ use Rattle.gixobj_ids.specs.Hash.{Spells, hex_text}
 use Rattle.gixobj_fields.specs.HeaderText.{Header}
 use Rattle.gixobj_fields.specs.Streams.{SinkView}
 use Rattle.gixobj_fields.specs.Writing.{Refused, SaysWhy, bad_name, empty_header, header_with_newline, illegal_actor, name_with_dash, name_with_zero_byte}
-use Rattle.gixobj_ids.specs.declared.decode.Error as decode
-use Rattle.gixobj_ids.specs.declared.decode.Error.TheVariants.{Malformed, OutOfMemory}
+use Rattle.gixobj_ids.specs.declared.decode.Error.TheVariants.{Malformed}
 use Rattle.gixobj_actors.specs.declared.actor.Signature.{Signature}
 use Rattle.gixobj_fields.specs.declared.encode.Error.{Error}
 use Rattle.gixobj_fields.specs.declared.encode.Error.TheVariants as encode
@@ -21,10 +20,9 @@ use Rattle.gixobj_ids.proofs.HexCase.{hex_in_lower_case}
 use Rattle.gixobj_commits.specs.Commit.{CommitLines, IsCommitText, IsEncoding}
 use Rattle.gixobj_commits.specs.CommitOwned.{IsOwnedActor, IsOwnedForm, RefusesOwning}
 use Rattle.gixobj_commits.specs.CommitViews.{owned_lines}
-use Rattle.gixobj_commits.specs.CommitWriting.{RefusesEncoding, RefusesOwned}
-use Rattle.gixobj_commits.specs.Rewriting.{AreOwnParts, HasEmptyEncoding, IsCanonical, IsUnwritable, RefusesOwnBack}
+use Rattle.gixobj_commits.specs.CommitWriting.{RefusesEncoding, RefusesOwned, commit_text}
+use Rattle.gixobj_commits.specs.Rewriting.{AreOwnParts, HasEmptyEncoding, IsCanonical, IsUnwritable, RefusesOwnForm}
 use Rattle.gixobj_commits.specs.declared.commit.Commit.{Commit}
-use Rattle.gixobj_commits.specs.declared.laws.rewriting.WriteBackError.TheVariants.{Read, Write}
 
 -- ---- the owned form
 
@@ -82,26 +80,25 @@ its_encoding : (lines : CommitLines) → WhatIsRefused lines empty_header → Ha
 its_encoding lines (inl (is, actor)) = cc
 its_encoding lines (inr (is, encoding)) = encoding
 
-pub refused_owned : (kind : Kind) (bytes : List ℕ) (lines : CommitLines) (commit : Commit) (a b : SinkView) (text : List ℕ) (why : Error) → IsCommitText kind bytes lines → IsOwnedForm lines commit
-    → SaysWhy (RefusesOwned commit) a b text why → RefusesOwnBack kind bytes (Write why)
-refused_owned kind bytes lines commit a b text (encode.Writer cause) read own says = tt
-refused_owned kind bytes lines commit a b text encode.IllegalActor read own (parts, refused, appends) = (lines, read, its_actor lines (what_is_refused kind bytes lines commit illegal_actor parts read own refused))
-refused_owned kind bytes lines commit a b text encode.EmptyValue read own (parts, refused, appends) = (lines, read, its_encoding lines (what_is_refused kind bytes lines commit empty_header parts read own refused))
-refused_owned kind bytes lines commit a b text (encode.NewlineInHeaderValue value) read own (parts, refused, appends) =
-    no_other lines _ (what_is_refused kind bytes lines commit (header_with_newline (bstring_bytes value)) parts read own refused) (λ e. cc) (λ e. cc)
-refused_owned kind bytes lines commit a b text encode.StartsWithDash read own (parts, refused, appends) =
-    no_other lines _ (what_is_refused kind bytes lines commit name_with_dash parts read own refused) (λ e. cc) (λ e. cc)
-refused_owned kind bytes lines commit a b text (encode.InvalidRefName fault) read own (parts, refused, appends) =
-    no_other lines _ (what_is_refused kind bytes lines commit (bad_name fault) parts read own refused) (λ e. cc) (λ e. cc)
-refused_owned kind bytes lines commit a b text (encode.NullbyteInFilename name) read own (parts, refused, appends) =
-    no_other lines _ (what_is_refused kind bytes lines commit (name_with_zero_byte (bstring_bytes name)) parts read own refused) (λ e. cc) (λ e. cc)
-refused_owned kind bytes lines commit a b text encode.OutOfMemory read own (value, inl (parts, refused, appends)) =
-    no_other lines _ (what_is_refused kind bytes lines commit (header_with_newline value) parts read own refused) (λ e. cc) (λ e. cc)
-refused_owned kind bytes lines commit a b text encode.OutOfMemory read own (value, inr (parts, refused, appends)) =
-    no_other lines _ (what_is_refused kind bytes lines commit (name_with_zero_byte value) parts read own refused) (λ e. cc) (λ e. cc)
+pub own_refusal : (kind : Kind) (text : List ℕ) (lines : CommitLines) (commit : Commit) (before after : SinkView) (error : Error) → IsCommitText kind text lines → IsOwnedForm lines commit
+    → SaysWhy (RefusesOwned commit) before after (commit_text (owned_lines commit)) error → RefusesOwnForm lines before after (commit_text (owned_lines commit)) error
+own_refusal kind text lines commit before after (encode.Writer cause) read own says = says
+own_refusal kind text lines commit before after encode.IllegalActor read own (parts, refused, puts) = its_actor lines (what_is_refused kind text lines commit illegal_actor parts read own refused)
+own_refusal kind text lines commit before after encode.EmptyValue read own (parts, refused, puts) = its_encoding lines (what_is_refused kind text lines commit empty_header parts read own refused)
+own_refusal kind text lines commit before after (encode.NewlineInHeaderValue value) read own (parts, refused, puts) =
+    no_other lines _ (what_is_refused kind text lines commit (header_with_newline (bstring_bytes value)) parts read own refused) (λ e. cc) (λ e. cc)
+own_refusal kind text lines commit before after encode.StartsWithDash read own (parts, refused, puts) =
+    no_other lines _ (what_is_refused kind text lines commit name_with_dash parts read own refused) (λ e. cc) (λ e. cc)
+own_refusal kind text lines commit before after (encode.InvalidRefName fault) read own (parts, refused, puts) =
+    no_other lines _ (what_is_refused kind text lines commit (bad_name fault) parts read own refused) (λ e. cc) (λ e. cc)
+own_refusal kind text lines commit before after (encode.NullbyteInFilename name) read own (parts, refused, puts) =
+    no_other lines _ (what_is_refused kind text lines commit (name_with_zero_byte (bstring_bytes name)) parts read own refused) (λ e. cc) (λ e. cc)
+own_refusal kind text lines commit before after encode.OutOfMemory read own (value, inl (parts, refused, puts)) =
+    no_other lines _ (what_is_refused kind text lines commit (header_with_newline value) parts read own refused) (λ e. cc) (λ e. cc)
+own_refusal kind text lines commit before after encode.OutOfMemory read own (value, inr (parts, refused, puts)) =
+    no_other lines _ (what_is_refused kind text lines commit (name_with_zero_byte value) parts read own refused) (λ e. cc) (λ e. cc)
 
--- a line that is an actor is not none
-pub owning_refused : (kind : Kind) (bytes : List ℕ) (lines : CommitLines) (why : decode.Error) → IsCommitText kind bytes lines → RefusesOwning lines why → RefusesOwnBack kind bytes (Read why)
-owning_refused kind bytes lines Malformed read (inl bad) = let (name, email, time, is) = read.author in absurd (bad name email time is)
-owning_refused kind bytes lines Malformed read (inr bad) = let (name, email, time, is) = read.committer in absurd (bad name email time is)
-owning_refused kind bytes lines OutOfMemory read refused = tt
+-- the lines of a commit that was read are actors
+pub actors_read : (kind : Kind) (text : List ℕ) (lines : CommitLines) → IsCommitText kind text lines → RefusesOwning lines Malformed → ⊥
+actors_read kind text lines read (inl bad) = let (name, email, time, is) = read.author in bad name email time is
+actors_read kind text lines read (inr bad) = let (name, email, time, is) = read.committer in bad name email time is

@@ -3,15 +3,17 @@
 ghost use Rattle.std.specs.Prelude.{◌≡◌, ◌≢◌, ◌<◌, ◌+◌, ◌++◌, ℕ, All, IfErr, List, [], OnOk, Some, length, vec_capacity, vec_len};
 ghost use Rattle.std.specs.List.{AllPass};
 ghost use Rattle.gixobj_ids.specs.Hash.{is_lower_hex_digit};
-ghost use Rattle.gixobj_fields.specs.Streams.{list_view};
-ghost use Rattle.gixobj_fields.specs.Writing.{FailsAsSink, RefusesNothing};
+ghost use Rattle.gixobj_fields.specs.Streams.{SinkView, list_view};
+ghost use Rattle.gixobj_fields.specs.Writing.{FailsAsSink, RefusesNothing, SaysWhy};
+ghost use Rattle.gixobj_fields.specs.declared.encode.Error.{Error};
+ghost use Rattle.gixobj_ids.specs.declared.decode.Error.TheVariants.{Malformed};
 ghost use Rattle.gixobj_ids.specs.declared.hash.kind.Kind.{Kind};
 ghost use Rattle.gixobj_commits.specs.Commit.{CommitLines, IsCommitText};
-ghost use Rattle.gixobj_commits.specs.CommitViews.{commit_lines};
-ghost use Rattle.gixobj_commits.specs.CommitWriting.{HasIds, RefusesLines, commit_text, in_lower_case};
-
-pub mod extra_headers;
-pub mod rewriting;
+ghost use Rattle.gixobj_commits.specs.CommitOwned.{IsOwnedForm, RefusesOwning};
+ghost use Rattle.gixobj_commits.specs.CommitViews.{commit_lines, owned_lines};
+ghost use Rattle.gixobj_commits.specs.CommitWriting.{HasIds, RefusesLines, RefusesOwned, commit_text, in_lower_case};
+ghost use Rattle.gixobj_commits.specs.Rewriting.{AreOwnParts, RefusesOwnForm};
+ghost use Rattle.gixobj_commits.specs.declared.commit.Commit.{Commit};
 
 use crate::CommitRef;
 use gixobj_fields::WriteTo;
@@ -30,6 +32,18 @@ pub fn commit_writes_back()
         AllPass is_lower_hex_digit commit.tree → All (λ hex. AllPass is_lower_hex_digit hex) commit.parents → commit_text (in_lower_case commit) ≡ text }
     ensures not_refused { (kind : Kind) (text : List ℕ) (commit : CommitLines) → IsCommitText kind text commit →
         commit.encoding ≢ Some [] → RefusesNothing (RefusesLines (in_lower_case commit)) }
+{}
+
+/// The owned form of a commit has its parts: ids in lower case, actors by their parts, their times as
+/// they are written, all else as it is. A commit that was read finds an owned form but for want of
+/// memory, and that is written but for want of room, an actor with a byte that no owned one may have,
+/// or an empty encoding.
+pub fn owned_forms_have_the_parts()
+    ensures parts { (lines : CommitLines) (commit : Commit) → IsOwnedForm lines commit → AreOwnParts lines (owned_lines commit) }
+    ensures owned { (kind : Kind) (text : List ℕ) (lines : CommitLines) → IsCommitText kind text lines → ¬ RefusesOwning lines Malformed }
+    ensures refusal { (kind : Kind) (text : List ℕ) (lines : CommitLines) (commit : Commit) (before after : SinkView) (error : Error) →
+        IsCommitText kind text lines → IsOwnedForm lines commit →
+        SaysWhy (RefusesOwned commit) before after (commit_text (owned_lines commit)) error → RefusesOwnForm lines before after (commit_text (owned_lines commit)) error }
 {}
 
 /// A commit is written behind the bytes of a list: where it was read from a text, and its ids were in

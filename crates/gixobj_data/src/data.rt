@@ -1,7 +1,7 @@
 //! Objects whose content is not yet read.
 ghost use Rattle.std.specs.Prelude.{◌≡◌, ◌↔◌, IfSome, IsSome};
 ghost use Rattle.gixobj_ids.specs.declared.kind.Kind.TheVariants as object;
-ghost use Rattle.gixobj_data.specs.DataReading.{IsAtStart};
+ghost use Rattle.gixobj_tokens.specs.TokenGiving.{IsAtStart};
 
 use gixobj_ids::{Kind, hash};
 use gixobj_tokens::CommitRefIter;

@@ -10,7 +10,7 @@ use Rattle.std.specs.Str.{bytes_eq}
 use Rattle.bstr.specs.BStr.{bstr_bytes}
 use Rattle.bstr.specs.declared.bstr.BStr.{BStr}
 use Rattle.gixobj_fields.specs.HeaderText.{Header}
-use Rattle.gixobj_extra_headers.specs.ExtraHeaders.{FindsPlace, FindsValue, GivesValue, IsFirstPlace, IsFirstValue, LacksHeader, PassesOthers, header_at, pair_of, searched, sought, values_named}
+use Rattle.gixobj_extra_headers.specs.ExtraHeaders.{FindsPlace, FindsValue, GivesAll, IsFirstPlace, IsFirstValue, LacksHeader, PassesOthers, header_at, pair_of, searched, sought, values_named}
 use Rattle.gixobj_extra_headers.specs.declared.extra_headers.FindAll.{FindAll}
 
 -- ---- values in a list of headers
@@ -73,18 +73,15 @@ module _ {S : Type 0} (rest : S → List Header) where
 
   -- ---- all values
 
-  abbrev pub Gives : FindAll S → Option BStr → FindAll S → Type 0
-  Gives s result t = (sought t ≡ sought s) × GivesValue (YieldsFirstBy pair_of rest) (sought s) (searched s) result (searched t)
-
   abbrev still_to_come : FindAll S → List (List ℕ)
   still_to_come s = values_named (sought s) (rest (searched s))
 
-  none_to_come : (s t : FindAll S) → Gives s None t → length (still_to_come s) ≡ 0
+  none_to_come : (s t : FindAll S) → GivesAll (YieldsFirstBy pair_of rest) s None t → length (still_to_come s) ≡ 0
   none_to_come s t (same, (others, passes)) =
       let all = all_came s.name.now s.inner t.inner others passes ∙ sym (append-nil (map pair_of others)) in
       ap (λ it. length (values_named s.name.now it)) all ∙ ap length (passed s.name.now (map pair_of others) [] passes.0)
 
-  one_came : (s : FindAll S) (value : BStr) (t : FindAll S) → Gives s (Some value) t → still_to_come s ≡ bstr_bytes value ∷ still_to_come t
+  one_came : (s : FindAll S) (value : BStr) (t : FindAll S) → GivesAll (YieldsFirstBy pair_of rest) s (Some value) t → still_to_come s ≡ bstr_bytes value ∷ still_to_come t
   one_came s value t (same, (others, passes)) =
       let name = s.name.now in
       ap (values_named name) (value_came name s.inner t.inner others value passes)
@@ -92,7 +89,5 @@ module _ {S : Type 0} (rest : S → List Header) where
       ∙ taken name value (rest t.inner)
       ∙ ap (λ it. bstr_bytes value ∷ values_named it (rest t.inner)) (sym same)
 
-  pub all_values : (s : FindAll S) (name : List ℕ) (headers : List Header) → sought s ≡ name → rest (searched s) ≡ headers → YieldsList Gives bstr_bytes s (values_named name headers)
-  all_values s name headers named left =
-      subst (YieldsList Gives bstr_bytes s) (ap (λ it. values_named it (rest s.inner)) named ∙ ap (values_named name) left)
-      (YieldsList-from_shown Gives bstr_bytes still_to_come none_to_come one_came s)
+  pub all_values : (s : FindAll S) → YieldsList (GivesAll (YieldsFirstBy pair_of rest)) bstr_bytes s (values_named (sought s) (rest (searched s)))
+  all_values = YieldsList-from_shown (GivesAll (YieldsFirstBy pair_of rest)) bstr_bytes still_to_come none_to_come one_came

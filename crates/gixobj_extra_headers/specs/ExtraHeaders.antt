@@ -78,3 +78,7 @@ module _ {S : Type 0} (steps : S → Option (BStr × BStr) → S → Type 0) (na
   abbrev pub FindsPlace : S → Option ℕ → Type 0
   FindsPlace from result = (others : List (BStr × BStr)) × (value : Option BStr) × (to : S) × PassesOthers from others value to
       × MatchOption result (IsNone value) (λ place. IsSome value × (place ≡ length others))
+
+-- one call of a search for all values of a name: the next of them, or none where none comes
+abbrev pub GivesAll : {S : Type 0} → (S → Option (BStr × BStr) → S → Type 0) → FindAll S → Option BStr → FindAll S → Type 0
+GivesAll steps before result after = (sought after ≡ sought before) × GivesValue steps (sought before) (searched before) result (searched after)

@@ -111,13 +111,13 @@ pub struct FindAll<'a, I> {
 impl<'a, I: Iterator<Item = (BStr<'a>, BStr<'a>)> + Drop> Iterator for FindAll<'a, I> {
     ghost use Rattle.std.specs.Prelude.{◌≡◌};
     ghost use Rattle.std.specs.Iterator.{IsFinite};
-    ghost use Rattle.gixobj_extra_headers.specs.ExtraHeaders.{GivesValue, searched, sought};
+    ghost use Rattle.gixobj_extra_headers.specs.ExtraHeaders.{GivesAll, searched};
 
     type Item = BStr<'a>;
 
     ghost can_next = { λ s. I.can_next (searched s) × IsFinite (I.remaining (searched s)) };
 
-    ghost next_gives = { λ s result t. (sought t ≡ sought s) × GivesValue I.next_gives (sought s) (searched s) result (searched t) };
+    ghost next_gives = { GivesAll I.next_gives };
 
     ghost remaining = { λ s. I.remaining (searched s) };
 

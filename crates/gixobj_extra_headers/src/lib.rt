@@ -3,6 +3,7 @@
 #![tactic(auto)]
 
 mod extra_headers;
+pub mod laws;
 mod parents;
 
 pub use extra_headers::{

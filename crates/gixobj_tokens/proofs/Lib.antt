@@ -1,6 +1,9 @@
+mod CommitsFound
 mod CommitsTold
+mod OneLanguage
 mod OneToken
-mod ReadersAgree
+mod ParentsFound
+mod RunFronts
 mod TokenCases
 mod TokenFilterSteps
 mod TokenRefusals

@@ -111,7 +111,7 @@ no_header_or_message kind input no_newline bad token behind rest it = by_cases (
 -- the refusal of a header is that of a token
 pub refuses_header : (kind : Kind) (input : List ℕ) (f e : Error) → f ≡ e → ((rest : List ℕ) → input ≢ 10 ∷ rest) → RefusesHeaderField input e → RefusesToken kind state.ExtraHeaders input f
 refuses_header kind input f Malformed same no_newline bad = rw same (no_header_or_message kind input no_newline bad)
-refuses_header kind input f OutOfMemory same no_newline several = rw same (tt, several)
+refuses_header kind input f OutOfMemory same no_newline several = rw same (tt, several, tt)
 
 -- ---- behind the committer, where no encoding comes, as behind an encoding
 
@@ -144,7 +144,7 @@ no_token_without_encoding kind input lacks bad token behind rest it = by_cases (
 
 pub refuses_without_encoding : (kind : Kind) (input : List ℕ) (e : Error) → LacksName (codes "encoding") input → RefusesToken kind state.ExtraHeaders input e → RefusesToken kind state.Encoding input e
 refuses_without_encoding kind input Malformed lacks bad = no_token_without_encoding kind input lacks bad
-refuses_without_encoding kind input OutOfMemory lacks several = (tt, several.1)
+refuses_without_encoding kind input OutOfMemory lacks (comes, several, here) = (tt, several, lacks)
 
 -- ---- the answers of a reader in the state behind an encoding, in that behind the committer
 

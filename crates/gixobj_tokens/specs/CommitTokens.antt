@@ -2,6 +2,7 @@
 use Rattle.std.specs.Prelude.{◌≡◌, ◌≢◌, ℕ, List, [], ◌∷◌, ◌++◌, Option, Some, None, codes, ⊤}
 use Rattle.bstr.specs.BStr.{bstr_bytes}
 use Rattle.gixobj_ids.specs.Hash.{Spells, id_kind}
+use Rattle.gixobj_commits.specs.CommitReading.{LacksName}
 use Rattle.gixobj_fields.specs.HeaderReading.{header_of}
 use Rattle.gixobj_actors.specs.Actor.{IsActor}
 use Rattle.gixobj_fields.specs.HeaderText.{BeginsSeveralLines, EndsHeader, Header, IsHeaderText, field_text}
@@ -101,7 +102,12 @@ MayComeHeader state.Encoding = ⊤
 MayComeHeader state.ExtraHeaders = ⊤
 MayComeHeader _ = ⊥
 
+-- what comes directly behind the committer is not the encoding, which has one line
+abbrev pub BeginsNoEncoding : State → List ℕ → Type 0
+BeginsNoEncoding state.Encoding input = LacksName (codes "encoding") input
+BeginsNoEncoding _ input = ⊤
+
 -- why no token is read: there is none, or it is a header of several lines, whose value takes memory
 abbrev pub RefusesToken : Kind → State → List ℕ → Error → Type 0
 RefusesToken kind before input Malformed = HasNoToken kind before input
-RefusesToken kind before input OutOfMemory = MayComeHeader before × BeginsSeveralLines input
+RefusesToken kind before input OutOfMemory = MayComeHeader before × BeginsSeveralLines input × BeginsNoEncoding before input

@@ -45,17 +45,3 @@ pub record AreTokensOf (commit : CommitLines) (tokens : List TokenView) : Type 0
   pub parents_spelled : AllZip Spells commit.parents parents
   pub is_author : IsActor commit.author author.name author.email author.time
   pub is_committer : IsActor commit.committer committer.name committer.email committer.time
-
--- the run of a reader from this state: what it told, and the error at which it stopped
-abbrev pub IsRun : Kind → State → List ℕ → List TokenView → Option Error → Type 0
-IsRun kind before text tokens None = Tells kind before text tokens complete
-IsRun kind before text tokens (Some Malformed) = Tells kind before text tokens broken
-IsRun kind before text tokens (Some OutOfMemory) = Unit {0}
-
--- two readers of one text agree: where both end well the tokens are what the commit holds, one does not refuse what the other
--- reads, and where no commit is read the tokens do not end in a message. Want of memory says nothing
-abbrev pub Agree : Result CommitRef Error → List TokenView → Option Error → Type 0
-Agree (Ok commit) tokens None = EndsInMessage tokens × AreTokensOf (commit_lines commit) tokens
-Agree (Ok commit) tokens (Some Malformed) = ⊥
-Agree (Err Malformed) tokens None = EndsInMessage tokens → ⊥
-Agree whole tokens error = Unit {0}

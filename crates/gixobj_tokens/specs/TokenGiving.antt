@@ -9,6 +9,7 @@ use Rattle.gixobj_tokens.specs.CommitTokens.{HasToken, RefusesToken, TokenView, 
 use Rattle.gixobj_tokens.specs.CommitTokens.TokenView.{tree_token, parent_token, author_token, committer_token, encoding_token, header_token, message_token}
 use Rattle.gixobj_tokens.specs.declared.ref_iter.CommitRefIter.{CommitRefIter}
 use Rattle.gixobj_tokens.specs.declared.ref_iter.State.{State}
+use Rattle.gixobj_tokens.specs.declared.ref_iter.State.TheVariants as state
 use Rattle.gixobj_tokens.specs.declared.ref_iter.Token.{Token}
 
 -- ---- one token
@@ -24,6 +25,12 @@ reader_state reader = reader.state
 -- the kind of its ids
 abbrev pub reader_kind : CommitRefIter → Kind
 reader_kind reader = reader.hash_kind
+
+-- the reader stands before the tree of a commit with this text and ids of this kind
+pub record IsAtStart (kind : Kind) (text : List ℕ) (reader : CommitRefIter) : Type 0 where
+  pub bytes : reader_bytes reader ≡ text
+  pub standing : reader_state reader ≡ state.Tree
+  pub of_kind : reader_kind reader ≡ kind
 
 -- no more tokens come than bytes are left
 abbrev pub tokens_left : CommitRefIter → Count

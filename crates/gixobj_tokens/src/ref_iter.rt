@@ -1,9 +1,8 @@
 //! Commits told token by token.
 ghost use Rattle.std.specs.Prelude.{◌≡◌, MatchOption, None, Some};
 ghost use Rattle.gixobj_ids.specs.Hash.Borrowed.{borrowed_id};
-ghost use Rattle.gixobj_tokens.specs.TokenGiving.{GivesToken, reader_bytes, reader_kind, reader_state, token_id, tokens_left};
+ghost use Rattle.gixobj_tokens.specs.TokenGiving.{GivesToken, IsAtStart, token_id, tokens_left};
 ghost use Rattle.gixobj_tokens.specs.CommitTokens.{token_view};
-ghost use Rattle.gixobj_tokens.specs.declared.ref_iter.State.TheVariants as state;
 
 mod access;
 mod filters;
@@ -48,9 +47,7 @@ impl<'a> CommitRefIter<'a> {
     /// A reader of the commit with this text, whose ids are of this kind. It reads nothing yet, and
     /// takes no memory.
     pub fn from_bytes(alloc: Global, bytes: &'a [u8], hash_kind: Kind) -> CommitRefIter<'a>
-        ensures bytes { reader_bytes result ≡ bytes.now }
-        ensures state { reader_state result ≡ state.Tree }
-        ensures kind { reader_kind result ≡ hash_kind }
+        ensures { IsAtStart hash_kind bytes.now result }
     {
         CommitRefIter {
             bytes,

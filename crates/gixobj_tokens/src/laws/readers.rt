@@ -1,72 +1,59 @@
-//! The two readers of commits read one language.
-ghost use Rattle.std.specs.Prelude.{IfOk, MatchResult, map};
-ghost use Rattle.gixobj_commits.specs.Commit.{IsCommitText};
-ghost use Rattle.gixobj_commits.specs.CommitReading.{RefusesCommit};
-ghost use Rattle.gixobj_tokens.specs.CommitTokens.{token_view};
-ghost use Rattle.gixobj_commits.specs.CommitViews.{commit_lines};
-ghost use Rattle.gixobj_tokens.specs.Readers.{Agree, IsRun};
-ghost use Rattle.gixobj_tokens.specs.TokenGiving.{reader_bytes, reader_kind, reader_state};
+//! Laws of the two readers of commits. Each function does nothing: its contract is the law.
+ghost use Rattle.std.specs.Prelude.{◌≡◌, ℕ, List, Result, Ok, map};
+ghost use Rattle.std.proofs.lemmas.Iterator.{YieldsList};
+ghost use Rattle.gixobj_actors.specs.Actor.{IsActor};
+ghost use Rattle.gixobj_ids.specs.Hash.Hex.{spelled_id};
+ghost use Rattle.gixobj_ids.specs.declared.decode.Error.{Error};
+ghost use Rattle.gixobj_ids.specs.declared.decode.Error.TheVariants.{Malformed};
+ghost use Rattle.gixobj_ids.specs.declared.hash.kind.Kind.{Kind};
+ghost use Rattle.gixobj_ids.specs.declared.hash.object_id.ObjectId.{ObjectId};
+ghost use Rattle.gixobj_commits.specs.Commit.{CommitLines, IsCommitText};
+ghost use Rattle.gixobj_tokens.specs.CommitRuns.{Tells, complete};
+ghost use Rattle.gixobj_tokens.specs.CommitTokens.{TokenView};
+ghost use Rattle.gixobj_tokens.specs.Readers.{AreTokensOf, EndsInMessage};
+ghost use Rattle.gixobj_tokens.specs.TokenFilters.{GivesParent, parents_reader};
+ghost use Rattle.gixobj_tokens.specs.TokenGiving.{GivesId, IsAtStart};
+ghost use Rattle.gixobj_tokens.specs.TokenPassing.{FindsAuthor, FindsCommitter, FindsFault, FindsMessage, FindsNone, IsAuthorToken, IsCommitterToken, IsMessageToken};
+ghost use Rattle.gixobj_tokens.specs.declared.ref_iter.CommitRefIter.{CommitRefIter};
 ghost use Rattle.gixobj_tokens.specs.declared.ref_iter.State.TheVariants as state;
+ghost use Rattle.gixobj_tokens.specs.declared.ref_iter.filters.ParentIds.{ParentIds};
 
-use crate::ref_iter::{CommitRefIter, Token};
-use gixobj_commits::CommitRef;
-use gixobj_ids::decode::Error;
-use gixobj_ids::hash::Kind;
-use std::alloc::{AllocError, Global};
+/// Both readers read one language. The text of a commit is told to its end, as exactly the tokens of
+/// that commit; and a text that is told to its end, with a message last, is that of a commit, whose
+/// tokens these are.
+pub fn readers_read_one_language()
+    ensures told { (kind : Kind) (text : List ℕ) (commit : CommitLines) → IsCommitText kind text commit →
+        (tokens : List TokenView) × Tells kind state.Tree text tokens complete × AreTokensOf commit tokens × EndsInMessage tokens }
+    ensures read { (kind : Kind) (text : List ℕ) (tokens : List TokenView) → Tells kind state.Tree text tokens complete → EndsInMessage tokens →
+        (commit : CommitLines) × IsCommitText kind text commit × AreTokensOf commit tokens }
+{}
 
-/// What the token reader tells of a text.
-#[derive(Drop)]
-pub struct Told<'a> {
-    /// The tokens, in the order in which they stand.
-    pub tokens: Vec<Token<'a>>,
-    /// The error behind them, none where the text was told to its end.
-    pub error: Option<Error>,
-}
+/// Of the text of a commit a reader at its start finds the commit's tree and parents.
+pub fn ids_are_found()
+    ensures tree { (kind : Kind) (text : List ℕ) (commit : CommitLines) (reader after : CommitRefIter) (result : Result ObjectId Error) →
+        IsCommitText kind text commit → IsAtStart kind text reader → GivesId reader result after → result ≡ Ok (spelled_id commit.tree) }
+    ensures parents { (kind : Kind) (text : List ℕ) (commit : CommitLines) (parents : ParentIds) →
+        IsCommitText kind text commit → IsAtStart kind text (parents_reader parents) → YieldsList GivesParent (λ id. id) parents (map spelled_id commit.parents) }
+{}
 
-/// What both readers answer of one text.
-#[derive(Drop)]
-pub struct BothReadings<'a> {
-    /// The whole commit, or why there is none.
-    pub whole: Result<CommitRef<'a>, Error>,
-    /// Its tokens.
-    pub told: Told<'a>,
-}
+/// Of the text of a commit a reader at its start finds the commit's author and committer, and refuses
+/// them but for want of memory.
+pub fn actors_are_found()
+    ensures author { (kind : Kind) (text : List ℕ) (commit : CommitLines) (reader : CommitRefIter) (name email time : List ℕ) →
+        IsCommitText kind text commit → IsAtStart kind text reader → FindsAuthor reader name email time → IsActor commit.author name email time }
+    ensures has_author { (kind : Kind) (text : List ℕ) (commit : CommitLines) (reader : CommitRefIter) →
+        IsCommitText kind text commit → IsAtStart kind text reader → ¬ FindsNone IsAuthorToken reader Malformed }
+    ensures committer { (kind : Kind) (text : List ℕ) (commit : CommitLines) (reader : CommitRefIter) (name email time : List ℕ) →
+        IsCommitText kind text commit → IsAtStart kind text reader → FindsCommitter reader name email time → IsActor commit.committer name email time }
+    ensures has_committer { (kind : Kind) (text : List ℕ) (commit : CommitLines) (reader : CommitRefIter) →
+        IsCommitText kind text commit → IsAtStart kind text reader → ¬ FindsNone IsCommitterToken reader Malformed }
+{}
 
-/// Both readers read one language: a text is a commit exactly where the token reader gives no error
-/// and its last token is a message, and then the tokens are what the commit holds.
-pub fn readers_agree<'a>(
-    alloc: Global,
-    bytes: &'a [u8],
-    hash_kind: Kind,
-) -> Result<BothReadings<'a>, AllocError>
-    ensures whole { IfOk result (λ it. MatchResult it.whole (λ commit. IsCommitText hash_kind bytes.now (commit_lines commit)) (RefusesCommit hash_kind bytes.now)) }
-    ensures told { IfOk result (λ it. IsRun hash_kind state.Tree bytes.now (map token_view it.told.tokens.items) it.told.error) }
-    ensures agree { IfOk result (λ it. Agree it.whole (map token_view it.told.tokens.items) it.told.error) }
-{
-    let whole = CommitRef::from_bytes(alloc, bytes, hash_kind);
-    let told = tell_all(alloc, CommitRefIter::from_bytes(alloc, bytes, hash_kind))?;
-    Ok(BothReadings { whole, told })
-}
-
-/// All that a reader tells.
-#[tactic(auto, using(crate::proofs::ReadersAgree::walk_starts, crate::proofs::ReadersAgree::walk_goes_on, crate::proofs::ReadersAgree::walk_ends, crate::proofs::ReadersAgree::walk_breaks))]
-fn tell_all<'a>(alloc: Global, reader: CommitRefIter<'a>) -> Result<Told<'a>, AllocError>
-    ensures { IfOk result (λ told. IsRun (reader_kind reader.entry) (reader_state reader.entry) (reader_bytes reader.entry) (map token_view told.tokens.items) told.error) }
-{
-    let mut tokens = Vec::new(alloc);
-    for item in reader {
-        match item {
-            Ok(token) => tokens.push(token)?,
-            Err(error) => {
-                return Ok(Told {
-                    tokens,
-                    error: Some(error),
-                });
-            }
-        }
-    }
-    Ok(Told {
-        tokens,
-        error: None,
-    })
-}
+/// Of the text of a commit a reader at its start finds the commit's message, and refuses it but for
+/// want of memory.
+pub fn message_is_found()
+    ensures message { (kind : Kind) (text : List ℕ) (commit : CommitLines) (reader : CommitRefIter) (message : List ℕ) →
+        IsCommitText kind text commit → IsAtStart kind text reader → FindsMessage reader message → message ≡ commit.message }
+    ensures has_message { (kind : Kind) (text : List ℕ) (commit : CommitLines) (reader : CommitRefIter) →
+        IsCommitText kind text commit → IsAtStart kind text reader → ¬ FindsFault IsMessageToken reader Malformed }
+{}

@@ -1,0 +1,70 @@
+-- Why a caller is refused, by cases of the errors.
+use Rattle.std.proofs.Common.{◌≡◌, ℕ, List, Result, Ok, Err, refl}
+use Rattle.std.specs.Prelude.{IfErr, IfOk}
+use Rattle.gixobj_base.specs.Streams.{SinkView}
+use Rattle.gixobj_base.specs.Writing.{FailsAsSink}
+use Rattle.gixobj_base.specs.fields.encode.Error as encode
+use Rattle.gixobj_base.specs.fields.encode.Error.TheVariants as written
+use Rattle.gixobj_base.specs.ids.decode.Error.{Error}
+use Rattle.gixobj_base.specs.ids.decode.Error.TheVariants.{Malformed, OutOfMemory}
+use Rattle.gixobj_base.specs.Hash.Hex.{spelled_id}
+use Rattle.gixobj_base.specs.ids.hash.kind.Kind.{Kind}
+use Rattle.gixobj_base.specs.ids.hash.object_id.ObjectId.{ObjectId}
+use Rattle.gixobj_codec.specs.Commit.{CommitLines, IsCommitText, IsNoCommitText}
+use Rattle.gixobj_codec.specs.CommitReading.{RefusesCommit}
+use Rattle.gixobj_codec.specs.Rewriting.{RefusesOwnForm}
+use Rattle.gixobj_codec.specs.TokenPassing.{FindsFault, IsMessageToken}
+use Rattle.gixobj_codec.specs.tokens.ref_iter.CommitRefIter.{CommitRefIter}
+use Rattle.gixobj_callers.specs.Copies.{FailsForPart, FailsForRoom}
+use Rattle.gixobj_callers.specs.declared.store.CopyError.TheVariants.{Read, Write}
+
+-- what refuses a commit's text is want of memory
+pub unread : (kind : Kind) (text : List ℕ) (commit : CommitLines) (error : Error) → RefusesCommit kind text error → IsCommitText kind text commit → FailsForRoom (Read error)
+unread kind text commit Malformed refused is = refused commit is
+unread kind text commit OutOfMemory refused is = tt
+
+pub unread_part : (kind : Kind) (text : List ℕ) (commit other : CommitLines) (error : Error) → RefusesCommit kind text error → IsCommitText kind text commit → FailsForPart other (Read error)
+unread_part kind text commit other Malformed refused is = absurd (refused commit is)
+unread_part kind text commit other OutOfMemory refused is = tt
+
+-- a writer that fails as its sink
+pub unwritten : (before after : SinkView) (text : List ℕ) (error : encode.Error) → FailsAsSink before after text error → FailsForRoom (Write error)
+unwritten before after text (written.Writer cause) fails = tt
+unwritten before after text (written.NewlineInHeaderValue value) fails = fails
+unwritten before after text written.EmptyValue fails = fails
+unwritten before after text written.StartsWithDash fails = fails
+unwritten before after text (written.InvalidRefName fault) fails = fails
+unwritten before after text (written.NullbyteInFilename name) fails = fails
+unwritten before after text written.IllegalActor fails = fails
+unwritten before after text written.OutOfMemory fails = fails
+
+pub part_refused : (commit : CommitLines) (before after : SinkView) (text : List ℕ) (error : encode.Error) → RefusesOwnForm commit before after text error → FailsForPart commit (Write error)
+part_refused commit before after text (written.Writer cause) fails = tt
+part_refused commit before after text (written.NewlineInHeaderValue value) fails = fails
+part_refused commit before after text written.EmptyValue fails = fails
+part_refused commit before after text written.StartsWithDash fails = fails
+part_refused commit before after text (written.InvalidRefName fault) fails = fails
+part_refused commit before after text (written.NullbyteInFilename name) fails = fails
+part_refused commit before after text written.IllegalActor fails = fails
+part_refused commit before after text written.OutOfMemory fails = fails
+
+-- what refuses a message that is there is want of memory
+pub message_refused : (reader : CommitRefIter) (error : Error) → (FindsFault IsMessageToken reader Malformed → ⊥) → FindsFault IsMessageToken reader error → error ≡ OutOfMemory
+message_refused reader Malformed has fault = absurd (has fault)
+message_refused reader OutOfMemory has fault = refl
+
+-- the tree of each commit that the text is
+pub value_is : (kind : Kind) (text : List ℕ) (result : Result ObjectId Error) → ((commit : CommitLines) → IsCommitText kind text commit → result ≡ Ok (spelled_id commit.tree))
+    → IfOk result (λ id. (commit : CommitLines) → IsCommitText kind text commit → id ≡ spelled_id commit.tree)
+value_is kind text (Ok id) found = λ commit is. let same = found commit is in cc same
+value_is kind text (Err error) found = tt
+
+pub value_there : (kind : Kind) (text : List ℕ) (result : Result ObjectId Error) → ((commit : CommitLines) → IsCommitText kind text commit → result ≡ Ok (spelled_id commit.tree))
+    → IfErr result (λ error. IsNoCommitText kind text)
+value_there kind text (Ok id) found = tt
+value_there kind text (Err error) found = λ commit is. let same = found commit is in cc same
+
+-- what is so of each is so of all
+pub all_given : {T E X : Type 0} {Q : X → Type 0} (P : X → T → Type 0) (result : Result T E) → ((x : X) → Q x → IfOk result (P x)) → IfOk result (λ value. (x : X) → Q x → P x value)
+all_given P (Ok value) each = each
+all_given P (Err error) each = tt

@@ -1,0 +1,32 @@
+use Rattle.std.proofs.Common.{ℕ, List, ◌++◌, ap, subst, ◌∙◌}
+use Rattle.gixobj_base.specs.Streams.{list_view}
+use Rattle.gixobj_codec.specs.Commit.{CommitLines}
+use Rattle.gixobj_codec.specs.CommitViews.{commit_lines, owned_lines}
+use Rattle.gixobj_codec.specs.CommitWriting.{commit_text}
+use Rattle.gixobj_callers.specs.Copies.{FailsForPart}
+use Rattle.gixobj_callers.specs.declared.store.CopyError.TheVariants.{Write}
+use Rattle.gixobj_callers.proofs.Refusals.{part_refused, unread_part}
+use Rattle.gixobj_callers.proofs.importer.owned_copy_of.Goals as goal
+
+pub returns-in-Err-clause-refusal : goal.returns-in-Err-clause-refusal
+returns-in-Err-clause-refusal c = λ commit is. unread_part c.args.kind c.args.text.now commit commit c.in-Err.error c.in-Err.ensures.refusal is
+
+pub returns-in-Ok-write_to_vec-clause-parts : goal.returns-in-Ok-write_to_vec-clause-parts
+returns-in-Ok-write_to_vec-clause-parts c =
+    let own = owned_lines c.in-Ok-into_owned.owned in (
+      commit_lines c.in-Ok.commit,
+      own,
+      c.in-Ok.ensures.found,
+      c.owned_forms_have_the_parts.ensures.parts (commit_lines c.in-Ok.commit) c.in-Ok-into_owned.owned c.in-Ok-into_owned.ensures.owned,
+      c.in-Ok-write_to_vec.ensures.written ∙ ap (λ (it : List ℕ). it ++ commit_text own) c.new-copy.ensures.items,
+    )
+
+pub returns-clause-refusal : goal.returns-clause-refusal
+returns-clause-refusal c = λ commit is.
+    let lines = commit_lines c.in-Ok.commit in
+    let own = c.in-Ok-into_owned.owned in
+    let before = list_view c.new-copy.result in
+    let after = list_view c.write_to_vec.new.out in
+    let same = c.commit_has_one_reading.ensures c.args.kind c.args.text.now lines commit c.in-Ok.ensures.found is in
+    let refused = c.owned_forms_have_the_parts.ensures.refusal c.args.kind c.args.text.now lines own before after c.in-Err-write_to_vec.error c.in-Ok.ensures.found c.in-Ok-into_owned.ensures.owned c.in-Err-write_to_vec.ensures.refusal in
+    subst (λ (it : CommitLines). FailsForPart it (Write c.in-Err-write_to_vec.error)) same (part_refused lines before after (commit_text (owned_lines own)) c.in-Err-write_to_vec.error refused)

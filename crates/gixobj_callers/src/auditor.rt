@@ -1,0 +1,41 @@
+//! An auditor of releases, who looks for headers of commits.
+ghost use Rattle.std.specs.Prelude.{◌≡◌, IfOk, map};
+ghost use Rattle.bstr.specs.BStr.{bstr_bytes};
+ghost use Rattle.gixobj_base.specs.Hash.{IsHexOfAnId};
+ghost use Rattle.gixobj_codec.specs.CommitViews.{commit_lines, owned_lines};
+ghost use Rattle.gixobj_codec.specs.ExtraHeaders.{IsFirstPlace, IsFirstValue, values_named};
+
+use bstr::BStr;
+use gixobj_codec::laws::{borrowed_headers_are_found, owned_headers_are_found};
+use gixobj_codec::{Commit, CommitRef};
+use std::alloc::{AllocError, Global};
+
+/// The value of the first header of this name.
+pub fn value_of<'a>(commit: &'a CommitRef<'_>, name: &str) -> Option<BStr<'a>>
+    requires { IsHexOfAnId (commit_lines commit.now).tree }
+    ensures { IsFirstValue name.now (commit_lines commit.now).extra_headers result }
+{
+    borrowed_headers_are_found();
+    commit.extra_headers().find(name)
+}
+
+/// The place of the first header of this name, in a commit that is owned.
+pub fn place_of(commit: &Commit, name: &str) -> Option<usize>
+    ensures { IsFirstPlace name.now (owned_lines commit.now).extra_headers result }
+{
+    owned_headers_are_found();
+    commit.extra_headers().find_pos(name)
+}
+
+/// The values of all headers of this name, in order.
+pub fn values_of<'a>(
+    alloc: Global,
+    commit: &'a CommitRef<'_>,
+    name: &'a str,
+) -> Result<Vec<BStr<'a>>, AllocError>
+    requires { IsHexOfAnId (commit_lines commit.now).tree }
+    ensures { IfOk result (λ it. map bstr_bytes it.items ≡ values_named name.now (commit_lines commit.now).extra_headers) }
+{
+    borrowed_headers_are_found();
+    commit.extra_headers().find_all(name).collect(alloc)
+}

@@ -1,0 +1,45 @@
+//! A store of objects, which writes what it has read.
+ghost use Rattle.std.specs.Prelude.{◌≢◌, ◌≡◌, ℕ, List, [], All, IfErr, IfOk, Some};
+ghost use Rattle.std.specs.List.{AllPass};
+ghost use Rattle.gixobj_base.specs.Hash.{is_lower_hex_digit};
+ghost use Rattle.gixobj_codec.specs.Commit.{CommitLines, IsCommitText};
+ghost use Rattle.gixobj_callers.specs.Copies.{FailsForRoom};
+
+use gixobj_base::hash::Kind;
+use gixobj_base::laws::writers_fail_as_their_sinks;
+use gixobj_base::{WriteTo, decode, encode};
+use gixobj_codec::CommitRef;
+use gixobj_codec::laws::{commit_has_one_reading, commit_writes_back};
+use std::alloc::Global;
+
+/// Why there is no copy.
+#[derive(Debug, Drop, thiserror::Error)]
+pub enum CopyError {
+    /// The text is not read.
+    #[error("not read: {0}")]
+    Read(decode::Error),
+    /// The commit is not written.
+    #[error("not written: {0}")]
+    Write(encode::Error),
+}
+
+/// Reads a commit and writes it: a text whose ids are in lower case comes back as it was. A commit whose
+/// encoding isn't empty is not written only where the list has no room.
+pub fn copy_of(alloc: Global, text: &[u8], kind: Kind) -> Result<Vec<u8>, CopyError>
+    ensures same { IfOk result (λ copy. (commit : CommitLines) → IsCommitText kind text.now commit →
+        AllPass is_lower_hex_digit commit.tree → All (λ hex. AllPass is_lower_hex_digit hex) commit.parents → copy.items ≡ text.now) }
+    ensures room { IfErr result (λ error. (commit : CommitLines) → IsCommitText kind text.now commit → commit.encoding ≢ Some [] → FailsForRoom error) }
+{
+    commit_has_one_reading();
+    commit_writes_back();
+    let commit = match CommitRef::from_bytes(alloc, text, kind) {
+        Ok(commit) => commit,
+        Err(error) => return Err(CopyError::Read(error)),
+    };
+    writers_fail_as_their_sinks(&commit);
+    let mut copy = Vec::new(alloc);
+    match commit.write_to_vec(alloc, &mut copy) {
+        Ok(()) => Ok(copy),
+        Err(error) => Err(CopyError::Write(error)),
+    }
+}

@@ -1,0 +1,52 @@
+//! A walker of commits, which needs parts of a commit and doesn't read it whole.
+ghost use Rattle.std.specs.Prelude.{◌≡◌, IfErr, IfOk, IsTrue, map};
+ghost use Rattle.bstr.specs.BStr.{bstr_bytes};
+ghost use Rattle.gixobj_base.specs.Hash.Hex.{spelled_id};
+ghost use Rattle.gixobj_base.specs.ids.decode.Error.TheVariants.{OutOfMemory};
+ghost use Rattle.gixobj_codec.specs.Commit.{CommitLines, IsCommitText, IsNoCommitText};
+
+use bstr::BStr;
+use gixobj_base::decode::Error;
+use gixobj_base::hash::{Kind, ObjectId};
+use gixobj_codec::CommitRefIter;
+use gixobj_codec::laws::readers::{ids_are_found, message_is_found};
+use std::alloc::{AllocError, Global};
+
+/// The tree of a commit. It is refused only where the text is no commit's.
+pub fn tree_of(alloc: Global, text: &[u8], kind: Kind) -> Result<ObjectId, Error>
+    ensures tree { IfOk result (λ id. (commit : CommitLines) → IsCommitText kind text.now commit → id ≡ spelled_id commit.tree) }
+    ensures refusal { IfErr result (λ _. IsNoCommitText kind text.now) }
+{
+    ids_are_found();
+    CommitRefIter::from_bytes(alloc, text, kind).tree_id()
+}
+
+/// The parents of a commit, in order.
+pub fn parents_of(alloc: Global, text: &[u8], kind: Kind) -> Result<Vec<ObjectId>, AllocError>
+    ensures { IfOk result (λ ids. (commit : CommitLines) → IsCommitText kind text.now commit → ids.items ≡ map spelled_id commit.parents) }
+{
+    ids_are_found();
+    CommitRefIter::from_bytes(alloc, text, kind)
+        .parent_ids()
+        .collect(alloc)
+}
+
+/// The message of a commit. Of a commit's text it is refused only for want of memory.
+pub fn message_of<'a>(alloc: Global, text: &'a [u8], kind: Kind) -> Result<BStr<'a>, Error>
+    ensures message { IfOk result (λ message. (commit : CommitLines) → IsCommitText kind text.now commit → bstr_bytes message ≡ commit.message) }
+    ensures refusal { IfErr result (λ error. (commit : CommitLines) → IsCommitText kind text.now commit → error ≡ OutOfMemory) }
+{
+    message_is_found();
+    CommitRefIter::from_bytes(alloc, text, kind).message()
+}
+
+/// Whether a reader of tokens gives nothing behind an error: it never does.
+pub fn ends_behind_errors(alloc: Global, text: &[u8], kind: Kind) -> bool
+    ensures { IsTrue result }
+{
+    let mut reader = CommitRefIter::from_bytes(alloc, text, kind);
+    match reader.next() {
+        Some(Err(_)) => reader.next().is_none(),
+        _ => true,
+    }
+}

@@ -1,0 +1,32 @@
+//! Laws of headers that are searched by their names. Each function does nothing: its contract is the law.
+ghost use Rattle.std.specs.Prelude.{ℕ, List, Option};
+ghost use Rattle.std.specs.Iterator.{YieldsFirstBy};
+ghost use Rattle.std.proofs.lemmas.Iterator.{YieldsList};
+ghost use Rattle.bstr.specs.BStr.{bstr_bytes};
+ghost use Rattle.bstr.specs.declared.bstr.BStr.{BStr};
+ghost use Rattle.gixobj_extra_headers.specs.ExtraHeaders.{FindsPlace, FindsValue, GivesAll, IsFirstPlace, IsFirstValue, pair_of, searched, sought, values_named};
+ghost use Rattle.gixobj_extra_headers.specs.HeadersLeft.{headers_left, owned_headers_left};
+ghost use Rattle.gixobj_extra_headers.specs.declared.extra_headers.BorrowedHeaders.{BorrowedHeaders};
+ghost use Rattle.gixobj_extra_headers.specs.declared.extra_headers.FindAll.{FindAll};
+ghost use Rattle.gixobj_extra_headers.specs.declared.extra_headers.OwnedHeaders.{OwnedHeaders};
+
+/// Of the headers of a borrowed commit `find` answers the value of the first of the name, `find_pos` its
+/// place, and `find_all` the values of all of the name, in order.
+pub fn borrowed_headers_are_found()
+    ensures value { (name : List ℕ) (headers : BorrowedHeaders) (result : Option BStr) →
+        FindsValue (YieldsFirstBy pair_of headers_left) name headers result → IsFirstValue name (headers_left headers) result }
+    ensures place { (name : List ℕ) (headers : BorrowedHeaders) (result : Option ℕ) →
+        FindsPlace (YieldsFirstBy pair_of headers_left) name headers result → IsFirstPlace name (headers_left headers) result }
+    ensures values { (values : FindAll BorrowedHeaders) →
+        YieldsList (GivesAll (YieldsFirstBy pair_of headers_left)) bstr_bytes values (values_named (sought values) (headers_left (searched values))) }
+{}
+
+/// The same of the headers of an owned commit.
+pub fn owned_headers_are_found()
+    ensures value { (name : List ℕ) (headers : OwnedHeaders) (result : Option BStr) →
+        FindsValue (YieldsFirstBy pair_of owned_headers_left) name headers result → IsFirstValue name (owned_headers_left headers) result }
+    ensures place { (name : List ℕ) (headers : OwnedHeaders) (result : Option ℕ) →
+        FindsPlace (YieldsFirstBy pair_of owned_headers_left) name headers result → IsFirstPlace name (owned_headers_left headers) result }
+    ensures values { (values : FindAll OwnedHeaders) →
+        YieldsList (GivesAll (YieldsFirstBy pair_of owned_headers_left)) bstr_bytes values (values_named (sought values) (owned_headers_left (searched values))) }
+{}
