@@ -1,9 +1,9 @@
 -- A commit's text as the chain of its parts from the left: the same, and one for each text.
-use Rattle.std.proofs.Common.{◌≡◌, ℕ, List, [], ◌∷◌, ◌++◌, arith, refl, sym, subst, ◌∙◌, append_assoc}
+use Rattle.std.proofs.Common.{◌≡◌, ℕ, List, [], ◌∷◌, ◌++◌, arith, inl, inr, refl, sym, subst, ◌∙◌, append_assoc}
 use Rattle.std.specs.List.{flat_map}
 use Rattle.std.specs.Prelude.{Option, Some, None, codes}
 use Rattle.gixobj_texts.proofs.Splits.{free_by_test}
-use Rattle.gixobj_fields.specs.HeaderText.{Header, field_text}
+use Rattle.gixobj_fields.specs.HeaderText.{BeginsHeader, Header, field_text}
 use Rattle.gixobj_texts.specs.Parse.{IsFree}
 use Rattle.gixobj_ids.specs.declared.decode.Error.{Error}
 use Rattle.gixobj_ids.specs.declared.decode.Error.TheVariants.{Malformed, OutOfMemory}
@@ -11,7 +11,7 @@ use Rattle.gixobj_ids.specs.declared.hash.kind.Kind.{Kind}
 use Rattle.gixobj_commits.proofs.CommitHeaders.{headers_of_texts, lacking_is_of_other_name, one_list_of_headers, other_name_lacks, texts_of_headers}
 use Rattle.gixobj_commits.proofs.CommitParts.{hex_is_one_line, one_actor_line, one_encoding, one_id, one_list_of_parents, parents_of_text}
 use Rattle.gixobj_commits.specs.Commit.{AreHeaderTexts, CommitLines, IsCommitText, IsEncoding, IsNoCommitText, NamesActor, encoding_text, parent_text}
-use Rattle.gixobj_commits.specs.CommitReading.{HasActor, HasEncoding, HasHeaders, HasId, HasNoActor, HasNoEncoding, HasNoHeaders, HasNoId, HasNoParents, HasParents, LacksName, RefusesCommit, RefusesUnless}
+use Rattle.gixobj_commits.specs.CommitReading.{HasActor, HasEncoding, HasHeaders, HasId, HasNoActor, HasNoEncoding, HasNoHeaders, HasNoId, HasNoParents, HasParents, LacksName, ReachesHeader, ReachesSecondParent, RefusesCommit, RefusesHeaders, RefusesParents}
 
 -- the commit's parts, one behind the other
 pub record CommitChain (kind : Kind) (text : List ℕ) (commit : CommitLines) : Type 0 where
@@ -200,9 +200,9 @@ no_parents kind text tree behind read bad commit is =
     bad commit.parents chain.after_parents (subst H (sym (same_tree kind text tree behind commit chain read).1) chain.parents)
 
 pub refuses_parents : (kind : Kind) (text tree behind : List ℕ) (error reason : Error) → error ≡ reason → HasId (codes "tree") kind text tree behind
-    → RefusesUnless (HasNoParents kind behind) reason → RefusesCommit kind text error
+    → RefusesParents kind behind reason → RefusesCommit kind text error
 refuses_parents kind text tree behind error Malformed same read bad = rw same (no_parents kind text tree behind read bad)
-refuses_parents kind text tree behind error OutOfMemory same read bad = rw same tt
+refuses_parents kind text tree behind error OutOfMemory same read two = rw same (inl (record { tree = tree; rest = behind; has_tree = read; parents = two }))
 
 -- the tree and the parents that were read
 pub record ReadsParentage (kind : Kind) (text rest : List ℕ) : Type 0 where
@@ -272,10 +272,38 @@ no_headers kind text behind rest encoding read has_encoding bad commit is =
     let H : List ℕ → Type 0 = λ it. HasHeaders it commit.extra_headers (10 ∷ commit.message) in
     bad commit.extra_headers (10 ∷ commit.message) (subst H (sym same.1) chain.headers)
 
+joined_to_header : (text tree parents author committer encoding rest after_tree after_parents after_author after_committer : List ℕ)
+    → text ≡ tree ++ after_tree → after_tree ≡ parents ++ after_parents → after_parents ≡ author ++ after_author → after_author ≡ committer ++ after_committer → after_committer ≡ encoding ++ rest
+    → text ≡ tree ++ parents ++ author ++ committer ++ encoding ++ rest
+joined_to_header text tree parents author committer encoding rest after_tree after_parents after_author after_committer e f g h i = rw (e, f, g, h, i) (simp append_assoc)
+
+header_reached : (kind : Kind) (text behind rest : List ℕ) (encoding : Option (List ℕ)) → ReadsCommitter kind text behind → HasEncoding behind encoding rest → BeginsHeader rest → ReachesHeader kind text
+header_reached kind text behind rest encoding read has_encoding begins =
+    let to_author = read.to_author in
+    let parentage = to_author.parentage in
+    let stands = encoding_joined encoding behind rest has_encoding in
+    record {
+      tree = parentage.tree;
+      parents = parentage.parents;
+      author = to_author.line;
+      committer = read.line;
+      encoding = encoding;
+      rest = rest;
+      joined = joined_to_header text (field_text (codes "tree") parentage.tree) (flat_map parent_text parentage.parents) (field_text (codes "author") to_author.line) (field_text (codes "committer") read.line)
+          (encoding_text encoding) rest parentage.behind to_author.behind read.behind behind
+          parentage.has_tree.0.joined parentage.has_parents.joined to_author.has_author.0.joined read.has_committer.0.joined stands;
+      tree_hex = parentage.has_tree.1;
+      parents_hex = parentage.has_parents.hex;
+      names_author = to_author.has_author.1;
+      names_committer = read.has_committer.1;
+      has_encoding = subst (λ (it : List ℕ). HasEncoding it encoding rest) stands has_encoding;
+      header = begins;
+    }
+
 pub refuses_headers : (kind : Kind) (text behind rest : List ℕ) (encoding : Option (List ℕ)) (error reason : Error) → error ≡ reason → ReadsCommitter kind text behind → HasEncoding behind encoding rest
-    → RefusesUnless (HasNoHeaders rest) reason → RefusesCommit kind text error
+    → RefusesHeaders rest reason → RefusesCommit kind text error
 refuses_headers kind text behind rest encoding error Malformed same read has_encoding bad = rw same (no_headers kind text behind rest encoding read has_encoding bad)
-refuses_headers kind text behind rest encoding error OutOfMemory same read has_encoding bad = rw same tt
+refuses_headers kind text behind rest encoding error OutOfMemory same read has_encoding begins = rw same (inr (header_reached kind text behind rest encoding read has_encoding begins))
 
 -- ---- the commit that was read
 

@@ -10,12 +10,12 @@ use Rattle.bstr.specs.declared.bstr.BStr.{BStr}
 use Rattle.gixobj_fields.proofs.HeaderFields.{one_header}
 use Rattle.gixobj_texts.proofs.Splits.{one_cut}
 use Rattle.gixobj_fields.specs.HeaderReading.{RefusesHeaderField, header_of}
-use Rattle.gixobj_fields.specs.HeaderText.{EndsHeader, HasHeader, HasNoHeader, Header, IsHeaderName, IsHeaderText, following_text}
+use Rattle.gixobj_fields.specs.HeaderText.{BeginsHeader, BeginsSeveralLines, EndsHeader, HasHeader, HasNoHeader, Header, IsHeaderName, IsHeaderText, field_text, following_text}
 use Rattle.gixobj_texts.specs.Parse.{IsFree}
 use Rattle.gixobj_ids.specs.declared.decode.Error.{Error}
 use Rattle.gixobj_ids.specs.declared.decode.Error.TheVariants.{Malformed, OutOfMemory}
 use Rattle.gixobj_commits.specs.Commit.{AreHeaderTexts}
-use Rattle.gixobj_commits.specs.CommitReading.{BeginsLine, HasHeaders, HasNoHeaders, LacksName, RefusesUnless}
+use Rattle.gixobj_commits.specs.CommitReading.{BeginsLine, HasHeaders, HasNoHeaders, LacksName, RefusesHeaders}
 
 -- ---- one header
 
@@ -25,6 +25,9 @@ behind_name input header rest it = it.written.first ++ 10 ∷ (flat_map followin
 
 flat_header : (name first rest : List ℕ) (more : List (List ℕ)) → (name ++ 32 ∷ (first ++ 10 ∷ []) ++ flat_map following_text more) ++ rest ≡ name ++ 32 ∷ (first ++ 10 ∷ (flat_map following_text more ++ rest))
 flat_header name first rest more = simp append_assoc
+
+unfolded : (name first rest : List ℕ) → name ++ 32 ∷ (first ++ 10 ∷ rest) ≡ field_text name first ++ rest
+unfolded name first rest = simp append_assoc
 
 begins_with_name : (input : List ℕ) (header : Header) (rest : List ℕ) (it : HasHeader input header rest) → input ≡ header.name ++ 32 ∷ behind_name input header rest it
 begins_with_name input header rest it =
@@ -118,11 +121,37 @@ pub headers_step : (input rest after : List ℕ) (headers grown : List (BStr × 
 headers_step input rest after headers grown header so_far one same =
     rw (same, map_push header_of headers header) (headers_grow input rest after (map header_of headers) (header_of header) so_far one)
 
+-- ---- the first header
+
+first_of_several : (input : List ℕ) → BeginsSeveralLines input → BeginsHeader input
+first_of_several input it = record { name = it.name; first = it.first; rest = 32 ∷ it.rest; joined = it.joined; named = it.named; one_line = it.one_line }
+
+pub first_of_header : (input : List ℕ) (header : Header) (rest : List ℕ) → HasHeader input header rest → BeginsHeader input
+first_of_header input header rest it =
+    record {
+      name = header.name;
+      first = it.written.first;
+      rest = flat_map following_text it.written.more ++ rest;
+      joined = begins_with_name input header rest it ∙ unfolded header.name it.written.first (flat_map following_text it.written.more ++ rest);
+      named = it.written.named;
+      one_line = it.written.one_line;
+    }
+
+-- where some header begins, the first of them begins
+pub begins_with_first : (input rest : List ℕ) (headers : List Header) → ReadsHeaders input headers rest → BeginsHeader rest → BeginsHeader input
+begins_with_first input rest [] same begins = subst BeginsHeader (sym same) begins
+begins_with_first input rest (header ∷ headers) (after, one, more) begins = first_of_header input header after one
+
+-- the header that finds no memory
+pub headers_full : (input rest after : List ℕ) (headers : List (BStr × CowSlice ℕ Global)) (header : BStr × CowSlice ℕ Global) (error : Error) → error ≡ OutOfMemory
+    → ReadsHeaders input (map header_of headers) rest → HasHeader rest (header_of header) after → RefusesHeaders input error
+headers_full input rest after headers header error same so_far one = rw same (begins_with_first input rest (map header_of headers) so_far (first_of_header rest (header_of header) after one))
+
 -- one header is refused, and so are all
 pub headers_refuse : (input rest : List ℕ) (headers : List Header) (error reason : Error) → error ≡ reason → ReadsHeaders input headers rest → ((tail : List ℕ) → rest ≢ 10 ∷ tail)
-    → RefusesHeaderField rest reason → RefusesUnless (HasNoHeaders input) error
+    → RefusesHeaderField rest reason → RefusesHeaders input error
 headers_refuse input rest headers error Malformed same so_far no_line bad = rw same (headers_cut input rest headers so_far no_line bad)
-headers_refuse input rest headers error OutOfMemory same so_far no_line bad = rw same tt
+headers_refuse input rest headers error OutOfMemory same so_far no_line several = rw same (begins_with_first input rest headers so_far (first_of_several rest several))
 
 -- ---- headers as a join of their texts
 

@@ -1,7 +1,7 @@
 -- The parts of a commit's text, cut from the left: each is read in one way.
-use Rattle.std.proofs.Common.{◌≡◌, ◌≢◌, ◌<◌, ℕ, List, [], ◌∷◌, ◌++◌, All, length, true, arith, refl, sym, ap, subst, ◌∙◌, append_assoc, length-append}
+use Rattle.std.proofs.Common.{◌≡◌, ◌≢◌, ◌<◌, ◌≤◌, ◌+◌, ℕ, zero, suc, List, [], ◌∷◌, ◌++◌, All, length, true, arith, refl, sym, ap, subst, ◌∙◌, append_assoc, length-append}
 use Rattle.std.proofs.lemmas.Bool.{true≢false}
-use Rattle.std.proofs.lemmas.List.{append-nil, map_push}
+use Rattle.std.proofs.lemmas.List.{append-nil, length-map, map_push}
 use Rattle.std.proofs.lemmas.List.Concat.{flat_map-append}
 use Rattle.std.proofs.lemmas.List.Elements.{All-cons, All-head, All-nil, All-push, All-tail}
 use Rattle.std.specs.List.{AllPass, flat_map}
@@ -16,9 +16,11 @@ use Rattle.gixobj_actors.specs.Actor.{IsActor, IsNoActor}
 use Rattle.gixobj_ids.specs.Hash.Hex.{IsHexOf}
 use Rattle.gixobj_fields.specs.HeaderText.{HasField, HasNoField, field_text}
 use Rattle.gixobj_texts.specs.Parse.{IsFree}
+use Rattle.gixobj_ids.specs.declared.decode.Error.{Error}
+use Rattle.gixobj_ids.specs.declared.decode.Error.TheVariants.{OutOfMemory}
 use Rattle.gixobj_ids.specs.declared.hash.kind.Kind.{Kind}
 use Rattle.gixobj_commits.specs.Commit.{parent_text}
-use Rattle.gixobj_commits.specs.CommitReading.{HasActor, HasEncoding, HasId, HasNoActor, HasNoEncoding, HasNoId, HasNoParents, HasParents, LacksName}
+use Rattle.gixobj_commits.specs.CommitReading.{BeginsTwoParents, RefusesParents, HasActor, HasEncoding, HasId, HasNoActor, HasNoEncoding, HasNoId, HasNoParents, HasParents, LacksName}
 
 -- ---- ids
 
@@ -143,6 +145,40 @@ pub parents_cut : (kind : Kind) (input rest : List ℕ) (parents : List (List �
     → HasNoId (codes "parent") kind rest → HasNoParents kind input
 parents_cut kind input rest parents so_far (named, begins) bad others behind it =
     no_run kind parents others input rest behind named so_far.hex it.hex begins bad it.ends so_far.joined it.joined
+
+-- the second parent finds no memory
+filled : (n capacity : ℕ) → 1 ≤ capacity → (n + 1 ≤ capacity → ⊥) → 0 < n
+filled zero capacity some full = absurd (full some)
+filled (suc n) capacity some full = omega arith
+
+two_parents : (kind : Kind) (input rest after hex : List ℕ) (parents : List (List ℕ)) → ReadsParents kind input parents rest → HasId (codes "parent") kind rest hex after → 0 < length parents → BeginsTwoParents kind input
+two_parents kind input rest after hex [] so_far one some = absurd (omega (arith, some))
+two_parents kind input rest after hex (first ∷ []) so_far (field, is) some =
+    let joined : (parent_text first ++ []) ++ (parent_text hex ++ after) ≡ parent_text first ++ parent_text hex ++ after = simp (append_assoc, append-nil) in
+    record {
+      first = first;
+      second = hex;
+      rest = after;
+      joined = so_far.joined ∙ ap (λ (it : List ℕ). (parent_text first ++ []) ++ it) field.joined ∙ joined;
+      first_hex = All-head (IsHexOf kind) first [] so_far.hex;
+      second_hex = is;
+    }
+two_parents kind input rest after hex (first ∷ second ∷ more) so_far one some =
+    let joined : (parent_text first ++ (parent_text second ++ flat_map parent_text more)) ++ rest ≡ parent_text first ++ parent_text second ++ (flat_map parent_text more ++ rest) = simp append_assoc in
+    record {
+      first = first;
+      second = second;
+      rest = flat_map parent_text more ++ rest;
+      joined = so_far.joined ∙ joined;
+      first_hex = All-head (IsHexOf kind) first (second ∷ more) so_far.hex;
+      second_hex = All-head (IsHexOf kind) second more (All-tail (IsHexOf kind) first (second ∷ more) so_far.hex);
+    }
+
+pub parents_full : (kind : Kind) (input rest after : List ℕ) (parents : List BStr) (parent : BStr) (capacity : ℕ) (error : Error) → error ≡ OutOfMemory → ReadsParents kind input (map bstr_bytes parents) rest
+    → HasId (codes "parent") kind rest (bstr_bytes parent) after → 1 ≤ capacity → (length parents + 1 ≤ capacity → ⊥) → RefusesParents kind input error
+parents_full kind input rest after parents parent capacity error same so_far one some full =
+    let there : 0 < length (map bstr_bytes parents) = omega (arith, filled (length parents) capacity some full, length-map parents bstr_bytes) in
+    rw same (two_parents kind input rest after (bstr_bytes parent) (map bstr_bytes parents) so_far one there)
 
 pub field_shortens : (name input value rest : List ℕ) → HasField name input value rest → length rest < length input
 field_shortens name input value rest it =

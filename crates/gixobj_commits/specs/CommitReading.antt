@@ -1,12 +1,12 @@
 -- What the parts of a commit's reader answer, from the left.
-use Rattle.std.specs.Prelude.{◌≡◌, ◌≢◌, ℕ, List, [], ◌∷◌, ◌++◌, All, Option, Some, None, codes}
+use Rattle.std.specs.Prelude.{◌≡◌, ◌≢◌, ◌⊎◌, ℕ, List, [], ◌∷◌, ◌++◌, All, Option, Some, None, codes}
 use Rattle.std.specs.List.{flat_map}
 use Rattle.gixobj_ids.specs.Hash.Hex.{IsHexOf}
-use Rattle.gixobj_fields.specs.HeaderText.{HasField, HasHeader, Header}
+use Rattle.gixobj_fields.specs.HeaderText.{BeginsHeader, HasField, HasHeader, Header, field_text}
 use Rattle.gixobj_ids.specs.declared.decode.Error.{Error}
 use Rattle.gixobj_ids.specs.declared.decode.Error.TheVariants.{Malformed, OutOfMemory}
 use Rattle.gixobj_ids.specs.declared.hash.kind.Kind.{Kind}
-use Rattle.gixobj_commits.specs.Commit.{IsNoCommitText, NamesActor, parent_text}
+use Rattle.gixobj_commits.specs.Commit.{IsNoCommitText, NamesActor, encoding_text, parent_text}
 use Rattle.gixobj_texts.specs.Bytes.{newline, space}
 
 -- the input begins with a field whose value is the hex text of an id
@@ -57,11 +57,50 @@ HasHeaders input (header ∷ headers) rest = (after : List ℕ) × HasHeader inp
 abbrev pub HasNoHeaders : List ℕ → Type 0
 HasNoHeaders input = (headers : List Header) (rest : List ℕ) → ¬ HasHeaders input headers rest
 
--- why a part is not read: it is none, or memory was wanting
-abbrev pub RefusesUnless : Type 0 → Error → Type 0
-RefusesUnless IsNone Malformed = IsNone
-RefusesUnless IsNone OutOfMemory = Unit {0}
+-- the input begins with two parents
+pub record BeginsTwoParents (kind : Kind) (input : List ℕ) : Type 0 where
+  pub first : List ℕ
+  pub second : List ℕ
+  pub rest : List ℕ
+  pub joined : input ≡ parent_text first ++ parent_text second ++ rest
+  pub first_hex : IsHexOf kind first
+  pub second_hex : IsHexOf kind second
 
--- why no commit is read: the text is none's, or memory was wanting
+-- why the parents are not read: memory is taken for the second
+abbrev pub RefusesParents : Kind → List ℕ → Error → Type 0
+RefusesParents kind input Malformed = HasNoParents kind input
+RefusesParents kind input OutOfMemory = BeginsTwoParents kind input
+
+-- why the headers are not read: memory is taken for the first
+abbrev pub RefusesHeaders : List ℕ → Error → Type 0
+RefusesHeaders input Malformed = HasNoHeaders input
+RefusesHeaders input OutOfMemory = BeginsHeader input
+
+-- the text begins as a commit's, down to a second parent
+pub record ReachesSecondParent (kind : Kind) (text : List ℕ) : Type 0 where
+  pub tree : List ℕ
+  pub rest : List ℕ
+  pub has_tree : HasId (codes "tree") kind text tree rest
+  pub parents : BeginsTwoParents kind rest
+
+-- the text begins as a commit's, down to a first extra header
+pub record ReachesHeader (kind : Kind) (text : List ℕ) : Type 0 where
+  pub tree : List ℕ
+  pub parents : List (List ℕ)
+  pub author : List ℕ
+  pub committer : List ℕ
+  pub encoding : Option (List ℕ)
+  pub rest : List ℕ
+  pub joined : text ≡ field_text (codes "tree") tree ++ flat_map parent_text parents
+      ++ field_text (codes "author") author ++ field_text (codes "committer") committer ++ encoding_text encoding ++ rest
+  pub tree_hex : IsHexOf kind tree
+  pub parents_hex : All (IsHexOf kind) parents
+  pub names_author : NamesActor author
+  pub names_committer : NamesActor committer
+  pub has_encoding : HasEncoding (encoding_text encoding ++ rest) encoding rest
+  pub header : BeginsHeader rest
+
+-- why no commit is read: the text is none's, or memory was wanting, which a second parent and extra headers alone take
 abbrev pub RefusesCommit : Kind → List ℕ → Error → Type 0
-RefusesCommit kind text error = RefusesUnless (IsNoCommitText kind text) error
+RefusesCommit kind text Malformed = IsNoCommitText kind text
+RefusesCommit kind text OutOfMemory = ReachesSecondParent kind text ⊎ ReachesHeader kind text

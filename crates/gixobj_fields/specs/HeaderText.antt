@@ -67,6 +67,15 @@ pub record HasHeader (input : List ℕ) (header : Header) (rest : List ℕ) : Ty
 abbrev pub HasNoHeader : List ℕ → Type 0
 HasNoHeader input = (header : Header) (rest : List ℕ) → ¬ HasHeader input header rest
 
+-- the input begins with the name of a header and its first line
+pub record BeginsHeader (input : List ℕ) : Type 0 where
+  pub name : List ℕ
+  pub first : List ℕ
+  pub rest : List ℕ
+  pub joined : input ≡ field_text name first ++ rest
+  pub named : IsHeaderName name
+  pub one_line : IsFree newline first
+
 -- the input begins with a header whose first line is followed by another
 pub record BeginsSeveralLines (input : List ℕ) : Type 0 where
   pub name : List ℕ

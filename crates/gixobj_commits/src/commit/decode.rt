@@ -3,7 +3,7 @@ ghost use Rattle.std.specs.Prelude.{◌≡◌, ◌≢◌, ◌∷◌, ℕ, List, 
 ghost use Rattle.bstr.specs.BStr.{bstr_bytes};
 ghost use Rattle.gixobj_fields.specs.HeaderReading.{header_of};
 ghost use Rattle.gixobj_commits.specs.Commit.{IsCommitText};
-ghost use Rattle.gixobj_commits.specs.CommitReading.{HasActor, HasEncoding, HasHeaders, HasId, HasNoActor, HasNoEncoding, HasNoHeaders, HasNoId, HasNoParents, HasParents, RefusesCommit, RefusesUnless};
+ghost use Rattle.gixobj_commits.specs.CommitReading.{HasActor, HasEncoding, HasHeaders, HasId, HasNoActor, HasNoEncoding, HasNoId, HasParents, RefusesCommit, RefusesHeaders, RefusesParents};
 ghost use Rattle.gixobj_commits.specs.CommitViews.{bytes_if_some, commit_lines};
 ghost use Rattle.gixobj_commits.specs.CommitWriting.{HasIds};
 ghost use Rattle.gixobj_texts.specs.Bytes.{newline};
@@ -23,8 +23,8 @@ impl<'a> CommitRef<'a> {
     /// The commit that the bytes are, with ids of this kind.
     ///
     /// `Malformed` where they are no commit's text, down to the empty line before the message. Memory is
-    /// taken for a second parent, for extra headers and for their values of several lines;
-    /// `OutOfMemory` where it was wanting.
+    /// taken for a second parent, for extra headers and for their values of several lines, and
+    /// `OutOfMemory` comes only where such a parent or header was reached.
     pub fn from_bytes(
         alloc: Global,
         bytes: &'a [u8],
@@ -92,7 +92,7 @@ fn actor_line<'a>(input: &'a [u8], name: &[u8]) -> Option<(BStr<'a>, &'a [u8])>
 #[tactic(auto, using(crate::proofs::CommitParts::parents_start, crate::proofs::CommitParts::parents_end, crate::proofs::CommitParts::id_shortens))]
 fn parents(alloc: Global, input: &[u8], kind: Kind) -> Result<(SmallVec<BStr<'_>, 1>, &[u8]), Error>
     ensures found { IfOk result (λ it. HasParents kind input.now (map bstr_bytes it.0.items) it.1.now) }
-    ensures refusal { IfErr result (RefusesUnless (HasNoParents kind input.now)) }
+    ensures refusal { IfErr result (RefusesParents kind input.now) }
 {
     let mut parents = SmallVec::new(alloc);
     let mut rest = input;
@@ -127,7 +127,7 @@ fn extra_headers(
     input: &[u8],
 ) -> Result<(Vec<(BStr<'_>, CowSlice<'_, u8>)>, &[u8]), Error>
     ensures found { IfOk result (λ it. HasHeaders input.now (map header_of it.0.items) (newline ∷ it.1.now)) }
-    ensures refusal { IfErr result (RefusesUnless (HasNoHeaders input.now)) }
+    ensures refusal { IfErr result (RefusesHeaders input.now) }
 {
     let mut headers = Vec::new(alloc);
     let mut rest = input;
