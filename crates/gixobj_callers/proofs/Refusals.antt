@@ -1,5 +1,5 @@
 -- Why a caller is refused, by cases of the errors.
-use Rattle.std.proofs.Common.{◌≡◌, ℕ, List, Result, Ok, Err, refl}
+use Rattle.std.proofs.Common.{◌≡◌, ℕ, List, Result, Ok, Err, refl, subst}
 use Rattle.std.specs.Prelude.{IfErr, IfOk}
 use Rattle.gixobj_base.specs.Streams.{SinkView}
 use Rattle.gixobj_base.specs.Writing.{FailsAsSink}
@@ -7,7 +7,7 @@ use Rattle.gixobj_base.specs.fields.encode.Error as encode
 use Rattle.gixobj_base.specs.fields.encode.Error.TheVariants as written
 use Rattle.gixobj_base.specs.ids.decode.Error.{Error}
 use Rattle.gixobj_base.specs.ids.decode.Error.TheVariants.{Malformed, OutOfMemory}
-use Rattle.gixobj_base.specs.Hash.Hex.{spelled_id}
+use Rattle.gixobj_base.specs.Hash.{Spells}
 use Rattle.gixobj_base.specs.ids.hash.kind.Kind.{Kind}
 use Rattle.gixobj_base.specs.ids.hash.object_id.ObjectId.{ObjectId}
 use Rattle.gixobj_codec.specs.Commit.{CommitLines, IsCommitText, IsNoCommitText}
@@ -54,15 +54,15 @@ message_refused reader Malformed has fault = absurd (has fault)
 message_refused reader OutOfMemory has fault = refl
 
 -- the tree of each commit that the text is
-pub value_is : (kind : Kind) (text : List ℕ) (result : Result ObjectId Error) → ((commit : CommitLines) → IsCommitText kind text commit → result ≡ Ok (spelled_id commit.tree))
-    → IfOk result (λ id. (commit : CommitLines) → IsCommitText kind text commit → id ≡ spelled_id commit.tree)
-value_is kind text (Ok id) found = λ commit is. let same = found commit is in cc same
-value_is kind text (Err error) found = tt
+pub tree_is : (kind : Kind) (text : List ℕ) (result : Result ObjectId Error) → ((commit : CommitLines) → IsCommitText kind text commit → (id : ObjectId) × (result ≡ Ok id) × Spells commit.tree id)
+    → IfOk result (λ id. (commit : CommitLines) → IsCommitText kind text commit → Spells commit.tree id)
+tree_is kind text (Ok id) found = λ commit is. let (other, same, spells) = found commit is in let this : other ≡ id = cc same in subst (Spells commit.tree) this spells
+tree_is kind text (Err error) found = tt
 
-pub value_there : (kind : Kind) (text : List ℕ) (result : Result ObjectId Error) → ((commit : CommitLines) → IsCommitText kind text commit → result ≡ Ok (spelled_id commit.tree))
+pub tree_there : (kind : Kind) (text : List ℕ) (result : Result ObjectId Error) → ((commit : CommitLines) → IsCommitText kind text commit → (id : ObjectId) × (result ≡ Ok id) × Spells commit.tree id)
     → IfErr result (λ error. IsNoCommitText kind text)
-value_there kind text (Ok id) found = tt
-value_there kind text (Err error) found = λ commit is. let same = found commit is in cc same
+tree_there kind text (Ok id) found = tt
+tree_there kind text (Err error) found = λ commit is. let same = (found commit is).1 in cc same
 
 -- what is so of each is so of all
 pub all_given : {T E X : Type 0} {Q : X → Type 0} (P : X → T → Type 0) (result : Result T E) → ((x : X) → Q x → IfOk result (P x)) → IfOk result (λ value. (x : X) → Q x → P x value)

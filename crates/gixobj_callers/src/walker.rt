@@ -1,7 +1,8 @@
 //! A walker of commits, which needs parts of a commit and doesn't read it whole.
-ghost use Rattle.std.specs.Prelude.{◌≡◌, IfErr, IfOk, IsTrue, map};
+ghost use Rattle.std.specs.Prelude.{◌≡◌, IfErr, IfOk, IsTrue};
+ghost use Rattle.std.specs.List.{AllZip};
 ghost use Rattle.bstr.specs.BStr.{bstr_bytes};
-ghost use Rattle.gixobj_base.specs.Hash.Hex.{spelled_id};
+ghost use Rattle.gixobj_base.specs.Hash.{Spells};
 ghost use Rattle.gixobj_base.specs.ids.decode.Error.TheVariants.{OutOfMemory};
 ghost use Rattle.gixobj_codec.specs.Commit.{CommitLines, IsCommitText, IsNoCommitText};
 
@@ -14,7 +15,7 @@ use std::alloc::{AllocError, Global};
 
 /// The tree of a commit. It is refused only where the text is no commit's.
 pub fn tree_of(alloc: Global, text: &[u8], kind: Kind) -> Result<ObjectId, Error>
-    ensures tree { IfOk result (λ id. (commit : CommitLines) → IsCommitText kind text.now commit → id ≡ spelled_id commit.tree) }
+    ensures tree { IfOk result (λ id. (commit : CommitLines) → IsCommitText kind text.now commit → Spells commit.tree id) }
     ensures refusal { IfErr result (λ _. IsNoCommitText kind text.now) }
 {
     ids_are_found();
@@ -23,7 +24,7 @@ pub fn tree_of(alloc: Global, text: &[u8], kind: Kind) -> Result<ObjectId, Error
 
 /// The parents of a commit, in order.
 pub fn parents_of(alloc: Global, text: &[u8], kind: Kind) -> Result<Vec<ObjectId>, AllocError>
-    ensures { IfOk result (λ ids. (commit : CommitLines) → IsCommitText kind text.now commit → ids.items ≡ map spelled_id commit.parents) }
+    ensures { IfOk result (λ ids. (commit : CommitLines) → IsCommitText kind text.now commit → AllZip Spells commit.parents ids.items) }
 {
     ids_are_found();
     CommitRefIter::from_bytes(alloc, text, kind)

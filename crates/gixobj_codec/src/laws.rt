@@ -1,8 +1,7 @@
 //! Laws of commits: most functions here do nothing, and their contract is the law.
 
 pub use gixobj_commits::laws::{
-    commit_has_one_reading, commit_reads_and_writes, commit_writes_back,
-    owned_forms_have_the_parts,
+    commit_has_one_reading, commit_reads_and_writes, commit_writes_back, owned_forms_have_the_parts,
 };
 pub use gixobj_extra_headers::laws::{borrowed_headers_are_found, owned_headers_are_found};
 pub use gixobj_fields::laws::header_reads_back;

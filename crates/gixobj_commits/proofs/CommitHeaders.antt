@@ -1,6 +1,6 @@
 -- The extra headers of a commit, up to an empty line: read in one way, and the same as a join of their texts.
-use Rattle.std.proofs.Common.{◌≡◌, ◌≢◌, ◌<◌, ℕ, List, [], ◌∷◌, ◌++◌, length, arith, refl, sym, ap, subst, ◌∙◌, append_assoc, length-append}
-use Rattle.std.proofs.lemmas.List.Elements.{All-head}
+use Rattle.std.proofs.Common.{◌≡◌, ◌≢◌, ◌<◌, ℕ, List, [], ◌∷◌, ◌++◌, All, length, arith, refl, sym, ap, subst, ◌∙◌, append_assoc, length-append}
+use Rattle.std.proofs.lemmas.List.Elements.{All-head, All-push}
 use Rattle.std.specs.List.{flat_map}
 use Rattle.std.specs.Prelude.{map}
 use Rattle.std.proofs.lemmas.List.{map_push}
@@ -9,7 +9,7 @@ use Rattle.std.specs.declared.borrow.CowSlice.{CowSlice}
 use Rattle.bstr.specs.declared.bstr.BStr.{BStr}
 use Rattle.gixobj_fields.proofs.HeaderFields.{one_header}
 use Rattle.gixobj_texts.proofs.Splits.{one_cut}
-use Rattle.gixobj_fields.specs.HeaderReading.{RefusesHeaderField, header_of}
+use Rattle.gixobj_fields.specs.HeaderReading.{BorrowsOneLine, RefusesHeaderField, header_of}
 use Rattle.gixobj_fields.specs.HeaderText.{BeginsHeader, BeginsSeveralLines, EndsHeader, HasHeader, HasNoHeader, Header, IsHeaderName, IsHeaderText, field_text, following_text}
 use Rattle.gixobj_texts.specs.Parse.{IsFree}
 use Rattle.gixobj_ids.specs.declared.decode.Error.{Error}
@@ -146,6 +146,10 @@ begins_with_first input rest (header ∷ headers) (after, one, more) begins = fi
 pub headers_full : (input rest after : List ℕ) (headers : List (BStr × CowSlice ℕ Global)) (header : BStr × CowSlice ℕ Global) (error : Error) → error ≡ OutOfMemory
     → ReadsHeaders input (map header_of headers) rest → HasHeader rest (header_of header) after → RefusesHeaders input error
 headers_full input rest after headers header error same so_far one = rw same (begins_with_first input rest (map header_of headers) so_far (first_of_header rest (header_of header) after one))
+
+pub borrows_more : (headers grown : List (BStr × CowSlice ℕ Global)) (header : BStr × CowSlice ℕ Global) → All (λ it. BorrowsOneLine it.1) headers → BorrowsOneLine header.1
+    → grown ≡ headers ++ header ∷ [] → All (λ it. BorrowsOneLine it.1) grown
+borrows_more headers grown header so_far one same = rw same (All-push (λ it. BorrowsOneLine it.1) headers header so_far one)
 
 -- one header is refused, and so are all
 pub headers_refuse : (input rest : List ℕ) (headers : List Header) (error reason : Error) → error ≡ reason → ReadsHeaders input headers rest → ((tail : List ℕ) → rest ≢ 10 ∷ tail)

@@ -1,5 +1,6 @@
 //! Commits (gitdatamodel, "commits").
 ghost use Rattle.std.specs.Prelude.{◌≡◌, All, IfErr, IfOk, map};
+ghost use Rattle.std.specs.List.{AllZip};
 ghost use Rattle.bstr.specs.BStr.{bstr_bytes};
 ghost use Rattle.gixobj_actors.specs.Actor.{IsActor, IsNoActor};
 ghost use Rattle.gixobj_ids.specs.Hash.{IsHexOfAnId, Spells, id_kind};
@@ -11,7 +12,7 @@ ghost use Rattle.gixobj_commits.specs.CommitViews.{commit_lines};
 ghost use Rattle.gixobj_commits.specs.CommitWriting.{HasIds};
 ghost use Rattle.gixobj_extra_headers.specs.ExtraHeaders.{hash_kind_of, iterator_of};
 ghost use Rattle.gixobj_extra_headers.specs.HeadersLeft.{headers_left, owned_headers_left};
-ghost use Rattle.gixobj_ids.specs.Hash.Hex.{IsHexOf, spelled_id};
+ghost use Rattle.gixobj_ids.specs.Hash.Hex.{IsHexOf};
 
 mod decode;
 mod owned;
@@ -83,7 +84,7 @@ impl<'a> CommitRef<'a> {
     /// The ids of the parents, in order. It takes no memory.
     pub fn parents(&self) -> Parents<'_>
         requires { All IsHexOfAnId (commit_lines self.now).parents }
-        ensures { parents_left result ≡ map spelled_id (commit_lines self.now).parents }
+        ensures { AllZip Spells (commit_lines self.now).parents (parents_left result) }
     {
         Parents::new(self.parents.as_slice())
     }

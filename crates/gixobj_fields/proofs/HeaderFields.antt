@@ -1,8 +1,8 @@
 -- Header fields, cut from the left: made of their parts, and read in one way.
-use Rattle.std.proofs.Common.{◌≡◌, ◌≢◌, ◌+◌, ◌<◌, ℕ, List, [], ◌∷◌, ◌++◌, All, length, arith, refl, sym, ap, subst, ◌∙◌, append_assoc, length-append}
+use Rattle.std.proofs.Common.{◌≡◌, ◌≢◌, ◌+◌, ◌<◌, ℕ, List, [], ◌∷◌, ◌++◌, All, length, arith, refl, sym, ap, subst, ◌∙◌, append_assoc, length-append, Contains, lit<}
 use Rattle.std.proofs.lemmas.List.{append_cancel_left, append-nil}
 use Rattle.std.proofs.lemmas.List.Concat.{flat_map-append}
-use Rattle.std.proofs.lemmas.List.Elements.{All-head, All-nil, All-push, All-tail}
+use Rattle.std.proofs.lemmas.List.Elements.{All-head, All-nil, All-push, All-tail, Contains-append_left, Contains-append_right}
 use Rattle.std.proofs.lemmas.Bool.Decides.{Decides-eqb}
 use Rattle.std.proofs.lemmas.Slice.Eq.{strip_prefix_is}
 use Rattle.std.specs.Borrow.{Bor}
@@ -245,3 +245,9 @@ one_header input h k x y first second =
     let lines = line_cut input h.name _ first.written.first _ k y cut line second in
     let run = one_run first.written.more second.written.more x y first.written.each_one_line second.written.each_one_line first.ends second.ends lines.1 in
     (same_header h k names.0 (first.written.value ∙ ap (λ (it : List ℕ). value_of_lines it first.written.more) lines.0 ∙ ap (value_of_lines second.written.first) run.0 ∙ sym second.written.value), run.1)
+
+-- the value of several lines has a newline
+pub lines_have_newlines : (first input value rest : List ℕ) → IsUnfolded first input value rest → Contains value 10
+lines_have_newlines first input value rest (more, lines, is) =
+    let here : Contains (line_text first) 10 = Contains-append_right first (10 ∷ []) 10 (0, lit< tt, refl) in
+    subst (λ (it : List ℕ). Contains it 10) (sym is) (Contains-append_left (line_text first) (flat_map line_text more) 10 here)

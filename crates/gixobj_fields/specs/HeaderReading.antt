@@ -1,9 +1,10 @@
 -- What readers of header fields answer.
-use Rattle.std.specs.Prelude.{◌≡◌, ℕ, List, ◌∷◌, ◌++◌, All}
+use Rattle.std.specs.Prelude.{◌≡◌, ℕ, List, ◌∷◌, ◌++◌, All, Contains}
 use Rattle.std.specs.Cow.{cow_slice_items}
 use Rattle.std.specs.List.{flat_map}
 use Rattle.std.specs.declared.alloc.Global.{Global}
 use Rattle.std.specs.declared.borrow.CowSlice.{CowSlice}
+use Rattle.std.specs.declared.borrow.CowSlice.TheVariants as slice
 use Rattle.bstr.specs.BStr.{bstr_bytes}
 use Rattle.bstr.specs.Owned.{bstring_bytes}
 use Rattle.bstr.specs.declared.bstr.BStr.{BStr}
@@ -17,6 +18,11 @@ use Rattle.gixobj_texts.specs.Bytes.{newline}
 -- a header as it was read
 abbrev pub header_of : BStr × CowSlice ℕ Global → Header
 header_of it = record { name = bstr_bytes it.0; value = cow_slice_items it.1 }
+
+-- a value of one line is borrowed, one of several is owned
+abbrev pub BorrowsOneLine : CowSlice ℕ Global → Type 0
+BorrowsOneLine (slice.Borrowed line) = IsFree newline line.now
+BorrowsOneLine (slice.Owned lines) = Contains lines.items newline
 
 -- a header of parts of its own
 abbrev pub owned_header_of : BString × BString → Header

@@ -1,6 +1,6 @@
 //! Header fields, read (gitdatamodel, "commits"; gitformat-signature, "Commit signatures").
 ghost use Rattle.std.specs.Prelude.{◌≡◌, ◌≢◌, ◌++◌, ◌∷◌, [], ℕ, List, IfErr, IfOk, IfSome, IfNone, MatchBool, MatchOption};
-ghost use Rattle.gixobj_fields.specs.HeaderReading.{HasNoLines, IsUnfolded, RefusesHeaderField, header_of};
+ghost use Rattle.gixobj_fields.specs.HeaderReading.{BorrowsOneLine, HasNoLines, IsUnfolded, RefusesHeaderField, header_of};
 ghost use Rattle.gixobj_fields.specs.HeaderText.{EndsHeader, HasField, HasHeader, HasNoField, IsHeaderName};
 ghost use Rattle.gixobj_texts.specs.Parse.{IsFree};
 ghost use Rattle.gixobj_ids.specs.declared.decode.Error.TheVariants.{Malformed};
@@ -45,7 +45,7 @@ pub fn after_name<'a>(input: &'a [u8], name: &[u8]) -> Option<&'a [u8]>
 /// The header at the front of the input, of one line or of several, and what follows it.
 ///
 /// Its value is its one line without the newline, or all of its lines with their newlines, less the
-/// space before each but the first. `Malformed` where the input begins with no header. A value of
+/// space before each but the first. One line is borrowed, several are owned. `Malformed` where the input begins with no header. A value of
 /// several lines takes memory, and `OutOfMemory` comes for no other.
 #[tactic(auto, using(crate::proofs::HeaderFields::header_of_one_line, crate::proofs::HeaderFields::header_of_lines))]
 pub fn any_header_field(
@@ -53,6 +53,7 @@ pub fn any_header_field(
     input: &[u8],
 ) -> Result<((BStr<'_>, CowSlice<'_, u8>), &[u8]), Error>
     ensures found { IfOk result (λ it. HasHeader input.now (header_of it.0) it.1.now) }
+    ensures borrowed { IfOk result (λ it. BorrowsOneLine it.0.1) }
     ensures refusal { IfErr result (RefusesHeaderField input.now) }
 {
     let Some((name, behind)) = split_at_byte(input, b' ') else {

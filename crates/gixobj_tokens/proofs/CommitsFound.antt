@@ -4,9 +4,7 @@ use Rattle.std.proofs.lemmas.List.Elements.{All-append, All-cons, All-nil}
 use Rattle.std.specs.List.{AllZip}
 use Rattle.std.specs.Prelude.{map, codes}
 use Rattle.gixobj_actors.specs.Actor.{IsActor}
-use Rattle.gixobj_ids.proofs.HexIds.{one_id}
 use Rattle.gixobj_ids.specs.Hash.{Spells}
-use Rattle.gixobj_ids.specs.Hash.Hex.{spelled_id}
 use Rattle.gixobj_ids.specs.declared.decode.Error.{Error}
 use Rattle.gixobj_ids.specs.declared.decode.Error.TheVariants.{Malformed, OutOfMemory}
 use Rattle.gixobj_ids.specs.declared.hash.kind.Kind.{Kind}
@@ -165,5 +163,5 @@ module _ (kind : Kind) (text : List ℕ) (commit : CommitLines) (reader : Commit
   its_answer (Some (Err OutOfMemory)) after gives = absurd (subst MayComeHeader start.standing gives.1.0)
   its_answer None after gives = absurd (no_token_of_nothing (reader_kind reader) (reader_state reader) (reader_bytes reader) (tree_token whole.are.tree) _ _ gives.0 tree_first.has)
 
-  pub its_tree : (after : CommitRefIter) (result : Result ObjectId Error) → GivesId reader result after → result ≡ Ok (spelled_id commit.tree)
-  its_tree after result (answer, gives, is_answer) = is_answer ∙ its_answer answer after gives ∙ ap (λ (it : ObjectId). Ok it) (one_id commit.tree whole.are.tree whole.are.tree_spelled)
+  pub its_tree : (after : CommitRefIter) (result : Result ObjectId Error) → GivesId reader result after → (id : ObjectId) × (result ≡ Ok id) × Spells commit.tree id
+  its_tree after result (answer, gives, is_answer) = (whole.are.tree, is_answer ∙ its_answer answer after gives, whole.are.tree_spelled)

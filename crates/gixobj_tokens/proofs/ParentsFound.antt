@@ -7,9 +7,7 @@ use Rattle.std.proofs.lemmas.List.Concat.{flat_map-append}
 use Rattle.std.specs.Iterator.{AlwaysYields}
 use Rattle.std.specs.List.{AllZip, flat_map}
 use Rattle.std.specs.Prelude.{map}
-use Rattle.gixobj_ids.proofs.HexIds.{one_id}
 use Rattle.gixobj_ids.specs.Hash.{Spells}
-use Rattle.gixobj_ids.specs.Hash.Hex.{spelled_id}
 use Rattle.gixobj_ids.specs.declared.decode.Error.TheVariants.{Malformed, OutOfMemory}
 use Rattle.gixobj_ids.specs.declared.hash.kind.Kind.{Kind}
 use Rattle.gixobj_ids.specs.declared.hash.object_id.ObjectId.{ObjectId}
@@ -117,16 +115,15 @@ module _ (it : ParentIds) (tokens : List TokenView) (told : Tells (reader_kind (
 always : (ids : List ObjectId) (it : ParentIds) (tokens : List TokenView) → Tells (reader_kind (parents_reader it)) (reader_state (parents_reader it)) (reader_bytes (parents_reader it)) tokens complete
     → parents_of tokens ≡ ids → AlwaysYields GivesParent (λ id. id) it ids
 always [] it tokens told none = λ id after gives. let given = some_given it tokens told id after gives in cc (none, given.first)
-always (id ∷ ids) it tokens told some =
-    (
-      λ after gives. let none = none_given it tokens told after gives in cc (none, some),
-      λ given after gives.
-        let next = some_given it tokens told given after gives in
-        let same : given ∷ parents_of next.others ≡ id ∷ ids = sym next.first ∙ some in
-        let first : given ≡ id = cc same in
-        let more : parents_of next.others ≡ ids = cc same in
-        (first, always ids after next.others next.told more),
-    )
+always (id ∷ ids) it tokens told some = (
+  λ after gives. let none = none_given it tokens told after gives in cc (none, some),
+  λ given after gives.
+      let next = some_given it tokens told given after gives in
+      let same : given ∷ parents_of next.others ≡ id ∷ ids = sym next.first ∙ some in
+      let first : given ≡ id = cc same in
+      let more : parents_of next.others ≡ ids = cc same in
+      (first, always ids after next.others next.told more),
+)
 
 parents_in : (commit : CommitLines) (tokens : List TokenView) → (are : AreTokensOf commit tokens) → parents_of tokens ≡ are.parents
 parents_in commit tokens are =
@@ -144,14 +141,9 @@ parents_in commit tokens are =
     ap parents_of joined ∙ flat_map-append parent_id ids (author ∷ committer ∷ last) ∙ ap (λ (it : List ObjectId). parents_of ids ++ it) (no_parents (author ∷ committer ∷ last) others)
     ∙ append-nil (parents_of ids) ∙ all_parents are.parents
 
-spelled : (hexes : List (List ℕ)) (ids : List ObjectId) → AllZip Spells hexes ids → ids ≡ map spelled_id hexes
-spelled [] [] are = refl
-spelled [] (id ∷ ids) are = absurd are
-spelled (hex ∷ hexes) [] are = absurd are
-spelled (hex ∷ hexes) (id ∷ ids) are = let one = one_id hex id are.0 in let more = spelled hexes ids are.1 in cc (one, more)
-
 pub its_parents : (kind : Kind) (text : List ℕ) (commit : CommitLines) (it : ParentIds) → IsCommitText kind text commit → IsAtStart kind text (parents_reader it)
-    → YieldsList GivesParent (λ id. id) it (map spelled_id commit.parents)
+    → (ids : List ObjectId) × AllZip Spells commit.parents ids × YieldsList GivesParent (λ id. id) it ids
 its_parents kind text commit it is start =
     let whole = commit_told kind text commit is in
-    record { runs = always (map spelled_id commit.parents) it whole.tokens (from_start kind text (parents_reader it) whole.tokens start whole.told) (parents_in commit whole.tokens whole.are ∙ spelled commit.parents whole.are.parents whole.are.parents_spelled) }
+    let told = from_start kind text (parents_reader it) whole.tokens start whole.told in
+    (whole.are.parents, whole.are.parents_spelled, record { runs = always whole.are.parents it whole.tokens told (parents_in commit whole.tokens whole.are) })

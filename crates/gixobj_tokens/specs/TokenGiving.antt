@@ -1,5 +1,5 @@
 -- What a reader of tokens gives.
-use Rattle.std.specs.Prelude.{◌≡◌, ◌≢◌, ℕ, List, [], Option, Some, None, Result, Ok, Err, length}
+use Rattle.std.specs.Prelude.{◌≡◌, ◌≢◌, ℕ, List, [], Option, Some, None, Result, Ok, Err, length, ⊤}
 use Rattle.std.specs.Iterator.{Count, at_most}
 use Rattle.gixobj_ids.specs.declared.decode.Error.{Error}
 use Rattle.gixobj_ids.specs.declared.decode.Error.TheVariants.{Malformed}
@@ -11,6 +11,8 @@ use Rattle.gixobj_tokens.specs.declared.ref_iter.CommitRefIter.{CommitRefIter}
 use Rattle.gixobj_tokens.specs.declared.ref_iter.State.{State}
 use Rattle.gixobj_tokens.specs.declared.ref_iter.State.TheVariants as state
 use Rattle.gixobj_tokens.specs.declared.ref_iter.Token.{Token}
+use Rattle.gixobj_tokens.specs.declared.ref_iter.Token.TheVariants as token
+use Rattle.gixobj_fields.specs.HeaderReading.{BorrowsOneLine}
 
 -- ---- one token
 
@@ -36,14 +38,16 @@ pub record IsAtStart (kind : Kind) (text : List ℕ) (reader : CommitRefIter) : 
 abbrev pub tokens_left : CommitRefIter → Count
 tokens_left reader = at_most (length (reader_bytes reader))
 
--- the reader begins with this token, and then is that one
-abbrev pub ReadsToken : CommitRefIter → TokenView → CommitRefIter → Type 0
-ReadsToken before token after =
-    HasToken (reader_kind before) (reader_state before) (reader_bytes before) token (reader_state after) (reader_bytes after) × (reader_kind after ≡ reader_kind before)
+-- a header's value of one line is borrowed, one of several is owned
+abbrev pub BorrowsValue : Token → Type 0
+BorrowsValue (token.ExtraHeader header) = BorrowsOneLine header.1
+BorrowsValue _ = ⊤
 
 -- what one call answers: the next token; no token, and no bytes are left behind the error; or nothing, without bytes
 abbrev pub GivesToken : CommitRefIter → Option (Result Token Error) → CommitRefIter → Type 0
-GivesToken before (Some (Ok token)) after = ReadsToken before (token_view token) after
+GivesToken before (Some (Ok token)) after =
+    HasToken (reader_kind before) (reader_state before) (reader_bytes before) (token_view token) (reader_state after) (reader_bytes after)
+    × (reader_kind after ≡ reader_kind before) × BorrowsValue token
 GivesToken before (Some (Err error)) after =
     (reader_bytes before ≢ []) × RefusesToken (reader_kind before) (reader_state before) (reader_bytes before) error
     × (reader_bytes after ≡ []) × (reader_kind after ≡ reader_kind before)

@@ -1,7 +1,7 @@
 //! Commits, read whole (gitdatamodel, "commits").
-ghost use Rattle.std.specs.Prelude.{◌≡◌, ◌≢◌, ◌∷◌, ℕ, List, map, IfErr, IfNone, IfOk, IfSome, MatchOption};
+ghost use Rattle.std.specs.Prelude.{◌≡◌, ◌≢◌, ◌∷◌, ℕ, All, List, map, IfErr, IfNone, IfOk, IfSome, MatchOption};
 ghost use Rattle.bstr.specs.BStr.{bstr_bytes};
-ghost use Rattle.gixobj_fields.specs.HeaderReading.{header_of};
+ghost use Rattle.gixobj_fields.specs.HeaderReading.{BorrowsOneLine, header_of};
 ghost use Rattle.gixobj_commits.specs.Commit.{IsCommitText};
 ghost use Rattle.gixobj_commits.specs.CommitReading.{HasActor, HasEncoding, HasHeaders, HasId, HasNoActor, HasNoEncoding, HasNoId, HasParents, RefusesCommit, RefusesHeaders, RefusesParents};
 ghost use Rattle.gixobj_commits.specs.CommitViews.{bytes_if_some, commit_lines};
@@ -20,7 +20,7 @@ use std::alloc::Global;
 use std::borrow::CowSlice;
 
 impl<'a> CommitRef<'a> {
-    /// The commit that the bytes are, with ids of this kind.
+    /// The commit that the bytes are, with ids of this kind. Values of headers of one line are borrowed.
     ///
     /// `Malformed` where they are no commit's text, down to the empty line before the message. Memory is
     /// taken for a second parent, for extra headers and for their values of several lines, and
@@ -32,6 +32,7 @@ impl<'a> CommitRef<'a> {
     ) -> Result<CommitRef<'a>, Error>
         ensures found { IfOk result (λ commit. IsCommitText hash_kind bytes.now (commit_lines commit)) }
         ensures has_ids { IfOk result (λ commit. HasIds (commit_lines commit)) }
+        ensures borrowed { IfOk result (λ commit. All (λ header. BorrowsOneLine header.1) commit.extra_headers.items) }
         ensures refusal { IfErr result (RefusesCommit hash_kind bytes.now) }
     {
         let Some((tree, rest)) = id_line(bytes, b"tree", hash_kind) else {
@@ -127,6 +128,7 @@ fn extra_headers(
     input: &[u8],
 ) -> Result<(Vec<(BStr<'_>, CowSlice<'_, u8>)>, &[u8]), Error>
     ensures found { IfOk result (λ it. HasHeaders input.now (map header_of it.0.items) (newline ∷ it.1.now)) }
+    ensures borrowed { IfOk result (λ it. All (λ header. BorrowsOneLine header.1) it.0.items) }
     ensures refusal { IfErr result (RefusesHeaders input.now) }
 {
     let mut headers = Vec::new(alloc);

@@ -1,8 +1,9 @@
 //! Laws of the two readers of commits. Each function does nothing: its contract is the law.
-ghost use Rattle.std.specs.Prelude.{◌≡◌, ℕ, List, Result, Ok, map};
+ghost use Rattle.std.specs.Prelude.{◌≡◌, ℕ, List, Result, Ok};
+ghost use Rattle.std.specs.List.{AllZip};
 ghost use Rattle.std.proofs.lemmas.Iterator.{YieldsList};
 ghost use Rattle.gixobj_actors.specs.Actor.{IsActor};
-ghost use Rattle.gixobj_ids.specs.Hash.Hex.{spelled_id};
+ghost use Rattle.gixobj_ids.specs.Hash.{Spells};
 ghost use Rattle.gixobj_ids.specs.declared.decode.Error.{Error};
 ghost use Rattle.gixobj_ids.specs.declared.decode.Error.TheVariants.{Malformed};
 ghost use Rattle.gixobj_ids.specs.declared.hash.kind.Kind.{Kind};
@@ -31,9 +32,11 @@ pub fn readers_read_one_language()
 /// Of the text of a commit a reader at its start finds the commit's tree and parents.
 pub fn ids_are_found()
     ensures tree { (kind : Kind) (text : List ℕ) (commit : CommitLines) (reader after : CommitRefIter) (result : Result ObjectId Error) →
-        IsCommitText kind text commit → IsAtStart kind text reader → GivesId reader result after → result ≡ Ok (spelled_id commit.tree) }
+        IsCommitText kind text commit → IsAtStart kind text reader → GivesId reader result after →
+        (id : ObjectId) × (result ≡ Ok id) × Spells commit.tree id }
     ensures parents { (kind : Kind) (text : List ℕ) (commit : CommitLines) (parents : ParentIds) →
-        IsCommitText kind text commit → IsAtStart kind text (parents_reader parents) → YieldsList GivesParent (λ id. id) parents (map spelled_id commit.parents) }
+        IsCommitText kind text commit → IsAtStart kind text (parents_reader parents) →
+        (ids : List ObjectId) × AllZip Spells commit.parents ids × YieldsList GivesParent (λ id. id) parents ids }
 {}
 
 /// Of the text of a commit a reader at its start finds the commit's author and committer, and refuses

@@ -4,6 +4,7 @@ ghost use Rattle.bstr.specs.BStr.{bstr_bytes};
 ghost use Rattle.gixobj_ids.specs.declared.hash.kind.Kind.{Kind};
 ghost use Rattle.gixobj_ids.specs.declared.hash.object_id.ObjectId.{ObjectId};
 ghost use Rattle.gixobj_tokens.specs.CommitTokens.{HasToken, RefusesToken, token_view};
+ghost use Rattle.gixobj_tokens.specs.TokenGiving.{BorrowsValue};
 ghost use Rattle.gixobj_tokens.specs.TokenReading.{SpellsOf, TellsActor, TellsId, TellsNoActor, TellsNoId};
 ghost use Rattle.gixobj_tokens.specs.declared.ref_iter.State.TheVariants as state;
 ghost use Rattle.gixobj_texts.specs.Bytes.{newline};
@@ -29,6 +30,7 @@ pub(super) fn read_token(
     input: &[u8],
 ) -> Result<(Token<'_>, State, &[u8]), Error>
     ensures found { IfOk result (λ it. HasToken kind before input.now (token_view it.0) it.1 it.2.now) }
+    ensures borrowed { IfOk result (λ it. BorrowsValue it.0) }
     ensures refusal { IfErr result (RefusesToken kind before input.now) }
 {
     match before {
@@ -43,6 +45,7 @@ pub(super) fn read_token(
 /// The tree, at the front of the input.
 fn read_tree(kind: Kind, input: &[u8]) -> Result<(Token<'_>, State, &[u8]), Error>
     ensures found { IfOk result (λ it. HasToken kind state.Tree input.now (token_view it.0) it.1 it.2.now) }
+    ensures borrowed { IfOk result (λ it. BorrowsValue it.0) }
     ensures refusal { IfErr result (RefusesToken kind state.Tree input.now) }
 {
     let Some((id, rest)) = id_field(input, b"tree", kind) else {
@@ -54,6 +57,7 @@ fn read_tree(kind: Kind, input: &[u8]) -> Result<(Token<'_>, State, &[u8]), Erro
 /// A parent or, where none comes, the author.
 fn read_parent_or_author(kind: Kind, input: &[u8]) -> Result<(Token<'_>, State, &[u8]), Error>
     ensures found { IfOk result (λ it. HasToken kind state.Parents input.now (token_view it.0) it.1 it.2.now) }
+    ensures borrowed { IfOk result (λ it. BorrowsValue it.0) }
     ensures refusal { IfErr result (RefusesToken kind state.Parents input.now) }
 {
     if let Some(_) = after_name(input, b"parent") {
@@ -71,6 +75,7 @@ fn read_parent_or_author(kind: Kind, input: &[u8]) -> Result<(Token<'_>, State, 
 /// The committer.
 fn read_committer(input: &[u8]) -> Result<(Token<'_>, State, &[u8]), Error>
     ensures found { (kind : Kind) → IfOk result (λ it. HasToken kind state.Committer input.now (token_view it.0) it.1 it.2.now) }
+    ensures borrowed { IfOk result (λ it. BorrowsValue it.0) }
     ensures refusal { (kind : Kind) → IfErr result (RefusesToken kind state.Committer input.now) }
 {
     let Some((signature, rest)) = actor_field(input, b"committer") else {
@@ -82,6 +87,7 @@ fn read_committer(input: &[u8]) -> Result<(Token<'_>, State, &[u8]), Error>
 /// The encoding or, where none comes, a header or the message.
 fn read_encoding_or_header(alloc: Global, input: &[u8]) -> Result<(Token<'_>, State, &[u8]), Error>
     ensures found { (kind : Kind) → IfOk result (λ it. HasToken kind state.Encoding input.now (token_view it.0) it.1 it.2.now) }
+    ensures borrowed { IfOk result (λ it. BorrowsValue it.0) }
     ensures refusal { (kind : Kind) → IfErr result (RefusesToken kind state.Encoding input.now) }
 {
     let Some(_) = after_name(input, b"encoding") else {
@@ -100,6 +106,7 @@ fn read_encoding_or_header(alloc: Global, input: &[u8]) -> Result<(Token<'_>, St
 /// A header or, behind an empty line, the message.
 fn read_header_or_message(alloc: Global, input: &[u8]) -> Result<(Token<'_>, State, &[u8]), Error>
     ensures found { (kind : Kind) → IfOk result (λ it. HasToken kind state.ExtraHeaders input.now (token_view it.0) it.1 it.2.now) }
+    ensures borrowed { IfOk result (λ it. BorrowsValue it.0) }
     ensures refusal { (kind : Kind) → IfErr result (RefusesToken kind state.ExtraHeaders input.now) }
 {
     if let Some(message) = after_newline(input) {

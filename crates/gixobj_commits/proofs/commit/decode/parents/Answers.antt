@@ -12,12 +12,11 @@ returns-in_default-clause-refusal c =
     parents_cut c.args.kind c.args.input.now c.loop-kind.rest.now (map bstr_bytes c.loop-kind.parents.items) c.loop-kind.invariant.0 named c.in_default.ensures.none
 
 pub loop-kind-preserved : goal.loop-kind-preserved
-loop-kind-preserved c =
-    (
-      parents_step c.args.kind c.args.input.now c.loop-kind.rest.now c.in-Some.after.now c.loop-kind.parents.items c.push.new.self.items c.in-Some.parent
+loop-kind-preserved c = (
+  parents_step c.args.kind c.args.input.now c.loop-kind.rest.now c.in-Some.after.now c.loop-kind.parents.items c.push.new.self.items c.in-Some.parent
       c.loop-kind.invariant.0 c.in-Some.ensures.found c.in_ok-push.ensures.ok,
-      omega (arith, c.loop-kind.invariant.1, c.in_ok-push.ensures.capacity),
-    )
+  omega (arith, c.loop-kind.invariant.1, c.in_ok-push.ensures.capacity),
+)
 
 pub returns-in_err-push-clause-refusal : goal.returns-in_err-push-clause-refusal
 returns-in_err-push-clause-refusal c =
