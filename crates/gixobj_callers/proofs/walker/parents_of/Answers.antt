@@ -14,5 +14,5 @@ returns c =
     (
       λ commit is.
         let (ids, spelled, listed) = c.ids_are_found.ensures.parents c.args.kind c.args.text.now commit c.parent_ids.result is start in
-        IfOk-weaker c.collect.result _ _ (λ it same. subst (AllZip Spells commit.parents) (sym same) spelled) (items_from_collect c.collect.result c.collect.ensures.ran listed),
+        IfOk-weaker c.collect.result _ _ (λ it same. subst (AllZip Spells commit.parents) (sym same) spelled) (items_from_collect c.collect.result c.collect.ensures.ran listed)
     )
