@@ -4,4 +4,5 @@ pub mod HeadersBack
 pub mod Joins
 pub mod Puts
 pub mod Refusals
+pub mod Runs
 pub mod Steps

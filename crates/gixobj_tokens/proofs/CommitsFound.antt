@@ -12,13 +12,15 @@ use Rattle.gixobj_ids.specs.declared.hash.object_id.ObjectId.{ObjectId}
 use Rattle.gixobj_commits.specs.Commit.{CommitLines, IsCommitText}
 use Rattle.gixobj_tokens.proofs.CommitsTold.{First, first, no_token_of_nothing}
 use Rattle.gixobj_tokens.proofs.OneToken.{one_token}
-use Rattle.gixobj_tokens.proofs.RunFronts.{Stands, behind_first, finds_it, lacks_none}
+use Rattle.gixobj_fields.proofs.Runs.{Stands, finds_it, lacks_none}
 use Rattle.gixobj_tokens.proofs.ToldCommits.{ToldCommit, commit_told}
-use Rattle.gixobj_tokens.specs.CommitRuns.{Ending, Tells, broken, complete}
+use Rattle.gixobj_fields.specs.Runs.{Ending, broken, complete}
+use Rattle.gixobj_tokens.specs.CommitRuns.{Tells}
 use Rattle.gixobj_tokens.specs.CommitTokens.{HasToken, MayComeHeader, TokenView, author_token, committer_token, encoding_token, header_token, message_token, parent_token, token_view, tree_token}
 use Rattle.gixobj_tokens.specs.Readers.{AreTokensOf, encoding_tokens}
 use Rattle.gixobj_tokens.specs.TokenGiving.{GivesId, GivesToken, IsAtStart, answered_id, id_or_malformed, reader_bytes, reader_kind, reader_state, token_id}
-use Rattle.gixobj_tokens.specs.TokenPassing.{FindsAuthor, FindsCommitter, FindsFault, FindsMessage, FindsNone, HasNone, IsAuthorToken, IsCommitterToken, IsMessageToken, LacksAll}
+use Rattle.gixobj_fields.specs.Runs.{HasNone}
+use Rattle.gixobj_tokens.specs.TokenPassing.{FindsAuthor, FindsCommitter, FindsFault, FindsFirst, FindsMessage, FindsNone, IsAuthorToken, IsCommitterToken, IsMessageToken, LacksAll}
 use Rattle.gixobj_tokens.specs.declared.ref_iter.CommitRefIter.{CommitRefIter}
 use Rattle.gixobj_tokens.specs.declared.ref_iter.State.{State}
 use Rattle.gixobj_tokens.specs.declared.ref_iter.State.TheVariants as state
@@ -118,35 +120,45 @@ module _ (kind : Kind) (text : List ℕ) (commit : CommitLines) (reader : Commit
   told : Tells (reader_kind reader) (reader_state reader) (reader_bytes reader) whole.tokens complete
   told = from_start kind text reader whole.tokens start whole.told
 
+  finds_token : (Is : TokenView → Type 0) (token y : TokenView) → FindsFirst Is reader token → Is token → Stands Is whole.tokens y → token ≡ y
+  finds_token Is token y finds is stands =
+      let kind' = reader_kind reader in
+      finds_it (HasToken kind') (one_token kind') (no_token_of_nothing kind') Is (reader_state reader) (reader_bytes reader) token whole.tokens y finds is told stands
+
+  lacks_token : (Is : TokenView → Type 0) (ending : Ending) (y : TokenView) → LacksAll Is reader ending → Stands Is whole.tokens y → ⊥
+  lacks_token Is ending y lacks stands =
+      let kind' = reader_kind reader in
+      lacks_none (HasToken kind') (one_token kind') (no_token_of_nothing kind') Is (reader_state reader) (reader_bytes reader) ending whole.tokens y lacks told stands
+
   pub its_author : (name email time : List ℕ) → FindsAuthor reader name email time → IsActor commit.author name email time
   its_author name email time finds =
-      let same = finds_it IsAuthorToken reader (author_token name email time) whole.tokens _ finds tt told (author_stands commit whole.tokens whole.are) in
+      let same = finds_token IsAuthorToken (author_token name email time) _ finds tt (author_stands commit whole.tokens whole.are) in
       let name' : name ≡ whole.are.author.name = cc same in
       let email' : email ≡ whole.are.author.email = cc same in
       let time' : time ≡ whole.are.author.time = cc same in
       rw (name', email', time') whole.are.is_author
 
   pub has_author : ¬ FindsNone IsAuthorToken reader Malformed
-  has_author = λ (ending, lacks). lacks_none IsAuthorToken reader ending whole.tokens _ lacks told (author_stands commit whole.tokens whole.are)
+  has_author = λ (ending, lacks). lacks_token IsAuthorToken ending _ lacks (author_stands commit whole.tokens whole.are)
 
   pub its_committer : (name email time : List ℕ) → FindsCommitter reader name email time → IsActor commit.committer name email time
   its_committer name email time finds =
-      let same = finds_it IsCommitterToken reader (committer_token name email time) whole.tokens _ finds tt told (committer_stands commit whole.tokens whole.are) in
+      let same = finds_token IsCommitterToken (committer_token name email time) _ finds tt (committer_stands commit whole.tokens whole.are) in
       let name' : name ≡ whole.are.committer.name = cc same in
       let email' : email ≡ whole.are.committer.email = cc same in
       let time' : time ≡ whole.are.committer.time = cc same in
       rw (name', email', time') whole.are.is_committer
 
   pub has_committer : ¬ FindsNone IsCommitterToken reader Malformed
-  has_committer = λ (ending, lacks). lacks_none IsCommitterToken reader ending whole.tokens _ lacks told (committer_stands commit whole.tokens whole.are)
+  has_committer = λ (ending, lacks). lacks_token IsCommitterToken ending _ lacks (committer_stands commit whole.tokens whole.are)
 
   pub its_message : (message : List ℕ) → FindsMessage reader message → message ≡ commit.message
   its_message message (inl finds) =
-      let same = finds_it IsMessageToken reader (message_token message) whole.tokens _ finds tt told (message_stands commit whole.tokens whole.are) in cc same
-  its_message message (inr (lacks, empty)) = absurd (lacks_none IsMessageToken reader complete whole.tokens _ lacks told (message_stands commit whole.tokens whole.are))
+      let same = finds_token IsMessageToken (message_token message) _ finds tt (message_stands commit whole.tokens whole.are) in cc same
+  its_message message (inr (lacks, empty)) = absurd (lacks_token IsMessageToken complete _ lacks (message_stands commit whole.tokens whole.are))
 
   pub has_message : ¬ FindsFault IsMessageToken reader Malformed
-  has_message = λ lacks. lacks_none IsMessageToken reader broken whole.tokens _ lacks told (message_stands commit whole.tokens whole.are)
+  has_message = λ lacks. lacks_token IsMessageToken broken _ lacks (message_stands commit whole.tokens whole.are)
 
   -- ---- the tree
 

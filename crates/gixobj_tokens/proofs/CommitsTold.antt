@@ -10,7 +10,8 @@ use Rattle.gixobj_ids.specs.declared.hash.kind.Kind.{Kind}
 use Rattle.gixobj_ids.specs.declared.hash.object_id.ObjectId.{ObjectId}
 use Rattle.gixobj_tokens.proofs.ToldCommits.{grouped, hex_of_id}
 use Rattle.gixobj_commits.specs.Commit.{AreHeaderTexts, CommitLines, IsCommitText, IsEncoding, NamesActor, encoding_text, parent_text}
-use Rattle.gixobj_tokens.specs.CommitRuns.{Tells, complete, tells_token}
+use Rattle.gixobj_fields.specs.Runs.{complete, tells_piece}
+use Rattle.gixobj_tokens.specs.CommitRuns.{Tells}
 use Rattle.gixobj_tokens.specs.CommitTokens.{HasToken, IsTokenText, TokenView, author_token, committer_token, encoding_token, header_token, message_token, parent_token, state_behind, tree_token}
 use Rattle.gixobj_tokens.specs.Readers.{EndsInMessage}
 use Rattle.gixobj_tokens.specs.declared.ref_iter.State.{State}
@@ -26,7 +27,7 @@ pub record First (kind : Kind) (before : State) (input : List ℕ) (token : Toke
   pub told : Tells kind behind rest tokens complete
 
 pub first : (kind : Kind) (before : State) (input : List ℕ) (token : TokenView) (tokens : List TokenView) → Tells kind before input (token ∷ tokens) complete → First kind before input token tokens
-first kind before input token tokens (tells_token _ behind _ rest _ _ _ has told) = record { behind = behind; rest = rest; has = has; told = told }
+first kind before input token tokens (tells_piece _ behind _ rest _ _ _ has told) = record { behind = behind; rest = rest; has = has; told = told }
 
 long : (front value : List ℕ) → 0 < length (front ++ 32 ∷ value)
 long front value = omega (arith, length-append front (32 ∷ value))

@@ -3,7 +3,6 @@ mod CommitsTold
 mod OneLanguage
 mod OneToken
 mod ParentsFound
-mod RunFronts
 mod TokenCases
 mod TokenFilterSteps
 mod TokenRefusals

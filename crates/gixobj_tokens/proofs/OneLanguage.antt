@@ -6,7 +6,8 @@ use Rattle.gixobj_tokens.proofs.CommitsTold.{told_commit}
 use Rattle.gixobj_tokens.proofs.TokenRuns.{one_run}
 use Rattle.gixobj_tokens.proofs.ToldCommits.{commit_told}
 use Rattle.gixobj_commits.specs.Commit.{CommitLines, IsCommitText}
-use Rattle.gixobj_tokens.specs.CommitRuns.{Tells, complete}
+use Rattle.gixobj_fields.specs.Runs.{complete}
+use Rattle.gixobj_tokens.specs.CommitRuns.{Tells}
 use Rattle.gixobj_tokens.specs.CommitTokens.{TokenView, author_token, committer_token, encoding_token, header_token, message_token, parent_token, tree_token}
 use Rattle.gixobj_tokens.specs.Readers.{AreTokensOf, EndsInMessage, encoding_tokens}
 use Rattle.gixobj_tokens.specs.declared.ref_iter.State.TheVariants as state

@@ -13,15 +13,19 @@ use Rattle.gixobj_ids.specs.declared.hash.kind.Kind.{Kind}
 use Rattle.gixobj_ids.specs.declared.hash.object_id.ObjectId.{ObjectId}
 use Rattle.gixobj_commits.specs.Commit.{CommitLines, IsCommitText}
 use Rattle.gixobj_tokens.proofs.CommitsFound.{cut_at_author, from_start, none_in_encoding, none_mapped}
-use Rattle.gixobj_tokens.proofs.RunFronts.{behind_first, behind_passed}
+use Rattle.gixobj_fields.proofs.Runs.{behind_first, behind_passed}
+use Rattle.gixobj_tokens.proofs.CommitsTold.{no_token_of_nothing}
+use Rattle.gixobj_tokens.proofs.OneToken.{one_token}
 use Rattle.gixobj_tokens.proofs.ToldCommits.{commit_told}
 use Rattle.gixobj_tokens.proofs.TokenRuns.{one_run}
-use Rattle.gixobj_tokens.specs.CommitRuns.{Ending, Tells, complete, tells_end, tells_error, tells_token}
+use Rattle.gixobj_fields.specs.Runs.{Ending, complete, tells_end, tells_error, tells_piece}
+use Rattle.gixobj_tokens.specs.CommitRuns.{Tells}
 use Rattle.gixobj_tokens.specs.CommitTokens.{HasToken, MayComeHeader, TokenView, author_token, committer_token, encoding_token, header_token, message_token, parent_token, state_behind, tree_token}
 use Rattle.gixobj_tokens.specs.Readers.{AreTokensOf, encoding_tokens}
 use Rattle.gixobj_tokens.specs.TokenFilters.{GivesParent, parents_reader}
 use Rattle.gixobj_tokens.specs.TokenGiving.{IsAtStart, reader_bytes, reader_kind, reader_state}
-use Rattle.gixobj_tokens.specs.TokenPassing.{HasNone, IsParentToken}
+use Rattle.gixobj_fields.specs.Runs.{HasNone}
+use Rattle.gixobj_tokens.specs.TokenPassing.{IsParentToken}
 use Rattle.gixobj_tokens.specs.declared.ref_iter.State.{State}
 use Rattle.gixobj_tokens.specs.declared.ref_iter.State.TheVariants as state
 use Rattle.gixobj_tokens.specs.declared.ref_iter.filters.ParentIds.{ParentIds}
@@ -81,7 +85,7 @@ behind_header state.ExtraHeaders (message_token message) behind may comes = let 
 none_behind : (kind : Kind) (before : State) (input : List ℕ) (tokens : List TokenView) (ending : Ending) → MayComeHeader before → Tells kind before input tokens ending → HasNone IsParentToken tokens
 none_behind kind before input tokens ending may (tells_end _) = All-nil (λ it. ¬ IsParentToken it)
 none_behind kind before input tokens ending may (tells_error _ _ some none) = All-nil (λ it. ¬ IsParentToken it)
-none_behind kind before input tokens ending may (tells_token _ behind _ rest token others _ has told) =
+none_behind kind before input tokens ending may (tells_piece _ behind _ rest token others _ has told) =
     let it = behind_header before token behind may has.comes in
     All-cons (λ it. ¬ IsParentToken it) token others it.0 (none_behind kind behind rest others ending it.1 told)
 
@@ -96,8 +100,9 @@ record Given (id : ObjectId) (tokens : List TokenView) (after : ParentIds) : Typ
 module _ (it : ParentIds) (tokens : List TokenView) (told : Tells (reader_kind (parents_reader it)) (reader_state (parents_reader it)) (reader_bytes (parents_reader it)) tokens complete) where
   some_given : (id : ObjectId) (after : ParentIds) → GivesParent it (Some id) after → Given id tokens after
   some_given id after (before, input, token, (passed, passes, none), has, is, same_kind) =
-      let at = behind_passed _ _ before _ input passed tokens complete passes told in
-      let one = behind_first _ before _ input _ token at.others complete has at.told in
+      let kind = reader_kind (parents_reader it) in
+      let at = behind_passed (HasToken kind) (one_token kind) (no_token_of_nothing kind) (reader_state (parents_reader it)) before (reader_bytes (parents_reader it)) input passed tokens complete passes told in
+      let one = behind_first (HasToken kind) (one_token kind) (no_token_of_nothing kind) before _ input _ token at.others complete has at.told in
       record {
         others = one.others;
         told = subst (λ (kind : Kind). Tells kind (reader_state (parents_reader after)) (reader_bytes (parents_reader after)) one.others complete) (sym same_kind) one.told;
@@ -109,7 +114,8 @@ module _ (it : ParentIds) (tokens : List TokenView) (told : Tells (reader_kind (
       let same = (one_run _ _ _ others tokens ending complete run told).0 in
       no_parents tokens (subst (HasNone IsParentToken) same none)
   none_given after (OutOfMemory, (before, input, (passed, passes, none), refused), ended, same_kind) =
-      let at = behind_passed _ _ before _ input passed tokens complete passes told in
+      let kind = reader_kind (parents_reader it) in
+      let at = behind_passed (HasToken kind) (one_token kind) (no_token_of_nothing kind) (reader_state (parents_reader it)) before (reader_bytes (parents_reader it)) input passed tokens complete passes told in
       ap parents_of at.joined ∙ behind_others passed at.others none ∙ no_parents at.others (none_behind _ before input at.others complete refused.0 at.told)
 
 always : (ids : List ObjectId) (it : ParentIds) (tokens : List TokenView) → Tells (reader_kind (parents_reader it)) (reader_state (parents_reader it)) (reader_bytes (parents_reader it)) tokens complete

@@ -4,7 +4,7 @@ use Rattle.std.specs.Prelude.{Some, None, Result, Ok, Err}
 use Rattle.gixobj_ids.specs.declared.decode.Error.{Error}
 use Rattle.gixobj_ids.specs.declared.decode.Error.TheVariants.{Malformed}
 use Rattle.gixobj_tokens.proofs.TokenRuns.{Seeks, seeks_end, seeks_error, seeks_on, token_there}
-use Rattle.gixobj_tokens.specs.CommitRuns.{complete}
+use Rattle.gixobj_fields.specs.Runs.{complete}
 use Rattle.gixobj_tokens.specs.CommitTokens.{TokenView, token_view}
 use Rattle.gixobj_tokens.specs.TokenFilters.{ReadsFirst, ReadsNone}
 use Rattle.gixobj_tokens.specs.TokenGiving.{GivesToken, reader_bytes, reader_state}

@@ -5,55 +5,27 @@ use Rattle.std.specs.Prelude.{Some, None, Result, Ok, Err}
 use Rattle.gixobj_ids.specs.declared.decode.Error.{Error}
 use Rattle.gixobj_ids.specs.declared.decode.Error.TheVariants.{Malformed, OutOfMemory}
 use Rattle.gixobj_ids.specs.declared.hash.kind.Kind.{Kind}
+use Rattle.gixobj_fields.proofs.Runs as runs
+use Rattle.gixobj_fields.proofs.Runs.{passes_one, tells_passed}
 use Rattle.gixobj_tokens.proofs.CommitsTold.{no_token_of_nothing}
 use Rattle.gixobj_tokens.proofs.OneToken.{one_token}
-use Rattle.gixobj_tokens.specs.CommitRuns.{Ending, Tells, broken, complete, tells_end, tells_error, tells_token}
-use Rattle.gixobj_tokens.specs.CommitTokens.{HasToken, RefusesToken, TokenView, token_view}
+use Rattle.gixobj_fields.specs.Runs.{Ending, broken, complete, tells_end, tells_error, tells_piece}
+use Rattle.gixobj_tokens.specs.CommitRuns.{Tells}
+use Rattle.gixobj_tokens.specs.CommitTokens.{HasToken, IsTokenText, RefusesToken, TokenView, token_view}
 use Rattle.gixobj_tokens.specs.TokenGiving.{GivesToken, reader_bytes, reader_kind, reader_state}
-use Rattle.gixobj_tokens.specs.TokenPassing.{AreTokenTexts, FindsFault, FindsNone, LacksAll, Passes, PassesNone}
+use Rattle.gixobj_tokens.specs.CommitRuns.{Passes}
+use Rattle.gixobj_tokens.specs.TokenPassing.{AreTokenTexts, FindsFault, FindsNone, LacksAll, PassesNone}
 use Rattle.gixobj_tokens.specs.declared.ref_iter.CommitRefIter.{CommitRefIter}
 use Rattle.gixobj_tokens.specs.declared.ref_iter.State.{State}
 use Rattle.gixobj_tokens.specs.declared.ref_iter.Token.{Token}
 
--- ---- passing
-
-pub passes_one : (kind : Kind) (before next behind : State) (input after rest : List ℕ) (tokens : List TokenView) (token : TokenView)
-    → Passes kind before input tokens next after → HasToken kind next after token behind rest → Passes kind before input (tokens ++ token ∷ []) behind rest
-passes_one kind before next behind input after rest [] token (same_state, same_input) has = (behind, rest, rw (same_state, same_input) has, (refl, refl))
-passes_one kind before next behind input after rest (first ∷ tokens) token (middle, further, it, more) has =
-    (middle, further, it, passes_one kind middle next behind further after rest tokens token more has)
-
-pub tells_passed : (kind : Kind) (before behind : State) (input rest : List ℕ) (tokens : List TokenView) (ending : Ending)
-    → Passes kind before input tokens behind rest → Tells kind behind rest [] ending → Tells kind before input tokens ending
-tells_passed kind before behind input rest [] ending (same_state, same_input) tells = rw (same_state, same_input) tells
-tells_passed kind before behind input rest (token ∷ tokens) ending (middle, further, it, more) tells =
-    tells_token before middle input further token tokens ending it (tells_passed kind middle behind further rest tokens ending more tells)
-
--- ---- texts
-
-pub texts_of_run : (kind : Kind) (before : State) (input : List ℕ) (tokens : List TokenView) → Tells kind before input tokens complete → AreTokenTexts kind input tokens
-texts_of_run kind before input tokens (tells_end _) = ([], refl, tt)
-texts_of_run kind before input tokens (tells_token _ behind _ rest token others _ it more) =
-    let texts = texts_of_run kind behind rest others more in
-    (it.text ∷ texts.0, it.joined ∙ ap (λ (tail : List ℕ). it.text ++ tail) texts.1, (it.written, texts.2))
-
--- ---- one run
+-- ---- one run, and the texts of a run
 
 pub one_run : (kind : Kind) (before : State) (input : List ℕ) (a b : List TokenView) (e f : Ending) → Tells kind before input a e → Tells kind before input b f → (a ≡ b) × (e ≡ f)
-one_run kind before input a b e f (tells_end _) (tells_end _) = (refl, refl)
-one_run kind before input a b e f (tells_end _) (tells_error _ _ some none) = absurd (some refl)
-one_run kind before input a b e f (tells_end _) (tells_token _ behind _ rest token _ _ has told) = absurd (no_token_of_nothing kind before [] token behind rest refl has)
-one_run kind before input a b e f (tells_error _ _ some none) (tells_end _) = absurd (some refl)
-one_run kind before input a b e f (tells_error _ _ some none) (tells_error _ _ _ _) = (refl, refl)
-one_run kind before input a b e f (tells_error _ _ some none) (tells_token _ behind _ rest token _ _ has told) = absurd (none token behind rest has)
-one_run kind before input a b e f (tells_token _ behind _ rest token _ _ has told) (tells_end _) = absurd (no_token_of_nothing kind before [] token behind rest refl has)
-one_run kind before input a b e f (tells_token _ behind _ rest token _ _ has told) (tells_error _ _ some none) = absurd (none token behind rest has)
-one_run kind before input a b e f (tells_token _ behind _ rest token tokens _ has told) (tells_token _ behind' _ rest' token' tokens' _ has' told') =
-    let same = one_token kind before input token token' behind behind' rest rest' has has' in
-    let at_state : Tells kind behind rest' tokens' f = subst (λ (s : State). Tells kind s rest' tokens' f) (sym same.1) told' in
-    let at_rest : Tells kind behind rest tokens' f = subst (λ (r : List ℕ). Tells kind behind r tokens' f) (sym same.2) at_state in
-    let more = one_run kind behind rest tokens tokens' e f told at_rest in
-    (cc (same.0, more.0), more.1)
+one_run kind = runs.one_run (HasToken kind) (one_token kind) (no_token_of_nothing kind)
+
+pub texts_of_run : (kind : Kind) (before : State) (input : List ℕ) (tokens : List TokenView) → Tells kind before input tokens complete → AreTokenTexts kind input tokens
+texts_of_run kind = runs.texts_of_run (HasToken kind) (IsTokenText kind) (λ before input token behind rest it. (it.text, it.joined, it.written))
 
 -- ---- a reader that looks for a token
 
@@ -78,7 +50,7 @@ seeks_on Is reader at after item token seeks gives ok other =
     let there = token_there Is reader at after item token seeks gives ok in (
       (
         passed.0 ++ token_view token ∷ [],
-        passes_one (reader_kind reader) (reader_state reader) (reader_state at) (reader_state after) (reader_bytes reader) (reader_bytes at) (reader_bytes after) passed.0 (token_view token) passed.1 there.0,
+        passes_one (HasToken (reader_kind reader)) (reader_state reader) (reader_state at) (reader_state after) (reader_bytes reader) (reader_bytes at) (reader_bytes after) passed.0 (token_view token) passed.1 there.0,
         All-push (λ it. ¬ Is it) passed.0 (token_view token) passed.2 other,
       ),
       there.1,
@@ -95,7 +67,7 @@ fault_of : (Is : TokenView → Type 0) (reader at : CommitRefIter) (error : Erro
 fault_of Is reader at Malformed seeks refused =
     let passed = seeks.0 in
     let tells = tells_error (reader_state at) (reader_bytes at) refused.0 refused.1 in
-    (passed.0, tells_passed (reader_kind reader) (reader_state reader) (reader_state at) (reader_bytes reader) (reader_bytes at) passed.0 broken passed.1 tells, passed.2)
+    (passed.0, tells_passed (HasToken (reader_kind reader)) (reader_state reader) (reader_state at) (reader_bytes reader) (reader_bytes at) passed.0 broken passed.1 tells, passed.2)
 fault_of Is reader at OutOfMemory seeks refused = (reader_state at, reader_bytes at, seeks.0, refused.1)
 
 pub seeks_fault : (Is : TokenView → Type 0) (reader at after : CommitRefIter) (item : Result Token Error) (given error : Error) → given ≡ error → Seeks Is reader at → GivesToken at (Some item) after → item ≡ Err error → FindsFault Is reader given
@@ -112,4 +84,4 @@ pub seeks_end : (Is : TokenView → Type 0) (reader at after : CommitRefIter) �
 seeks_end Is reader at after seeks gives =
     let passed = seeks.0 in
     let tells : Tells (reader_kind reader) (reader_state at) (reader_bytes at) [] complete = rw gives.0 (tells_end (reader_state at)) in
-    (passed.0, tells_passed (reader_kind reader) (reader_state reader) (reader_state at) (reader_bytes reader) (reader_bytes at) passed.0 complete passed.1 tells, passed.2)
+    (passed.0, tells_passed (HasToken (reader_kind reader)) (reader_state reader) (reader_state at) (reader_bytes reader) (reader_bytes at) passed.0 complete passed.1 tells, passed.2)

@@ -14,7 +14,8 @@ use Rattle.gixobj_ids.specs.declared.hash.kind.Kind.{Kind}
 use Rattle.gixobj_ids.specs.declared.hash.kind.Kind.TheVariants as hash
 use Rattle.gixobj_ids.specs.declared.hash.object_id.ObjectId.{ObjectId}
 use Rattle.gixobj_commits.specs.Commit.{AreHeaderTexts, CommitLines, IsCommitText, IsEncoding, encoding_text, parent_text}
-use Rattle.gixobj_tokens.specs.CommitRuns.{Tells, complete, tells_end, tells_token}
+use Rattle.gixobj_fields.specs.Runs.{complete, tells_end, tells_piece}
+use Rattle.gixobj_tokens.specs.CommitRuns.{Tells}
 use Rattle.gixobj_tokens.specs.CommitTokens.{HasToken, MayComeHeader, TokenView, author_token, committer_token, encoding_token, header_token, message_token, parent_token, tree_token}
 use Rattle.gixobj_tokens.specs.Readers.{AreTokensOf, encoding_tokens}
 use Rattle.gixobj_tokens.specs.declared.ref_iter.State.{State}
@@ -59,7 +60,7 @@ message_comes kind state.Committer message comes = absurd comes
 
 message_told : (kind : Kind) (before : State) (message : List ℕ) → MayComeHeader before → Tells kind before (10 ∷ message) (message_token message ∷ []) complete
 message_told kind before message comes =
-    tells_token before state.ExtraHeaders (10 ∷ message) [] (message_token message) [] complete (message_comes kind before message comes) (tells_end state.ExtraHeaders)
+    tells_piece before state.ExtraHeaders (10 ∷ message) [] (message_token message) [] complete (message_comes kind before message comes) (tells_end state.ExtraHeaders)
 
 name_first : (name rest : List ℕ) → name ≢ [] → IsFree 32 name → EndsHeader (name ++ rest)
 name_first [] rest some free = absurd (some refl)
@@ -86,7 +87,7 @@ headers_told : (kind : Kind) (text message : List ℕ) (headers : List Header) �
 headers_told kind text message [] is = rw is (message_told kind state.ExtraHeaders message tt)
 headers_told kind text message (header ∷ headers) (first, rest, joined, is, others) =
     rw (split_first text first rest message joined)
-    (tells_token state.ExtraHeaders state.ExtraHeaders (first ++ (rest ++ 10 ∷ message)) (rest ++ 10 ∷ message) (header_token header) (map header_token headers ++ message_token message ∷ []) complete
+    (tells_piece state.ExtraHeaders state.ExtraHeaders (first ++ (rest ++ 10 ∷ message)) (rest ++ 10 ∷ message) (header_token header) (map header_token headers ++ message_token message ∷ []) complete
     (header_comes kind header first (rest ++ 10 ∷ message) is (headers_end rest message headers others)) (headers_told kind rest message headers others))
 
 encoding_comes : (kind : Kind) (encoding rest : List ℕ) → IsFree 10 encoding → HasToken kind state.Encoding (field_text (codes "encoding") encoding ++ rest) (encoding_token encoding) state.ExtraHeaders rest
@@ -95,30 +96,30 @@ encoding_comes kind encoding rest free = record { text = field_text (codes "enco
 encoding_told : (kind : Kind) (encoding : Option (List ℕ)) (text message : List ℕ) (headers : List Header) → IsEncoding encoding headers → AreHeaderTexts text headers
     → Tells kind state.Encoding (encoding_text encoding ++ (text ++ 10 ∷ message)) (encoding_tokens encoding ++ (map header_token headers ++ message_token message ∷ [])) complete
 encoding_told kind (Some encoding) text message headers free are =
-    tells_token state.Encoding state.ExtraHeaders (field_text (codes "encoding") encoding ++ (text ++ 10 ∷ message)) (text ++ 10 ∷ message) (encoding_token encoding) (map header_token headers ++ message_token message ∷ []) complete
+    tells_piece state.Encoding state.ExtraHeaders (field_text (codes "encoding") encoding ++ (text ++ 10 ∷ message)) (text ++ 10 ∷ message) (encoding_token encoding) (map header_token headers ++ message_token message ∷ []) complete
     (encoding_comes kind encoding (text ++ 10 ∷ message) free) (headers_told kind text message headers are)
 encoding_told kind None text message [] free are = rw are (message_told kind state.Encoding message tt)
 encoding_told kind None text message (header ∷ headers) other (first, rest, joined, is, others) =
     rw (split_first text first rest message joined)
-    (tells_token state.Encoding state.ExtraHeaders (first ++ (rest ++ 10 ∷ message)) (rest ++ 10 ∷ message) (header_token header) (map header_token headers ++ message_token message ∷ []) complete
+    (tells_piece state.Encoding state.ExtraHeaders (first ++ (rest ++ 10 ∷ message)) (rest ++ 10 ∷ message) (header_token header) (map header_token headers ++ message_token message ∷ []) complete
     (first_header_comes kind header first (rest ++ 10 ∷ message) is (headers_end rest message headers others) other) (headers_told kind rest message headers others))
 
 committer_told : (kind : Kind) (line name email time rest : List ℕ) (tokens : List TokenView) → IsActor line name email time → Tells kind state.Encoding rest tokens complete
     → Tells kind state.Committer (field_text (codes "committer") line ++ rest) (committer_token name email time ∷ tokens) complete
 committer_told kind line name email time rest tokens is told =
-    tells_token state.Committer state.Encoding (field_text (codes "committer") line ++ rest) rest (committer_token name email time) tokens complete
+    tells_piece state.Committer state.Encoding (field_text (codes "committer") line ++ rest) rest (committer_token name email time) tokens complete
     (record { text = field_text (codes "committer") line; joined = refl; written = record { line = line; joined = refl; actor = is }; comes = refl; follows = tt; no_encoding = tt }) told
 
 author_told : (kind : Kind) (line name email time rest : List ℕ) (tokens : List TokenView) → IsActor line name email time → Tells kind state.Committer rest tokens complete
     → Tells kind state.Parents (field_text (codes "author") line ++ rest) (author_token name email time ∷ tokens) complete
 author_told kind line name email time rest tokens is told =
-    tells_token state.Parents state.Committer (field_text (codes "author") line ++ rest) rest (author_token name email time) tokens complete
+    tells_piece state.Parents state.Committer (field_text (codes "author") line ++ rest) rest (author_token name email time) tokens complete
     (record { text = field_text (codes "author") line; joined = refl; written = record { line = line; joined = refl; actor = is }; comes = refl; follows = tt; no_encoding = tt }) told
 
 parent_told : (kind : Kind) (hex rest : List ℕ) (id : ObjectId) (tokens : List TokenView) → Spells hex id → id_kind id ≡ kind → Tells kind state.Parents rest tokens complete
     → Tells kind state.Parents (parent_text hex ++ rest) (parent_token id ∷ tokens) complete
 parent_told kind hex rest id tokens spells of_kind told =
-    tells_token state.Parents state.Parents (parent_text hex ++ rest) rest (parent_token id) tokens complete
+    tells_piece state.Parents state.Parents (parent_text hex ++ rest) rest (parent_token id) tokens complete
     (record { text = parent_text hex; joined = refl; written = record { hex = hex; joined = refl; spelled = spells; of_kind = of_kind }; comes = refl; follows = tt; no_encoding = tt }) told
 
 -- the ids of the parents, and how they are told
@@ -141,7 +142,7 @@ parents_told kind (hex ∷ hexes) rest tokens are told =
 tree_told : (kind : Kind) (hex rest : List ℕ) (id : ObjectId) (tokens : List TokenView) → Spells hex id → id_kind id ≡ kind → Tells kind state.Parents rest tokens complete
     → Tells kind state.Tree (field_text (codes "tree") hex ++ rest) (tree_token id ∷ tokens) complete
 tree_told kind hex rest id tokens spells of_kind told =
-    tells_token state.Tree state.Parents (field_text (codes "tree") hex ++ rest) rest (tree_token id) tokens complete
+    tells_piece state.Tree state.Parents (field_text (codes "tree") hex ++ rest) rest (tree_token id) tokens complete
     (record { text = field_text (codes "tree") hex; joined = refl; written = record { hex = hex; joined = refl; spelled = spells; of_kind = of_kind }; comes = refl; follows = tt; no_encoding = tt }) told
 
 -- the text of a commit, its parts one behind the other

@@ -5,6 +5,7 @@ use Rattle.gixobj_ids.specs.Hash.{Spells, id_kind}
 use Rattle.gixobj_commits.specs.CommitReading.{LacksName}
 use Rattle.gixobj_fields.specs.HeaderReading.{header_of}
 use Rattle.gixobj_actors.specs.Actor.{IsActor}
+use Rattle.gixobj_fields.specs.Runs.{HasNoPiece}
 use Rattle.gixobj_fields.specs.HeaderText.{BeginsSeveralLines, EndsHeader, Header, IsHeaderText, field_text}
 use Rattle.gixobj_texts.specs.Parse.{IsFree}
 use Rattle.gixobj_ids.specs.declared.decode.Error.{Error}
@@ -94,7 +95,7 @@ pub record HasToken (kind : Kind) (before : State) (input : List ℕ) (token : T
 
 -- the input begins with no token
 abbrev pub HasNoToken : Kind → State → List ℕ → Type 0
-HasNoToken kind before input = (token : TokenView) (behind : State) (rest : List ℕ) → ¬ HasToken kind before input token behind rest
+HasNoToken kind before input = HasNoPiece (HasToken kind) before input
 
 -- a header may come here
 abbrev pub MayComeHeader : State → Type 0

@@ -8,7 +8,8 @@ use Rattle.gixobj_ids.specs.declared.decode.Error.TheVariants.{Malformed, OutOfM
 use Rattle.gixobj_ids.specs.declared.hash.kind.Kind.{Kind}
 use Rattle.gixobj_ids.specs.declared.hash.object_id.ObjectId.{ObjectId}
 use Rattle.gixobj_commits.specs.Commit.{CommitLines}
-use Rattle.gixobj_tokens.specs.CommitRuns.{Tells, broken, complete}
+use Rattle.gixobj_fields.specs.Runs.{broken, complete}
+use Rattle.gixobj_tokens.specs.CommitRuns.{Tells}
 use Rattle.gixobj_commits.specs.CommitViews.{commit_lines}
 use Rattle.gixobj_commits.specs.declared.commit.CommitRef.{CommitRef}
 use Rattle.gixobj_tokens.specs.declared.ref_iter.State.{State}

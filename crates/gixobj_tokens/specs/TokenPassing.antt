@@ -4,39 +4,28 @@ use Rattle.std.specs.List.{AllZip, concat}
 use Rattle.gixobj_ids.specs.declared.decode.Error.{Error}
 use Rattle.gixobj_ids.specs.declared.decode.Error.TheVariants.{Malformed, OutOfMemory}
 use Rattle.gixobj_ids.specs.declared.hash.kind.Kind.{Kind}
-use Rattle.gixobj_tokens.specs.CommitRuns.{Ending, Tells, broken, complete}
+use Rattle.gixobj_fields.specs.Runs as runs
+use Rattle.gixobj_fields.specs.Runs.{Ending, broken, complete}
 use Rattle.gixobj_tokens.specs.CommitTokens.{HasToken, IsTokenText, RefusesToken, TokenView, author_token, committer_token, message_token, parent_token}
 use Rattle.gixobj_tokens.specs.TokenGiving.{reader_bytes, reader_kind, reader_state}
 use Rattle.gixobj_tokens.specs.declared.ref_iter.CommitRefIter.{CommitRefIter}
 use Rattle.gixobj_tokens.specs.declared.ref_iter.State.{State}
 
--- the input begins with these tokens, and goes on with the rest in the state behind them
-abbrev pub Passes : Kind → State → List ℕ → List TokenView → State → List ℕ → Type 0
-Passes kind before input [] behind rest = (before ≡ behind) × (input ≡ rest)
-Passes kind before input (token ∷ tokens) behind rest =
-    (next : State) × (after : List ℕ) × HasToken kind before input token next after × Passes kind next after tokens behind rest
-
 -- the input is the join of a text for each token
 abbrev pub AreTokenTexts : Kind → List ℕ → List TokenView → Type 0
 AreTokenTexts kind input tokens = (texts : List (List ℕ)) × (input ≡ concat texts) × AllZip (IsTokenText kind) tokens texts
 
--- none of the tokens is such a one
-abbrev pub HasNone : (TokenView → Type 0) → List TokenView → Type 0
-HasNone Is tokens = All (λ token. ¬ Is token) tokens
-
 -- the reader goes past tokens that are none such, to this state and these bytes
 abbrev pub PassesNone : (TokenView → Type 0) → CommitRefIter → State → List ℕ → Type 0
-PassesNone Is reader behind rest =
-    (tokens : List TokenView) × Passes (reader_kind reader) (reader_state reader) (reader_bytes reader) tokens behind rest × HasNone Is tokens
+PassesNone Is reader behind rest = runs.PassesNone (HasToken (reader_kind reader)) Is (reader_state reader) (reader_bytes reader) behind rest
 
 -- past tokens that are none such, this one comes
 abbrev pub FindsFirst : (TokenView → Type 0) → CommitRefIter → TokenView → Type 0
-FindsFirst Is reader token =
-    (before behind : State) × (input rest : List ℕ) × PassesNone Is reader before input × HasToken (reader_kind reader) before input token behind rest
+FindsFirst Is reader token = runs.FindsFirst (HasToken (reader_kind reader)) Is (reader_state reader) (reader_bytes reader) token
 
 -- the whole run of the reader has no such token, and ends so
 abbrev pub LacksAll : (TokenView → Type 0) → CommitRefIter → Ending → Type 0
-LacksAll Is reader ending = (tokens : List TokenView) × Tells (reader_kind reader) (reader_state reader) (reader_bytes reader) tokens ending × HasNone Is tokens
+LacksAll Is reader ending = runs.LacksAll (HasToken (reader_kind reader)) Is (reader_state reader) (reader_bytes reader) ending
 
 -- tokens that are none such, and then a header whose value finds no memory
 abbrev pub LacksMemory : (TokenView → Type 0) → CommitRefIter → Type 0

@@ -1,7 +1,8 @@
 //! Laws of the tokens of a commit. Each function does nothing: its contract is the law.
 ghost use Rattle.std.specs.Prelude.{◌≡◌, ℕ, List};
 ghost use Rattle.gixobj_ids.specs.declared.hash.kind.Kind.{Kind};
-ghost use Rattle.gixobj_tokens.specs.CommitRuns.{Ending, Tells, complete};
+ghost use Rattle.gixobj_fields.specs.Runs.{Ending, complete};
+ghost use Rattle.gixobj_tokens.specs.CommitRuns.{Tells};
 ghost use Rattle.gixobj_tokens.specs.CommitTokens.{HasToken, TokenView};
 ghost use Rattle.gixobj_tokens.specs.TokenPassing.{AreTokenTexts};
 ghost use Rattle.gixobj_tokens.specs.declared.ref_iter.State.{State};

@@ -1,6 +1,6 @@
 use Rattle.std.proofs.lemmas.Result.{err_from_is_err_and}
 use Rattle.gixobj_tokens.proofs.TokenRuns.{seeks_end, seeks_error, seeks_on}
-use Rattle.gixobj_tokens.specs.CommitRuns.{complete}
+use Rattle.gixobj_fields.specs.Runs.{complete}
 use Rattle.gixobj_tokens.specs.TokenPassing.{IsAuthorToken}
 use Rattle.gixobj_tokens.proofs.ref_iter.CommitRefIter.author.Goals as goal
 
