@@ -11,6 +11,7 @@ ghost use Rattle.gixobj_actors.specs.ActorWriting.{IsLegalActor, RefusesActor, b
 ghost use Rattle.gixobj_actors.specs.Date.{IsNoTimeText, IsTimeText, time_text};
 ghost use Rattle.gixobj_fields.specs.Streams.{Puts, PutsFront, writer_view};
 ghost use Rattle.gixobj_ids.specs.declared.decode.Error.TheVariants.{Malformed};
+ghost use Rattle.gixobj_fields.specs.Writing.{IsSize};
 
 use crate::date::{Time, TimeBuf, parse_header};
 use bstr::{BStr, BString, ByteSlice};
@@ -173,7 +174,7 @@ impl SignatureRef<'_> {
 
     /// How many bytes [`SignatureRef::write_to`] writes, or none past 64 bits.
     pub fn size(&self) -> Option<u64>
-        ensures { SomeIff result (length (borrowed_text self.now) < 2 ^ 64) (length (borrowed_text self.now)) }
+        ensures { IsSize result (borrowed_text self.now) }
     {
         actor_size(
             self.name.as_bytes(),
@@ -213,7 +214,7 @@ impl Signature {
 
     /// How many bytes [`Signature::write_to`] writes, or none past 64 bits.
     pub fn size(&self) -> Option<u64>
-        ensures { SomeIff result (length (owned_text self.now) < 2 ^ 64) (length (owned_text self.now)) }
+        ensures { IsSize result (owned_text self.now) }
     {
         let mut time_buf = TimeBuf::new();
         self.to_ref(&mut time_buf).size()
@@ -238,7 +239,7 @@ fn put_actor<S: Sink>(name: &[u8], email: &[u8], time: &[u8], sink: &mut S) -> i
 
 /// How many bytes an actor takes, or none past 64 bits.
 fn actor_size(name: &[u8], email: &[u8], time: &[u8]) -> Option<u64>
-    ensures { SomeIff result (length (actor_text name.now email.now time.now) < 2 ^ 64) (length (actor_text name.now email.now time.now)) }
+    ensures { IsSize result (actor_text name.now email.now time.now) }
 {
     let texts = (name.len() as u64).checked_add(email.len() as u64)?;
     texts.checked_add(time.len() as u64)?.checked_add(4)

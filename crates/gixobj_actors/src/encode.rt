@@ -3,7 +3,7 @@ ghost use Rattle.std.specs.Prelude.{◌<◌, ◌+◌, ◌^◌, ◌≡◌, length
 ghost use Rattle.std.specs.Option.{SomeIff};
 ghost use Rattle.gixobj_fields.specs.HeaderText.{field_text};
 ghost use Rattle.gixobj_fields.specs.Streams.{Puts};
-ghost use Rattle.gixobj_fields.specs.Writing.{SaysWhy};
+ghost use Rattle.gixobj_fields.specs.Writing.{AddsSize, SaysWhy};
 ghost use Rattle.gixobj_actors.specs.ActorWriting.{IsLegal, RefusesSignature, owned_text};
 
 use crate::actor::Signature;
@@ -34,7 +34,7 @@ pub fn trusted_header_signature<S: Sink>(
 /// The size in bytes with that of what [`trusted_header_signature`] puts, or none past 64 bits; an actor
 /// that is refused counts as it stands. It takes no memory.
 pub fn size_with_signature(size: u64, name: &[u8], actor: &Signature) -> Option<u64>
-    ensures { SomeIff result (size + length (field_text name.now (owned_text actor.now)) < 2 ^ 64) (size + length (field_text name.now (owned_text actor.now))) }
+    ensures { AddsSize result size (field_text name.now (owned_text actor.now)) }
 {
     let with_name = size.checked_add(name.len() as u64)?.checked_add(2)?;
     with_name.checked_add(actor.size()?)

@@ -11,7 +11,7 @@ use Rattle.gixobj_ids.specs.declared.hash.kind.Kind.{Kind}
 use Rattle.gixobj_commits.proofs.CommitHeaders.{headers_of_texts, lacking_is_of_other_name, one_list_of_headers, other_name_lacks, texts_of_headers}
 use Rattle.gixobj_commits.proofs.CommitParts.{hex_is_one_line, one_actor_line, one_encoding, one_id, one_list_of_parents, parents_of_text}
 use Rattle.gixobj_commits.specs.Commit.{AreHeaderTexts, CommitLines, IsCommitText, IsEncoding, IsNoCommitText, NamesActor, encoding_text, parent_text}
-use Rattle.gixobj_commits.specs.CommitReading.{HasActor, HasEncoding, HasHeaders, HasId, HasNoActor, HasNoEncoding, HasNoHeaders, HasNoId, HasNoParents, HasParents, LacksName, ReachesHeader, ReachesSecondParent, RefusesCommit, RefusesHeaders, RefusesParents}
+use Rattle.gixobj_commits.specs.CommitReading.{HasActor, HasEncoding, HasHeaders, HasId, HasNoActor, HasNoEncoding, HasNoHeaders, HasNoId, HasNoParents, HasParents, LacksName, ReachesHeader, RefusesCommit, RefusesHeaders, RefusesParents}
 
 -- the commit's parts, one behind the other
 pub record CommitChain (kind : Kind) (text : List ℕ) (commit : CommitLines) : Type 0 where

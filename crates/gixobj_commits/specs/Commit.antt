@@ -31,6 +31,14 @@ abbrev pub encoding_text : Option (List ℕ) → List ℕ
 encoding_text None = []
 encoding_text (Some encoding) = field_text (codes "encoding") encoding
 
+-- the lines of the tree and of the parents
+abbrev pub ids_text : CommitLines → List ℕ
+ids_text commit = field_text (codes "tree") commit.tree ++ flat_map parent_text commit.parents
+
+-- the lines before that of the encoding
+abbrev pub before_encoding : CommitLines → List ℕ
+before_encoding commit = ids_text commit ++ field_text (codes "author") commit.author ++ field_text (codes "committer") commit.committer
+
 -- without an encoding the first header is not named `encoding`
 abbrev pub IsEncoding : Option (List ℕ) → List Header → Type 0
 IsEncoding (Some encoding) headers = IsFree newline encoding
@@ -45,9 +53,7 @@ AreHeaderTexts text (header ∷ headers) = (first rest : List ℕ) × (text ≡ 
 -- the text is this commit's, with ids of this kind
 pub record IsCommitText (kind : Kind) (text : List ℕ) (commit : CommitLines) : Type 0 where
   pub headers_text : List ℕ
-  pub joined : text ≡ field_text (codes "tree") commit.tree ++ flat_map parent_text commit.parents
-      ++ field_text (codes "author") commit.author ++ field_text (codes "committer") commit.committer
-      ++ encoding_text commit.encoding ++ headers_text ++ newline ∷ commit.message
+  pub joined : text ≡ before_encoding commit ++ encoding_text commit.encoding ++ headers_text ++ newline ∷ commit.message
   pub tree : IsHexOf kind commit.tree
   pub parents : All (IsHexOf kind) commit.parents
   pub author : NamesActor commit.author

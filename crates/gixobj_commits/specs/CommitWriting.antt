@@ -7,7 +7,7 @@ use Rattle.gixobj_ids.specs.Hash.{IsHexOfAnId}
 use Rattle.gixobj_fields.specs.FieldWriting.{RefusesValue, header_text}
 use Rattle.gixobj_fields.specs.HeaderText.{field_text}
 use Rattle.gixobj_fields.specs.Writing.{Refused, illegal_actor}
-use Rattle.gixobj_commits.specs.Commit.{CommitLines, encoding_text, parent_text}
+use Rattle.gixobj_commits.specs.Commit.{CommitLines, before_encoding, encoding_text, ids_text}
 use Rattle.gixobj_commits.specs.CommitViews.{owned_lines}
 use Rattle.gixobj_commits.specs.declared.commit.Commit.{Commit}
 use Rattle.gixobj_texts.specs.Bytes.{newline, space}
@@ -24,10 +24,6 @@ in_lower_case commit = record {
   message = commit.message;
 }
 
--- the lines of the tree and of the parents
-abbrev pub ids_text : CommitLines → List ℕ
-ids_text commit = field_text (codes "tree") commit.tree ++ flat_map parent_text commit.parents
-
 -- what is written before the author's bytes
 abbrev pub before_author : CommitLines → List ℕ
 before_author commit = ids_text commit ++ codes "author" ++ space ∷ []
@@ -35,10 +31,6 @@ before_author commit = ids_text commit ++ codes "author" ++ space ∷ []
 -- what is written before the committer's bytes
 abbrev pub before_committer : CommitLines → List ℕ
 before_committer commit = ids_text commit ++ field_text (codes "author") commit.author ++ codes "committer" ++ space ∷ []
-
--- what is written before the line of the encoding
-abbrev pub before_encoding : CommitLines → List ℕ
-before_encoding commit = ids_text commit ++ field_text (codes "author") commit.author ++ field_text (codes "committer") commit.committer
 
 -- a commit as it is written
 abbrev pub commit_text : CommitLines → List ℕ

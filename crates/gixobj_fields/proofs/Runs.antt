@@ -1,8 +1,8 @@
 -- Runs of a reader that tells piece by piece: passed, made whole, joined of their texts, and cut where a reader stands in them.
-use Rattle.std.proofs.Common.{◌≡◌, ◌≢◌, ℕ, List, [], ◌∷◌, ◌++◌, All, refl, sym, ap, subst, ◌∙◌}
+use Rattle.std.proofs.Common.{◌≡◌, ℕ, List, [], ◌∷◌, ◌++◌, refl, sym, ap, subst, ◌∙◌}
 use Rattle.std.proofs.lemmas.List.Elements.{All-head, All-tail}
 use Rattle.std.specs.List.{AllZip, concat}
-use Rattle.gixobj_fields.specs.Runs.{Ending, FindsFirst, HasNone, LacksAll, Passes, Tells, broken, complete, tells_end, tells_error, tells_piece}
+use Rattle.gixobj_fields.specs.Runs.{Ending, FindsFirst, HasNone, LacksAll, Passes, Tells, complete, tells_end, tells_error, tells_piece}
 
 -- ---- the first piece of a sort
 
@@ -58,7 +58,7 @@ module _ {S P : Type 0} (Has : S → List ℕ → P → S → List ℕ → Type 
   -- ---- where one piece at most comes, and none of no bytes, there is one run
 
   module _ (one : (before : S) (input : List ℕ) (a b : P) (s t : S) (x y : List ℕ) → Has before input a s x → Has before input b t y → (a ≡ b) × (s ≡ t) × (x ≡ y))
-    (some : (before : S) (input : List ℕ) (piece : P) (behind : S) (rest : List ℕ) → input ≡ [] → Has before input piece behind rest → ⊥) where
+      (some : (before : S) (input : List ℕ) (piece : P) (behind : S) (rest : List ℕ) → input ≡ [] → Has before input piece behind rest → ⊥) where
     pub one_run : (before : S) (input : List ℕ) (a b : List P) (e f : Ending) → Tells Has before input a e → Tells Has before input b f → (a ≡ b) × (e ≡ f)
     one_run before input a b e f (tells_end _) (tells_end _) = (refl, refl)
     one_run before input a b e f (tells_end _) (tells_error _ _ filled none) = absurd (filled refl)

@@ -1,5 +1,6 @@
 -- What writers of objects write, and what they refuse.
-use Rattle.std.specs.Prelude.{◌⊎◌, ℕ, List}
+use Rattle.std.specs.Option.{SomeIff}
+use Rattle.std.specs.Prelude.{◌⊎◌, ◌<◌, ◌+◌, ◌^◌, ℕ, List, Option, length}
 use Rattle.bstr.specs.Owned.{bstring_bytes}
 use Rattle.gixobj_fields.specs.Streams.{Puts, PutsFront, SinkView}
 use Rattle.gixobj_fields.specs.declared.encode.Error.{Error}
@@ -14,6 +15,14 @@ pub data Refused : Type 0 where
   bad_name : RefNameFault → Refused
   name_with_zero_byte : List ℕ → Refused
   illegal_actor : Refused
+
+-- the size of the text, or none past 64 bits
+abbrev pub IsSize : Option ℕ → List ℕ → Type 0
+IsSize result text = SomeIff result (length text < 2 ^ 64) (length text)
+
+-- the size with that of the text, or none past 64 bits
+abbrev pub AddsSize : Option ℕ → ℕ → List ℕ → Type 0
+AddsSize result size text = SomeIff result (size + length text < 2 ^ 64) (size + length text)
 
 -- nothing is refused
 abbrev pub RefusesNothing : (Refused → List ℕ → Type 0) → Type 0

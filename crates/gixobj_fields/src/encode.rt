@@ -6,7 +6,7 @@ ghost use Rattle.gixobj_ids.specs.Hash.{hex_text};
 ghost use Rattle.gixobj_fields.specs.FieldWriting.{IsLastLine, RefusesField, folded};
 ghost use Rattle.gixobj_fields.specs.HeaderText.{field_text};
 ghost use Rattle.gixobj_fields.specs.Streams.{Puts, PutsFront};
-ghost use Rattle.gixobj_fields.specs.Writing.{RefusesNothing, SaysWhy};
+ghost use Rattle.gixobj_fields.specs.Writing.{AddsSize, RefusesNothing, SaysWhy};
 ghost use Rattle.gixobj_texts.specs.Bytes.{newline, space};
 
 use crate::streams::{Sink, put_parts};
@@ -229,7 +229,7 @@ fn first_line(value: &[u8]) -> Option<(&[u8], &[u8])>
 /// The size in bytes with that of what [`trusted_header_field`] puts, or none past 64 bits. It takes no
 /// memory.
 pub fn size_with_field(size: u64, name: &[u8], value: &[u8]) -> Option<u64>
-    ensures { SomeIff result (size + length (field_text name.now value.now) < 2 ^ 64) (size + length (field_text name.now value.now)) }
+    ensures { AddsSize result size (field_text name.now value.now) }
 {
     let with_name = size.checked_add(name.len() as u64)?.checked_add(2)?;
     with_name.checked_add(value.len() as u64)
@@ -239,7 +239,7 @@ pub fn size_with_field(size: u64, name: &[u8], value: &[u8]) -> Option<u64>
 /// memory.
 #[tactic(auto, using(crate::proofs::FieldWrites::id_field_len))]
 pub fn size_with_id(size: u64, name: &[u8], id: &ObjectId) -> Option<u64>
-    ensures { SomeIff result (size + length (field_text name.now (hex_text id.now)) < 2 ^ 64) (size + length (field_text name.now (hex_text id.now))) }
+    ensures { AddsSize result size (field_text name.now (hex_text id.now)) }
 {
     let with_name = size.checked_add(name.len() as u64)?.checked_add(2)?;
     with_name.checked_add(2 * id.as_bytes().len() as u64)
@@ -248,7 +248,7 @@ pub fn size_with_id(size: u64, name: &[u8], id: &ObjectId) -> Option<u64>
 /// The size in bytes with that of what [`header_field_multi_line`] puts, or none past 64 bits. It takes
 /// no memory.
 pub fn size_with_multi_line(size: u64, name: &[u8], value: &[u8]) -> Option<u64>
-    ensures { SomeIff result (size + length (name.now ++ space ∷ folded value.now) < 2 ^ 64) (size + length (name.now ++ space ∷ folded value.now)) }
+    ensures { AddsSize result size (name.now ++ space ∷ folded value.now) }
 {
     let with_name = size.checked_add(name.len() as u64)?.checked_add(1)?;
     size_with_folded(with_name, value)
@@ -256,7 +256,7 @@ pub fn size_with_multi_line(size: u64, name: &[u8], value: &[u8]) -> Option<u64>
 
 /// The size with that of the lines of a value, or none past 64 bits.
 fn size_with_folded(size: u64, value: &[u8]) -> Option<u64>
-    ensures { SomeIff result (size + length (folded value.now) < 2 ^ 64) (size + length (folded value.now)) }
+    ensures { AddsSize result size (folded value.now) }
 {
     let mut size = size;
     let mut rest = value;

@@ -4,7 +4,7 @@ ghost use Rattle.std.specs.Io.KnownBytes.{Appends};
 ghost use Rattle.std.specs.Option.{SomeIff};
 ghost use Rattle.gixobj_ids.specs.Encode.{loose_header_text};
 ghost use Rattle.gixobj_fields.specs.Streams.{Puts, list_view, writer_view};
-ghost use Rattle.gixobj_fields.specs.Writing.{RefusesNothing, SaysWhy};
+ghost use Rattle.gixobj_fields.specs.Writing.{IsSize, RefusesNothing, SaysWhy};
 
 use crate::encode;
 use crate::streams::{Sink, ToWrite};
@@ -56,7 +56,7 @@ pub trait WriteTo {
     /// A value that can't be written has a size too, in which what is refused counts as it stands.
     fn size(&self) -> Option<u64>
         requires { can_write self.now }
-        ensures { SomeIff result (length (text self.now) < 2 ^ 64) (length (text self.now)) };
+        ensures { IsSize result (text self.now) };
 
     /// Writes the object.
     ///

@@ -1,8 +1,7 @@
 -- What a reader of tokens finds in the text of a commit.
-use Rattle.std.proofs.Common.{◌≡◌, ◌≢◌, ℕ, List, [], ◌∷◌, ◌++◌, All, Option, Some, None, Result, Ok, Err, inl, inr, refl, sym, ap, subst, ◌∙◌, append_assoc}
+use Rattle.std.proofs.Common.{◌≡◌, ℕ, List, [], ◌∷◌, ◌++◌, Option, Some, None, Result, Ok, Err, inl, inr, ap, subst, ◌∙◌, append_assoc}
 use Rattle.std.proofs.lemmas.List.Elements.{All-append, All-cons, All-nil}
-use Rattle.std.specs.List.{AllZip}
-use Rattle.std.specs.Prelude.{map, codes}
+use Rattle.std.specs.Prelude.{map}
 use Rattle.gixobj_actors.specs.Actor.{IsActor}
 use Rattle.gixobj_ids.specs.Hash.{Spells}
 use Rattle.gixobj_ids.specs.declared.decode.Error.{Error}
@@ -22,7 +21,6 @@ use Rattle.gixobj_tokens.specs.TokenGiving.{GivesId, GivesToken, IsAtStart, answ
 use Rattle.gixobj_fields.specs.Runs.{HasNone}
 use Rattle.gixobj_tokens.specs.TokenPassing.{FindsAuthor, FindsCommitter, FindsFault, FindsFirst, FindsMessage, FindsNone, IsAuthorToken, IsCommitterToken, IsMessageToken, LacksAll}
 use Rattle.gixobj_tokens.specs.declared.ref_iter.CommitRefIter.{CommitRefIter}
-use Rattle.gixobj_tokens.specs.declared.ref_iter.State.{State}
 use Rattle.gixobj_tokens.specs.declared.ref_iter.State.TheVariants as state
 use Rattle.gixobj_tokens.specs.declared.ref_iter.Token.{Token}
 

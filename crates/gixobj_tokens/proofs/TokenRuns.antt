@@ -1,5 +1,5 @@
 -- Runs of tokens: passed one by one, made into whole runs, and joined of their tokens' texts.
-use Rattle.std.proofs.Common.{◌≡◌, ◌≢◌, ℕ, List, [], ◌∷◌, ◌++◌, refl, sym, ap, subst, ◌∙◌}
+use Rattle.std.proofs.Common.{◌≡◌, ◌≢◌, ℕ, List, [], ◌∷◌, ◌++◌, refl, subst, ◌∙◌}
 use Rattle.std.proofs.lemmas.List.Elements.{All-nil, All-push}
 use Rattle.std.specs.Prelude.{Some, None, Result, Ok, Err}
 use Rattle.gixobj_ids.specs.declared.decode.Error.{Error}
@@ -9,11 +9,10 @@ use Rattle.gixobj_fields.proofs.Runs as runs
 use Rattle.gixobj_fields.proofs.Runs.{passes_one, tells_passed}
 use Rattle.gixobj_tokens.proofs.CommitsTold.{no_token_of_nothing}
 use Rattle.gixobj_tokens.proofs.OneToken.{one_token}
-use Rattle.gixobj_fields.specs.Runs.{Ending, broken, complete, tells_end, tells_error, tells_piece}
+use Rattle.gixobj_fields.specs.Runs.{Ending, broken, complete, tells_end, tells_error}
 use Rattle.gixobj_tokens.specs.CommitRuns.{Tells}
 use Rattle.gixobj_tokens.specs.CommitTokens.{HasToken, IsTokenText, RefusesToken, TokenView, token_view}
 use Rattle.gixobj_tokens.specs.TokenGiving.{GivesToken, reader_bytes, reader_kind, reader_state}
-use Rattle.gixobj_tokens.specs.CommitRuns.{Passes}
 use Rattle.gixobj_tokens.specs.TokenPassing.{AreTokenTexts, FindsFault, FindsNone, LacksAll, PassesNone}
 use Rattle.gixobj_tokens.specs.declared.ref_iter.CommitRefIter.{CommitRefIter}
 use Rattle.gixobj_tokens.specs.declared.ref_iter.State.{State}

@@ -1,18 +1,10 @@
 -- A commit and its tokens.
-use Rattle.std.specs.Prelude.{◌≡◌, ℕ, List, [], ◌∷◌, ◌++◌, Option, Some, None, Result, Ok, Err, map, ⊤}
+use Rattle.std.specs.Prelude.{◌≡◌, ℕ, List, [], ◌∷◌, ◌++◌, Option, Some, None, map, ⊤}
 use Rattle.std.specs.List.{AllZip}
 use Rattle.gixobj_ids.specs.Hash.{Spells}
 use Rattle.gixobj_actors.specs.Actor.{IsActor}
-use Rattle.gixobj_ids.specs.declared.decode.Error.{Error}
-use Rattle.gixobj_ids.specs.declared.decode.Error.TheVariants.{Malformed, OutOfMemory}
-use Rattle.gixobj_ids.specs.declared.hash.kind.Kind.{Kind}
 use Rattle.gixobj_ids.specs.declared.hash.object_id.ObjectId.{ObjectId}
 use Rattle.gixobj_commits.specs.Commit.{CommitLines}
-use Rattle.gixobj_fields.specs.Runs.{broken, complete}
-use Rattle.gixobj_tokens.specs.CommitRuns.{Tells}
-use Rattle.gixobj_commits.specs.CommitViews.{commit_lines}
-use Rattle.gixobj_commits.specs.declared.commit.CommitRef.{CommitRef}
-use Rattle.gixobj_tokens.specs.declared.ref_iter.State.{State}
 use Rattle.gixobj_tokens.specs.CommitTokens.{TokenView, author_token, committer_token, encoding_token, header_token, message_token, parent_token, tree_token}
 
 -- the last token is a message

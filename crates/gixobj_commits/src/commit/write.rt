@@ -5,7 +5,7 @@ ghost use Rattle.std.specs.Option.{SomeIff};
 ghost use Rattle.gixobj_ids.specs.Hash.{hex_text};
 ghost use Rattle.gixobj_fields.specs.HeaderText.{field_text};
 ghost use Rattle.gixobj_fields.specs.Streams.{Puts, PutsFront};
-ghost use Rattle.gixobj_fields.specs.Writing.{RefusesNothing, SaysWhy};
+ghost use Rattle.gixobj_fields.specs.Writing.{AddsSize, IsSize, RefusesNothing, SaysWhy};
 ghost use Rattle.gixobj_commits.specs.Commit.{encoding_text};
 ghost use Rattle.gixobj_commits.specs.CommitViews.{bytes_if_some};
 ghost use Rattle.gixobj_commits.specs.CommitWriting.{RefusesEncodingLine};
@@ -85,8 +85,7 @@ fn put_ids<T: Field, S: Sink>(tree: &ObjectId, parents: &[T], sink: &mut S) -> i
 
 /// How many bytes the lines of the tree and of the parents take, or none past 64 bits.
 fn ids_size<T: Field>(tree: &ObjectId, parents: &[T]) -> Option<u64>
-    ensures { SomeIff result (length (field_text (codes "tree") (hex_text tree.now) ++ flat_map T.written parents.now) < 2 ^ 64)
-        (length (field_text (codes "tree") (hex_text tree.now) ++ flat_map T.written parents.now)) }
+    ensures { IsSize result (field_text (codes "tree") (hex_text tree.now) ++ flat_map T.written parents.now) }
 {
     size_with_all(size_with_id(0, b"tree", tree)?, parents)
 }
@@ -110,7 +109,7 @@ trait Field {
 
     /// The size with that of the field, or none past 64 bits.
     fn size_with(&self, size: u64) -> Option<u64>
-        ensures { SomeIff result (size + length (written self.now) < 2 ^ 64) (size + length (written self.now)) };
+        ensures { AddsSize result size (written self.now) };
 }
 
 /// A parent, by the hex text of its id.
@@ -196,7 +195,7 @@ fn put_all<T: Field, S: Sink>(fields: &[T], sink: &mut S) -> io::Result<()>
 
 /// The size with that of the fields, or none past 64 bits.
 fn size_with_all<T: Field>(size: u64, fields: &[T]) -> Option<u64>
-    ensures { SomeIff result (size + length (flat_map T.written fields.now) < 2 ^ 64) (size + length (flat_map T.written fields.now)) }
+    ensures { AddsSize result size (flat_map T.written fields.now) }
 {
     let mut size = size;
     for field in fields {
@@ -249,8 +248,7 @@ fn size_with_rest<T: Field>(
     headers: &[T],
     message: &[u8],
 ) -> Option<u64>
-    ensures { SomeIff result (size + length (encoding_text (bytes_if_some encoding.entry) ++ flat_map T.written headers.now ++ newline ∷ message.now) < 2 ^ 64)
-        (size + length (encoding_text (bytes_if_some encoding.entry) ++ flat_map T.written headers.now ++ newline ∷ message.now)) }
+    ensures { AddsSize result size (encoding_text (bytes_if_some encoding.entry) ++ flat_map T.written headers.now ++ newline ∷ message.now) }
 {
     let with_encoding = size_with_encoding(size, encoding)?;
     let with_headers = size_with_all(with_encoding, headers)?;
@@ -261,7 +259,7 @@ fn size_with_rest<T: Field>(
 
 /// The size with that of the line of an encoding, or none past 64 bits.
 fn size_with_encoding(size: u64, encoding: Option<BStr<'_>>) -> Option<u64>
-    ensures { SomeIff result (size + length (encoding_text (bytes_if_some encoding.entry)) < 2 ^ 64) (size + length (encoding_text (bytes_if_some encoding.entry))) }
+    ensures { AddsSize result size (encoding_text (bytes_if_some encoding.entry)) }
 {
     match encoding {
         Some(encoding) => size_with_field(size, b"encoding", encoding.as_bytes()),

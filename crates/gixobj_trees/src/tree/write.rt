@@ -4,7 +4,7 @@ ghost use Rattle.std.specs.Option.{SomeIff};
 ghost use Rattle.gixobj_texts.specs.Parse.{IsFree};
 ghost use Rattle.gixobj_trees.specs.TreeText.{RefusesEntry, entry_text};
 ghost use Rattle.gixobj_fields.specs.Streams.{Puts};
-ghost use Rattle.gixobj_fields.specs.Writing.{SaysWhy};
+ghost use Rattle.gixobj_fields.specs.Writing.{AddsSize, SaysWhy};
 
 use super::{Entry, Tree};
 use bstr::BString;
@@ -69,7 +69,7 @@ fn put_entry<S: Sink>(alloc: Global, entry: &Entry, sink: &mut S) -> Result<(), 
 
 /// The size and that of the entry, or none past 64 bits.
 fn size_with(size: u64, entry: &Entry) -> Option<u64>
-    ensures { SomeIff result (size + length (entry_text entry.now) < 2 ^ 64) (size + length (entry_text entry.now)) }
+    ensures { AddsSize result size (entry_text entry.now) }
 {
     let mut backing = [0; 6];
     let mode = entry.mode.as_bytes(&mut backing).as_bytes().len() as u64;

@@ -12,7 +12,7 @@ returns c =
     let start = subst (IsAtStart c.args.kind c.args.text.now) (sym c.parent_ids.ensures) c.from_bytes.ensures in
     all_given (λ commit ids. AllZip Spells commit.parents ids.items) c.collect.result
     (
-      λ commit is.
-        let (ids, spelled, listed) = c.ids_are_found.ensures.parents c.args.kind c.args.text.now commit c.parent_ids.result is start in
-        IfOk-weaker c.collect.result _ _ (λ it same. subst (AllZip Spells commit.parents) (sym same) spelled) (items_from_collect c.collect.result c.collect.ensures.ran listed)
+    λ commit is.
+    let (ids, spelled, listed) = c.ids_are_found.ensures.parents c.args.kind c.args.text.now commit c.parent_ids.result is start in
+    IfOk-weaker c.collect.result _ _ (λ it same. subst (AllZip Spells commit.parents) (sym same) spelled) (items_from_collect c.collect.result c.collect.ensures.ran listed)
     )
