@@ -23,8 +23,8 @@ pub enum CopyError {
     Write(encode::Error),
 }
 
-/// Reads a commit and writes it: a text whose ids are in lower case comes back as it was. A commit whose
-/// encoding isn't empty is not written only where the list has no room.
+/// Reads a commit and writes it: a text whose ids are in lower case comes back as it was. Of the text of a
+/// commit whose encoding isn't empty it is refused only for want of memory or room.
 pub fn copy_of(alloc: Global, text: &[u8], kind: Kind) -> Result<Vec<u8>, CopyError>
     ensures same { IfOk result (λ copy. (commit : CommitLines) → IsCommitText kind text.now commit →
         AllPass is_lower_hex_digit commit.tree → All (λ hex. AllPass is_lower_hex_digit hex) commit.parents → copy.items ≡ text.now) }
