@@ -10,8 +10,7 @@ use Rattle.gixobj_base.specs.ids.decode.Error.TheVariants.{Malformed, OutOfMemor
 use Rattle.gixobj_base.specs.Hash.{Spells}
 use Rattle.gixobj_base.specs.ids.hash.kind.Kind.{Kind}
 use Rattle.gixobj_base.specs.ids.hash.object_id.ObjectId.{ObjectId}
-use Rattle.gixobj_codec.specs.Commit.{CommitLines, IsCommitText, IsNoCommitText}
-use Rattle.gixobj_codec.specs.CommitReading.{RefusesCommit}
+use Rattle.gixobj_codec.specs.Commit.{CommitLines, IsCommitText, IsNoCommitText, RefusesCommit}
 use Rattle.gixobj_codec.specs.Rewriting.{RefusesOwnForm}
 use Rattle.gixobj_codec.specs.TokenPassing.{FindsFault, IsMessageToken}
 use Rattle.gixobj_codec.specs.tokens.ref_iter.CommitRefIter.{CommitRefIter}

@@ -2,9 +2,10 @@ pub use Rattle.gixobj_actors.specs.Actor
 pub use Rattle.gixobj_actors.specs.ActorWriting
 pub use Rattle.gixobj_actors.specs.Date
 pub use Rattle.gixobj_actors.specs.declared as actors
-pub use Rattle.gixobj_commits.specs.Commit
+pub use Rattle.gixobj_lines.specs.Commit
+pub use Rattle.gixobj_lines.specs.Lines
+pub use Rattle.gixobj_lines.specs.declared as lines
 pub use Rattle.gixobj_commits.specs.CommitOwned
-pub use Rattle.gixobj_commits.specs.CommitReading
 pub use Rattle.gixobj_commits.specs.CommitViews
 pub use Rattle.gixobj_commits.specs.CommitWriting
 pub use Rattle.gixobj_commits.specs.Rewriting

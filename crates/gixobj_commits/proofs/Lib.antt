@@ -1,6 +1,3 @@
-mod CommitChains
-mod CommitHeaders
-mod CommitParts
 mod CommitWrites
 mod WritingBack
 mod WrittenBack

@@ -17,7 +17,7 @@ use Rattle.gixobj_fields.specs.declared.encode.Error.TheVariants as encode
 use Rattle.gixobj_ids.specs.declared.hash.kind.Kind.{Kind}
 use Rattle.gixobj_ids.specs.declared.hash.object_id.ObjectId.{ObjectId}
 use Rattle.gixobj_ids.proofs.HexCase.{hex_in_lower_case}
-use Rattle.gixobj_commits.specs.Commit.{CommitLines, IsCommitText, IsEncoding}
+use Rattle.gixobj_lines.specs.Commit.{CommitLines, IsCommitText, IsEncoding}
 use Rattle.gixobj_commits.specs.CommitOwned.{IsOwnedActor, IsOwnedForm, RefusesOwning}
 use Rattle.gixobj_commits.specs.CommitViews.{owned_lines}
 use Rattle.gixobj_commits.specs.CommitWriting.{RefusesEncoding, RefusesOwned, commit_text}

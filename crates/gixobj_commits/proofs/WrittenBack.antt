@@ -10,7 +10,7 @@ use Rattle.gixobj_ids.specs.declared.hash.kind.Kind.{Kind}
 use Rattle.gixobj_fields.proofs.FieldWrites.{holds_none}
 use Rattle.gixobj_fields.proofs.HeadersBack.{header_reads_back}
 use Rattle.gixobj_ids.proofs.HexCase.{lower_case_stays}
-use Rattle.gixobj_commits.specs.Commit.{AreHeaderTexts, CommitLines, IsCommitText, IsEncoding, encoding_text, parent_text}
+use Rattle.gixobj_lines.specs.Commit.{AreHeaderTexts, CommitLines, IsCommitText, IsEncoding, encoding_text, parent_text}
 use Rattle.gixobj_commits.specs.CommitWriting.{RefusesEncoding, RefusesLines, commit_text, in_lower_case}
 use Rattle.gixobj_fields.specs.FieldWriting.{header_text}
 

@@ -11,7 +11,8 @@ use Rattle.gixobj_actors.specs.declared.actor.SignatureRef.{SignatureRef}
 use Rattle.gixobj_actors.specs.declared.date.Time.{Time}
 use Rattle.gixobj_ids.specs.declared.decode.Error.{Error}
 use Rattle.gixobj_ids.specs.declared.decode.Error.TheVariants.{Malformed, OutOfMemory}
-use Rattle.gixobj_commits.specs.Commit.{CommitLines, NamesActor}
+use Rattle.gixobj_lines.specs.Commit.{CommitLines}
+use Rattle.gixobj_lines.specs.Lines.{NamesActor}
 use Rattle.gixobj_commits.specs.CommitViews.{owned_bytes_if_some}
 use Rattle.gixobj_commits.specs.declared.commit.Commit.{Commit}
 

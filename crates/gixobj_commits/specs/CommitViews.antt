@@ -1,13 +1,13 @@
 -- Commits as their readers see them, wherever they lie.
-use Rattle.std.specs.Prelude.{ℕ, List, map, Option, Some, None}
+use Rattle.std.specs.Prelude.{ℕ, List, All, map, Option, Some, None}
 use Rattle.bstr.specs.BStr.{bstr_bytes}
 use Rattle.bstr.specs.Owned.{bstring_bytes}
 use Rattle.bstr.specs.declared.bstr.BStr.{BStr}
 use Rattle.bstr.specs.declared.bstring.BString.{BString}
 use Rattle.gixobj_actors.specs.ActorWriting.{owned_text}
 use Rattle.gixobj_ids.specs.Hash.{hex_text}
-use Rattle.gixobj_fields.specs.HeaderReading.{header_of, owned_header_of}
-use Rattle.gixobj_commits.specs.Commit.{CommitLines}
+use Rattle.gixobj_fields.specs.HeaderReading.{BorrowsOneLine, header_of, owned_header_of}
+use Rattle.gixobj_lines.specs.Commit.{CommitLines}
 use Rattle.gixobj_commits.specs.declared.commit.Commit.{Commit}
 use Rattle.gixobj_commits.specs.declared.commit.CommitRef.{CommitRef}
 
@@ -30,6 +30,10 @@ commit_lines commit = record {
   extra_headers = map header_of commit.extra_headers.items;
   message = bstr_bytes commit.message;
 }
+
+-- values of headers of one line are borrowed, those of several are owned
+abbrev pub BorrowsLines : CommitRef → Type 0
+BorrowsLines commit = All (λ header. BorrowsOneLine header.1) commit.extra_headers.items
 
 -- what an owned commit holds: ids in lower case, actors and times as they are written
 abbrev pub owned_lines : Commit → CommitLines

@@ -7,7 +7,7 @@ use Rattle.gixobj_ids.specs.Hash.{IsHexOfAnId}
 use Rattle.gixobj_fields.specs.FieldWriting.{RefusesValue, header_text}
 use Rattle.gixobj_fields.specs.HeaderText.{field_text}
 use Rattle.gixobj_fields.specs.Writing.{Refused, illegal_actor}
-use Rattle.gixobj_commits.specs.Commit.{CommitLines, before_encoding, encoding_text, ids_text}
+use Rattle.gixobj_lines.specs.Commit.{CommitLines, before_encoding, encoding_text, ids_text}
 use Rattle.gixobj_commits.specs.CommitViews.{owned_lines}
 use Rattle.gixobj_commits.specs.declared.commit.Commit.{Commit}
 use Rattle.gixobj_texts.specs.Bytes.{newline, space}

@@ -1,6 +1,4 @@
-pub mod Commit
 pub mod CommitOwned
-pub mod CommitReading
 pub mod CommitViews
 pub mod CommitWriting
 pub mod Rewriting
@@ -20,3 +18,5 @@ pub use Rattle.gixobj_ids.specs.Encode
 pub use Rattle.gixobj_ids.specs.Hash
 pub use Rattle.gixobj_ids.specs.Kind
 pub use Rattle.gixobj_texts.specs.Parse
+pub use Rattle.gixobj_lines.specs.Commit
+pub use Rattle.gixobj_lines.specs.Lines

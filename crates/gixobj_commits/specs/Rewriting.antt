@@ -8,7 +8,7 @@ use Rattle.gixobj_actors.specs.declared.date.Time.{Time}
 use Rattle.gixobj_fields.specs.Streams.{PutsFront, SinkView}
 use Rattle.gixobj_fields.specs.declared.encode.Error.{Error}
 use Rattle.gixobj_fields.specs.declared.encode.Error.TheVariants as error
-use Rattle.gixobj_commits.specs.Commit.{CommitLines}
+use Rattle.gixobj_lines.specs.Commit.{CommitLines}
 
 -- the actor of the line as it is written: its parts, and the text of its time, or of the default one
 pub record IsCanonical (line written : List ℕ) : Type 0 where

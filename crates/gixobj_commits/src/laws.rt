@@ -8,7 +8,7 @@ ghost use Rattle.gixobj_fields.specs.Writing.{FailsAsSink, RefusesNothing, SaysW
 ghost use Rattle.gixobj_fields.specs.declared.encode.Error.{Error};
 ghost use Rattle.gixobj_ids.specs.declared.decode.Error.TheVariants.{Malformed};
 ghost use Rattle.gixobj_ids.specs.declared.hash.kind.Kind.{Kind};
-ghost use Rattle.gixobj_commits.specs.Commit.{CommitLines, IsCommitText};
+ghost use Rattle.gixobj_lines.specs.Commit.{CommitLines, IsCommitText};
 ghost use Rattle.gixobj_commits.specs.CommitOwned.{IsOwnedForm, RefusesOwning};
 ghost use Rattle.gixobj_commits.specs.CommitViews.{commit_lines, owned_lines};
 ghost use Rattle.gixobj_commits.specs.CommitWriting.{HasIds, RefusesLines, RefusesOwned, commit_text, in_lower_case};

@@ -1,177 +1,179 @@
 -- What a reader of tokens finds in the text of a commit.
-use Rattle.std.proofs.Common.{◌≡◌, ℕ, List, [], ◌∷◌, ◌++◌, Option, Some, None, Result, Ok, Err, inl, inr, ap, subst, ◌∙◌, append_assoc}
-use Rattle.std.proofs.lemmas.List.Elements.{All-append, All-cons, All-nil}
-use Rattle.std.specs.Prelude.{map}
+use Rattle.std.proofs.Common.{◌≡◌, ℕ, List, [], ◌∷◌, ◌++◌, All, Option, Some, None, Result, Ok, Err, inl, inr, refl, sym, ap, subst, ◌∙◌, append_assoc}
+use Rattle.std.proofs.lemmas.List.Elements.{All-append, All-cons, All-head, All-nil, All-tail}
+use Rattle.std.specs.List.{AllZip}
+use Rattle.std.specs.Prelude.{map, ⊤}
 use Rattle.gixobj_actors.specs.Actor.{IsActor}
+use Rattle.gixobj_fields.proofs.Runs.{behind_first, behind_passed, one_here}
+use Rattle.gixobj_fields.specs.Runs.{Ending, HasNone, broken, complete, tells_end, tells_piece}
 use Rattle.gixobj_ids.specs.Hash.{Spells}
 use Rattle.gixobj_ids.specs.declared.decode.Error.{Error}
 use Rattle.gixobj_ids.specs.declared.decode.Error.TheVariants.{Malformed, OutOfMemory}
 use Rattle.gixobj_ids.specs.declared.hash.kind.Kind.{Kind}
 use Rattle.gixobj_ids.specs.declared.hash.object_id.ObjectId.{ObjectId}
-use Rattle.gixobj_commits.specs.Commit.{CommitLines, IsCommitText}
-use Rattle.gixobj_tokens.proofs.CommitsTold.{First, first, no_token_of_nothing}
-use Rattle.gixobj_tokens.proofs.OneToken.{one_token}
-use Rattle.gixobj_fields.proofs.Runs.{Stands, finds_it, lacks_none}
-use Rattle.gixobj_tokens.proofs.ToldCommits.{ToldCommit, commit_told}
-use Rattle.gixobj_fields.specs.Runs.{Ending, broken, complete}
+use Rattle.gixobj_lines.proofs.WholeCommits.{message_last}
+use Rattle.gixobj_lines.specs.Commit.{CommitLines, IsCommitText, encoding_lines, lines_of}
+use Rattle.gixobj_lines.specs.Lines.{LineView, MayFold, author_line, committer_line, encoding_line, header_line, message_line, parent_line, tree_line}
+use Rattle.gixobj_lines.specs.declared.lines.State.{State}
+use Rattle.gixobj_lines.specs.declared.lines.State.TheVariants as state
+use Rattle.gixobj_tokens.proofs.OneLanguage as language
+use Rattle.gixobj_tokens.proofs.TokenRuns.{one_run}
+use Rattle.gixobj_tokens.proofs.Tokens.{no_token_of_nothing, one_token}
 use Rattle.gixobj_tokens.specs.CommitRuns.{Tells}
-use Rattle.gixobj_tokens.specs.CommitTokens.{HasToken, MayComeHeader, TokenView, author_token, committer_token, encoding_token, header_token, message_token, parent_token, token_view, tree_token}
-use Rattle.gixobj_tokens.specs.Readers.{AreTokensOf, encoding_tokens}
+use Rattle.gixobj_tokens.specs.CommitTokens.{HasToken, TellsLine, TokenView, author_token, committer_token, message_token, tells_author, tells_committer, tells_message, tells_tree, token_view, tree_token}
+use Rattle.gixobj_tokens.specs.Readers.{AreTokensOf, EndsInMessage}
 use Rattle.gixobj_tokens.specs.TokenGiving.{GivesId, GivesToken, IsAtStart, answered_id, id_or_malformed, reader_bytes, reader_kind, reader_state, token_id}
-use Rattle.gixobj_fields.specs.Runs.{HasNone}
 use Rattle.gixobj_tokens.specs.TokenPassing.{FindsAuthor, FindsCommitter, FindsFault, FindsFirst, FindsMessage, FindsNone, IsAuthorToken, IsCommitterToken, IsMessageToken, LacksAll}
 use Rattle.gixobj_tokens.specs.declared.ref_iter.CommitRefIter.{CommitRefIter}
-use Rattle.gixobj_tokens.specs.declared.ref_iter.State.TheVariants as state
 use Rattle.gixobj_tokens.specs.declared.ref_iter.Token.{Token}
 
--- the run of a reader at the start of a commit's text
+-- ---- the lines of a commit
+
+-- a line with a place of its own is what the commit has there
+abbrev IsLineOf : CommitLines → LineView → Type 0
+IsLineOf commit (tree_line hex) = hex ≡ commit.tree
+IsLineOf commit (author_line line) = line ≡ commit.author
+IsLineOf commit (committer_line line) = line ≡ commit.committer
+IsLineOf commit (message_line message) = message ≡ commit.message
+IsLineOf commit _ = ⊤
+
+mapped : {X : Type 0} (P : LineView → Type 0) (line : X → LineView) → ((x : X) → P (line x)) → (xs : List X) → All P (map line xs)
+mapped P line each [] = All-nil P
+mapped P line each (x ∷ xs) = All-cons P (line x) (map line xs) (each x) (mapped P line each xs)
+
+of_encoding : (P : LineView → Type 0) → ((encoding : List ℕ) → P (encoding_line encoding)) → (encoding : Option (List ℕ)) → All P (encoding_lines encoding)
+of_encoding P each None = All-nil P
+of_encoding P each (Some encoding) = All-cons P (encoding_line encoding) [] (each encoding) (All-nil P)
+
+all_of_it : (commit : CommitLines) → All (IsLineOf commit) (lines_of commit)
+all_of_it commit =
+    let P : LineView → Type 0 = IsLineOf commit in
+    let message = All-cons P (message_line commit.message) [] refl (All-nil P) in
+    let headers = All-append P (map header_line commit.extra_headers) (message_line commit.message ∷ []) (mapped P header_line (λ header. tt) commit.extra_headers) message in
+    let encoding = All-append P (encoding_lines commit.encoding) _ (of_encoding P (λ encoding. tt) commit.encoding) headers in
+    let others = encoding_lines commit.encoding ++ (map header_line commit.extra_headers ++ message_line commit.message ∷ []) in
+    let actors = All-cons P (author_line commit.author) (committer_line commit.committer ∷ others) refl (All-cons P (committer_line commit.committer) others refl encoding) in
+    All-cons P (tree_line commit.tree) _ refl (All-append P (map parent_line commit.parents) _ (mapped P parent_line (λ hex. tt) commit.parents) actors)
+
+-- ---- a line and its token
+
+-- the line that the token here tells
+line_here : (P : LineView → Type 0) (lines : List LineView) (front : List TokenView) (token : TokenView) (more : List TokenView) → All P lines → AllZip TellsLine lines (front ++ token ∷ more)
+    → (line : LineView) × P line × TellsLine line token
+line_here P [] [] token more all zips = absurd zips
+line_here P [] (first ∷ front) token more all zips = absurd zips
+line_here P (line ∷ lines) [] token more all (tells, others) = (line, All-head P line lines all, tells)
+line_here P (line ∷ lines) (first ∷ front) token more all (tells, others) = line_here P lines front token more (All-tail P line lines all) others
+
+-- the token that tells the line here
+record TokenHere (line : LineView) (tokens : List TokenView) : Type 0 where
+  front : List TokenView
+  token : TokenView
+  more : List TokenView
+  joined : tokens ≡ front ++ token ∷ more
+  tells : TellsLine line token
+
+token_here : (front : List LineView) (line : LineView) (more : List LineView) (tokens : List TokenView) → AllZip TellsLine (front ++ line ∷ more) tokens → TokenHere line tokens
+token_here [] line more [] zips = absurd zips
+token_here (first ∷ front) line more [] zips = absurd zips
+token_here [] line more (token ∷ tokens) (tells, others) = record { front = []; token = token; more = tokens; joined = refl; tells = tells }
+token_here (first ∷ front) line more (token ∷ tokens) (tells, others) =
+    let it = token_here front line more tokens others in
+    record { front = token ∷ it.front; token = it.token; more = it.more; joined = ap (λ (others : List TokenView). token ∷ others) it.joined; tells = it.tells }
+
+author_of : (commit : CommitLines) (line : LineView) (name email time : List ℕ) → IsLineOf commit line → TellsLine line (author_token name email time) → IsActor commit.author name email time
+author_of commit line name email time is (tells_author text _ _ _ actor) = subst (λ (it : List ℕ). IsActor it name email time) is actor
+
+committer_of : (commit : CommitLines) (line : LineView) (name email time : List ℕ) → IsLineOf commit line → TellsLine line (committer_token name email time) → IsActor commit.committer name email time
+committer_of commit line name email time is (tells_committer text _ _ _ actor) = subst (λ (it : List ℕ). IsActor it name email time) is actor
+
+message_of : (commit : CommitLines) (line : LineView) (message : List ℕ) → IsLineOf commit line → TellsLine line (message_token message) → message ≡ commit.message
+message_of commit line message is (tells_message _) = is
+
+tree_of : (commit : CommitLines) (lines : List LineView) (token : TokenView) (more : List TokenView) → AllZip TellsLine (tree_line commit.tree ∷ lines) (token ∷ more) → (id : ObjectId) × (token ≡ tree_token id) × Spells commit.tree id
+tree_of commit lines token more (tells_tree _ id spells, others) = (id, refl, spells)
+
+is_author : (line : List ℕ) (token : TokenView) → TellsLine (author_line line) token → IsAuthorToken token
+is_author line token (tells_author _ name email time is) = tt
+
+is_committer : (line : List ℕ) (token : TokenView) → TellsLine (committer_line line) token → IsCommitterToken token
+is_committer line token (tells_committer _ name email time is) = tt
+
+is_message : (message : List ℕ) (token : TokenView) → TellsLine (message_line message) token → IsMessageToken token
+is_message message token (tells_message _) = tt
+
+-- ---- the run of a reader at the start of a commit's text
+
 pub from_start : (kind : Kind) (text : List ℕ) (reader : CommitRefIter) (tokens : List TokenView) → IsAtStart kind text reader → Tells kind state.Tree text tokens complete
     → Tells (reader_kind reader) (reader_state reader) (reader_bytes reader) tokens complete
 from_start kind text reader tokens start told = rw (start.of_kind, start.standing, start.bytes) told
 
--- ---- the parts of a commit's tokens
-
-pub none_mapped : {X : Type 0} (Is : TokenView → Type 0) (token : X → TokenView) → ((x : X) → ¬ Is (token x)) → (xs : List X) → HasNone Is (map token xs)
-none_mapped Is token other [] = All-nil (λ it. ¬ Is it)
-none_mapped Is token other (x ∷ xs) = All-cons (λ it. ¬ Is it) (token x) (map token xs) (other x) (none_mapped Is token other xs)
-
-pub none_in_encoding : (Is : TokenView → Type 0) → ((encoding : List ℕ) → ¬ Is (encoding_token encoding)) → (encoding : Option (List ℕ)) → HasNone Is (encoding_tokens encoding)
-none_in_encoding Is other None = All-nil (λ it. ¬ Is it)
-none_in_encoding Is other (Some encoding) = All-cons (λ it. ¬ Is it) (encoding_token encoding) [] (other encoding) (All-nil (λ it. ¬ Is it))
-
--- the tokens of a commit, cut before the author, the committer, the message
-pub cut_at_author : (ids : List TokenView) (author committer : TokenView) (encoding headers : List TokenView) (message : TokenView)
-    → ids ++ author ∷ committer ∷ encoding ++ headers ++ message ∷ [] ≡ ids ++ author ∷ (committer ∷ encoding ++ headers ++ message ∷ [])
-cut_at_author ids author committer encoding headers message = simp append_assoc
-
-cut_at_committer : (ids : List TokenView) (author committer : TokenView) (encoding headers : List TokenView) (message : TokenView)
-    → ids ++ author ∷ committer ∷ encoding ++ headers ++ message ∷ [] ≡ (ids ++ author ∷ []) ++ committer ∷ (encoding ++ headers ++ message ∷ [])
-cut_at_committer ids author committer encoding headers message = simp append_assoc
-
-module _ (commit : CommitLines) (tokens : List TokenView) (are : AreTokensOf commit tokens) where
-  abbrev ids : List TokenView
-  ids = tree_token are.tree ∷ map parent_token are.parents
-
-  abbrev author : TokenView
-  author = author_token are.author.name are.author.email are.author.time
-
-  abbrev committer : TokenView
-  committer = committer_token are.committer.name are.committer.email are.committer.time
-
-  none_in_ids : (Is : TokenView → Type 0) → ((id : ObjectId) → ¬ Is (tree_token id)) → ((id : ObjectId) → ¬ Is (parent_token id)) → HasNone Is ids
-  none_in_ids Is tree parent = All-cons (λ it. ¬ Is it) (tree_token are.tree) (map parent_token are.parents) (tree are.tree) (none_mapped Is parent_token parent are.parents)
-
-  abbrev pub tokens_behind_tree : List TokenView
-  tokens_behind_tree =
-      map parent_token are.parents ++ author ∷ committer ∷ encoding_tokens commit.encoding ++ map header_token commit.extra_headers ++ message_token commit.message ∷ []
-
-  pub tree_stands : tokens ≡ tree_token are.tree ∷ tokens_behind_tree
-  tree_stands = are.joined
-
-  pub author_stands : Stands IsAuthorToken tokens author
-  author_stands =
-      record {
-        front = ids;
-        more = committer ∷ encoding_tokens commit.encoding ++ map header_token commit.extra_headers ++ message_token commit.message ∷ [];
-        joined = are.joined ∙ cut_at_author ids author committer (encoding_tokens commit.encoding) (map header_token commit.extra_headers) (message_token commit.message);
-        none = none_in_ids IsAuthorToken (λ id is. is) (λ id is. is);
-        is = tt;
-      }
-
-  pub committer_stands : Stands IsCommitterToken tokens committer
-  committer_stands =
-      let P : TokenView → Type 0 = λ it. ¬ IsCommitterToken it in
-      record {
-        front = ids ++ author ∷ [];
-        more = encoding_tokens commit.encoding ++ map header_token commit.extra_headers ++ message_token commit.message ∷ [];
-        joined = are.joined ∙ cut_at_committer ids author committer (encoding_tokens commit.encoding) (map header_token commit.extra_headers) (message_token commit.message);
-        none = All-append P ids (author ∷ []) (none_in_ids IsCommitterToken (λ id is. is) (λ id is. is)) (All-cons P author [] (λ is. is) (All-nil P));
-        is = tt;
-      }
-
-  no_message : HasNone IsMessageToken (ids ++ author ∷ committer ∷ encoding_tokens commit.encoding)
-  no_message =
-      let P : TokenView → Type 0 = λ it. ¬ IsMessageToken it in
-      let encoding = encoding_tokens commit.encoding in
-      let of_encoding = none_in_encoding IsMessageToken (λ encoding is. is) commit.encoding in
-      let behind = All-cons P author (committer ∷ encoding) (λ is. is) (All-cons P committer encoding (λ is. is) of_encoding) in
-      All-append P ids (author ∷ committer ∷ encoding) (none_in_ids IsMessageToken (λ id is. is) (λ id is. is)) behind
-
-  pub message_stands : Stands IsMessageToken tokens (message_token commit.message)
-  message_stands =
-      let P : TokenView → Type 0 = λ it. ¬ IsMessageToken it in
-      let headers = map header_token commit.extra_headers in
-      record {
-        front = ids ++ author ∷ committer ∷ encoding_tokens commit.encoding ++ headers;
-        more = [];
-        joined = are.joined;
-        none = All-append P (ids ++ author ∷ committer ∷ encoding_tokens commit.encoding) headers no_message (none_mapped IsMessageToken header_token (λ header is. is) commit.extra_headers);
-        is = tt;
-      }
-
--- ---- actors and message
+begins_token : (kind : Kind) (before : State) (input : List ℕ) (line : LineView) (lines : List LineView) (tokens : List TokenView) → Tells kind before input tokens complete → AllZip TellsLine (line ∷ lines) tokens
+    → (token : TokenView) × (behind : State) × (rest : List ℕ) × HasToken kind before input token behind rest
+begins_token kind before input line lines tokens (tells_end _) zips = absurd zips
+begins_token kind before input line lines tokens (tells_piece _ behind _ rest token _ _ has told) zips = (token, behind, rest, has)
 
 module _ (kind : Kind) (text : List ℕ) (commit : CommitLines) (reader : CommitRefIter) (is : IsCommitText kind text commit) (start : IsAtStart kind text reader) where
-  whole : ToldCommit kind text commit
-  whole = commit_told kind text commit is
+  run : (tokens : List TokenView) × Tells kind state.Tree text tokens complete × AreTokensOf commit tokens × EndsInMessage tokens
+  run = language.told kind text commit is
 
-  told : Tells (reader_kind reader) (reader_state reader) (reader_bytes reader) whole.tokens complete
-  told = from_start kind text reader whole.tokens start whole.told
+  told : Tells (reader_kind reader) (reader_state reader) (reader_bytes reader) run.0 complete
+  told = from_start kind text reader run.0 start run.1
 
-  finds_token : (Is : TokenView → Type 0) (token y : TokenView) → FindsFirst Is reader token → Is token → Stands Is whole.tokens y → token ≡ y
-  finds_token Is token y finds is stands =
-      let kind' = reader_kind reader in
-      finds_it (HasToken kind') (one_token kind') (no_token_of_nothing kind') Is (reader_state reader) (reader_bytes reader) token whole.tokens y finds is told stands
+  line_found : (Is : TokenView → Type 0) (token : TokenView) → FindsFirst Is reader token → (line : LineView) × IsLineOf commit line × TellsLine line token
+  line_found Is token (before, behind, here, rest, (passed, passes, none), has) =
+      let has_token = HasToken (reader_kind reader) in
+      let one = one_token (reader_kind reader) in
+      let some = no_token_of_nothing (reader_kind reader) in
+      let at = behind_passed has_token one some (reader_state reader) before (reader_bytes reader) here passed run.0 complete passes told in
+      let first = behind_first has_token one some before behind here rest token at.others complete has at.told in
+      let joined = at.joined ∙ ap (λ (it : List TokenView). passed ++ it) first.joined in
+      line_here (IsLineOf commit) (lines_of commit) passed token first.others (all_of_it commit) (subst (λ (it : List TokenView). AllZip TellsLine (lines_of commit) it) joined run.2)
 
-  lacks_token : (Is : TokenView → Type 0) (ending : Ending) (y : TokenView) → LacksAll Is reader ending → Stands Is whole.tokens y → ⊥
-  lacks_token Is ending y lacks stands =
-      let kind' = reader_kind reader in
-      lacks_none (HasToken kind') (one_token kind') (no_token_of_nothing kind') Is (reader_state reader) (reader_bytes reader) ending whole.tokens y lacks told stands
+  lacks_none : (Is : TokenView → Type 0) (ending : Ending) (front : List LineView) (line : LineView) (more : List LineView) → lines_of commit ≡ front ++ line ∷ more → ((token : TokenView) → TellsLine line token → Is token) → LacksAll Is reader ending → ⊥
+  lacks_none Is ending front line more joined is_such (tokens, lacks, none) =
+      let same = (one_run (reader_kind reader) (reader_state reader) (reader_bytes reader) tokens run.0 ending complete lacks told).0 in
+      let here = token_here front line more run.0 (subst (λ (it : List LineView). AllZip TellsLine it run.0) joined run.2) in
+      one_here Is here.front here.token here.more (is_such here.token here.tells) (subst (HasNone Is) (same ∙ here.joined) none)
+
+  -- ---- actors and message
 
   pub its_author : (name email time : List ℕ) → FindsAuthor reader name email time → IsActor commit.author name email time
-  its_author name email time finds =
-      let same = finds_token IsAuthorToken (author_token name email time) _ finds tt (author_stands commit whole.tokens whole.are) in
-      let name' : name ≡ whole.are.author.name = cc same in
-      let email' : email ≡ whole.are.author.email = cc same in
-      let time' : time ≡ whole.are.author.time = cc same in
-      rw (name', email', time') whole.are.is_author
+  its_author name email time finds = let it = line_found IsAuthorToken (author_token name email time) finds in author_of commit it.0 name email time it.1 it.2
 
   pub has_author : ¬ FindsNone IsAuthorToken reader Malformed
-  has_author = λ (ending, lacks). lacks_token IsAuthorToken ending _ lacks (author_stands commit whole.tokens whole.are)
+  has_author = λ (ending, lacks). lacks_none IsAuthorToken ending (tree_line commit.tree ∷ map parent_line commit.parents) (author_line commit.author) _ refl (is_author commit.author) lacks
 
   pub its_committer : (name email time : List ℕ) → FindsCommitter reader name email time → IsActor commit.committer name email time
-  its_committer name email time finds =
-      let same = finds_token IsCommitterToken (committer_token name email time) _ finds tt (committer_stands commit whole.tokens whole.are) in
-      let name' : name ≡ whole.are.committer.name = cc same in
-      let email' : email ≡ whole.are.committer.email = cc same in
-      let time' : time ≡ whole.are.committer.time = cc same in
-      rw (name', email', time') whole.are.is_committer
+  its_committer name email time finds = let it = line_found IsCommitterToken (committer_token name email time) finds in committer_of commit it.0 name email time it.1 it.2
 
   pub has_committer : ¬ FindsNone IsCommitterToken reader Malformed
-  has_committer = λ (ending, lacks). lacks_token IsCommitterToken ending _ lacks (committer_stands commit whole.tokens whole.are)
+  has_committer = λ (ending, lacks).
+      let others = encoding_lines commit.encoding ++ (map header_line commit.extra_headers ++ message_line commit.message ∷ []) in
+      let joined : lines_of commit ≡ (tree_line commit.tree ∷ (map parent_line commit.parents ++ author_line commit.author ∷ [])) ++ committer_line commit.committer ∷ others = sym (simp append_assoc) in
+      lacks_none IsCommitterToken ending (tree_line commit.tree ∷ (map parent_line commit.parents ++ author_line commit.author ∷ [])) (committer_line commit.committer) others joined (is_committer commit.committer) lacks
 
   pub its_message : (message : List ℕ) → FindsMessage reader message → message ≡ commit.message
-  its_message message (inl finds) =
-      let same = finds_token IsMessageToken (message_token message) _ finds tt (message_stands commit whole.tokens whole.are) in cc same
-  its_message message (inr (lacks, empty)) = absurd (lacks_token IsMessageToken complete _ lacks (message_stands commit whole.tokens whole.are))
+  its_message message (inl finds) = let it = line_found IsMessageToken (message_token message) finds in message_of commit it.0 message it.1 it.2
+  its_message message (inr (lacks, empty)) = absurd (lacks_none IsMessageToken complete (message_last commit).0 (message_line commit.message) [] (message_last commit).1 (is_message commit.message) lacks)
 
   pub has_message : ¬ FindsFault IsMessageToken reader Malformed
-  has_message = λ lacks. lacks_token IsMessageToken broken _ lacks (message_stands commit whole.tokens whole.are)
+  has_message = λ lacks. lacks_none IsMessageToken broken (message_last commit).0 (message_line commit.message) [] (message_last commit).1 (is_message commit.message) lacks
 
   -- ---- the tree
 
-  tree_first : First (reader_kind reader) (reader_state reader) (reader_bytes reader) (tree_token whole.are.tree) (tokens_behind_tree commit whole.tokens whole.are)
-  tree_first =
-      first (reader_kind reader) (reader_state reader) (reader_bytes reader) (tree_token whole.are.tree) (tokens_behind_tree commit whole.tokens whole.are)
-      (subst (λ (it : List TokenView). Tells (reader_kind reader) (reader_state reader) (reader_bytes reader) it complete) (tree_stands commit whole.tokens whole.are) told)
+  tree_begins : (token : TokenView) × (behind : State) × (rest : List ℕ) × HasToken (reader_kind reader) (reader_state reader) (reader_bytes reader) token behind rest
+  tree_begins = begins_token (reader_kind reader) (reader_state reader) (reader_bytes reader) (tree_line commit.tree) _ run.0 told run.2
 
-  its_answer : (answer : Option (Result Token Error)) (after : CommitRefIter) → GivesToken reader answer after → answered_id answer ≡ Ok whole.are.tree
+  its_answer : (answer : Option (Result Token Error)) (after : CommitRefIter) → GivesToken reader answer after → (id : ObjectId) × (answered_id answer ≡ Ok id) × Spells commit.tree id
   its_answer (Some (Ok token)) after gives =
-      let same = one_token (reader_kind reader) (reader_state reader) (reader_bytes reader) (token_view token) (tree_token whole.are.tree) _ _ _ _ gives.0 tree_first.has in
-      ap (λ (it : TokenView). id_or_malformed (token_id it)) same.0
-  its_answer (Some (Err Malformed)) after gives = absurd (gives.1 _ _ _ tree_first.has)
-  its_answer (Some (Err OutOfMemory)) after gives = absurd (subst MayComeHeader start.standing gives.1.0)
-  its_answer None after gives = absurd (no_token_of_nothing (reader_kind reader) (reader_state reader) (reader_bytes reader) (tree_token whole.are.tree) _ _ gives.0 tree_first.has)
+      let kind' = reader_kind reader in
+      let first = behind_first (HasToken kind') (one_token kind') (no_token_of_nothing kind') (reader_state reader) (reader_state after) (reader_bytes reader) (reader_bytes after) (token_view token) run.0 complete gives.0 told in
+      let tree = tree_of commit _ (token_view token) first.others (subst (λ (it : List TokenView). AllZip TellsLine (lines_of commit) it) first.joined run.2) in
+      (tree.0, ap (λ (it : TokenView). id_or_malformed (token_id it)) tree.1, tree.2)
+  its_answer (Some (Err Malformed)) after gives = absurd (gives.1 _ _ _ tree_begins.3)
+  its_answer (Some (Err OutOfMemory)) after gives = absurd (subst (λ (it : State). MayFold it (reader_bytes reader)) start.standing gives.1.0)
+  its_answer None after gives = absurd (no_token_of_nothing (reader_kind reader) (reader_state reader) (reader_bytes reader) tree_begins.0 _ _ gives.0 tree_begins.3)
 
   pub its_tree : (after : CommitRefIter) (result : Result ObjectId Error) → GivesId reader result after → (id : ObjectId) × (result ≡ Ok id) × Spells commit.tree id
-  its_tree after result (answer, gives, is_answer) = (whole.are.tree, is_answer ∙ its_answer answer after gives, whole.are.tree_spelled)
+  its_tree after result (answer, gives, is_answer) = let it = its_answer answer after gives in (it.0, is_answer ∙ it.1, it.2)

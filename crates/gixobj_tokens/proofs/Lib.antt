@@ -1,10 +1,6 @@
 mod CommitsFound
-mod CommitsTold
 mod OneLanguage
-mod OneToken
 mod ParentsFound
-mod TokenCases
 mod TokenFilterSteps
-mod TokenRefusals
 mod TokenRuns
-mod ToldCommits
+mod Tokens

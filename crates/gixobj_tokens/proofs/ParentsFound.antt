@@ -1,33 +1,32 @@
 -- The parents that a reader of tokens finds in the text of a commit.
-use Rattle.std.proofs.Common.{◌≡◌, ℕ, List, [], ◌∷◌, ◌++◌, Some, None, refl, sym, ap, subst, ◌∙◌}
+use Rattle.std.proofs.Common.{◌≡◌, ℕ, List, [], ◌∷◌, ◌++◌, Option, Some, None, refl, sym, ap, subst, ◌∙◌}
 use Rattle.std.proofs.lemmas.Iterator.{YieldsList}
-use Rattle.std.proofs.lemmas.List.Elements.{All-append, All-cons, All-head, All-nil, All-tail}
-use Rattle.std.proofs.lemmas.List.{append-nil}
+use Rattle.std.proofs.lemmas.List.Elements.{All-cons, All-head, All-nil, All-tail}
 use Rattle.std.proofs.lemmas.List.Concat.{flat_map-append}
 use Rattle.std.specs.Iterator.{AlwaysYields}
 use Rattle.std.specs.List.{AllZip, flat_map}
-use Rattle.std.specs.Prelude.{map}
+use Rattle.std.specs.Prelude.{map, ⊤}
 use Rattle.gixobj_ids.specs.Hash.{Spells}
 use Rattle.gixobj_ids.specs.declared.decode.Error.TheVariants.{Malformed, OutOfMemory}
 use Rattle.gixobj_ids.specs.declared.hash.kind.Kind.{Kind}
 use Rattle.gixobj_ids.specs.declared.hash.object_id.ObjectId.{ObjectId}
-use Rattle.gixobj_commits.specs.Commit.{CommitLines, IsCommitText}
-use Rattle.gixobj_tokens.proofs.CommitsFound.{cut_at_author, from_start, none_in_encoding, none_mapped}
 use Rattle.gixobj_fields.proofs.Runs.{behind_first, behind_passed}
-use Rattle.gixobj_tokens.proofs.CommitsTold.{no_token_of_nothing}
-use Rattle.gixobj_tokens.proofs.OneToken.{one_token}
-use Rattle.gixobj_tokens.proofs.ToldCommits.{commit_told}
+use Rattle.gixobj_fields.specs.HeaderText.{Header}
+use Rattle.gixobj_fields.specs.Runs.{Ending, HasNone, complete, tells_end, tells_error, tells_piece}
+use Rattle.gixobj_lines.specs.Commit.{CommitLines, IsCommitText, encoding_lines, lines_of}
+use Rattle.gixobj_lines.specs.Lines.{HasLine, LineView, MayFold, author_comes, committer_comes, encoding_comes, first_header_comes, first_message_comes, header_comes, header_line, message_comes, message_line, parent_comes, parent_line, tree_comes}
+use Rattle.gixobj_lines.specs.declared.lines.State.{State}
+use Rattle.gixobj_lines.specs.declared.lines.State.TheVariants as state
+use Rattle.gixobj_tokens.proofs.CommitsFound.{from_start}
+use Rattle.gixobj_tokens.proofs.OneLanguage as language
 use Rattle.gixobj_tokens.proofs.TokenRuns.{one_run}
-use Rattle.gixobj_fields.specs.Runs.{Ending, complete, tells_end, tells_error, tells_piece}
+use Rattle.gixobj_tokens.proofs.Tokens.{no_token_of_nothing, one_token}
 use Rattle.gixobj_tokens.specs.CommitRuns.{Tells}
-use Rattle.gixobj_tokens.specs.CommitTokens.{HasToken, MayComeHeader, TokenView, author_token, committer_token, encoding_token, header_token, message_token, parent_token, state_behind, tree_token}
-use Rattle.gixobj_tokens.specs.Readers.{AreTokensOf, encoding_tokens}
+use Rattle.gixobj_tokens.specs.CommitTokens.{HasToken, TellsLine, TokenView, author_token, committer_token, encoding_token, header_token, message_token, parent_token, tells_author, tells_committer, tells_encoding, tells_header, tells_message, tells_parent, tells_tree, tree_token}
+use Rattle.gixobj_tokens.specs.Readers.{AreTokensOf}
 use Rattle.gixobj_tokens.specs.TokenFilters.{GivesParent, parents_reader}
 use Rattle.gixobj_tokens.specs.TokenGiving.{IsAtStart, reader_bytes, reader_kind, reader_state}
-use Rattle.gixobj_fields.specs.Runs.{HasNone}
 use Rattle.gixobj_tokens.specs.TokenPassing.{IsParentToken}
-use Rattle.gixobj_tokens.specs.declared.ref_iter.State.{State}
-use Rattle.gixobj_tokens.specs.declared.ref_iter.State.TheVariants as state
 use Rattle.gixobj_tokens.specs.declared.ref_iter.filters.ParentIds.{ParentIds}
 
 -- ---- the parents among tokens
@@ -53,40 +52,43 @@ no_parents [] none = refl
 no_parents (token ∷ tokens) none =
     rw (no_parent token (All-head (λ it. ¬ IsParentToken it) token tokens none)) (no_parents tokens (All-tail (λ it. ¬ IsParentToken it) token tokens none))
 
-all_parents : (ids : List ObjectId) → parents_of (map parent_token ids) ≡ ids
-all_parents [] = refl
-all_parents (id ∷ ids) = ap (λ (it : List ObjectId). id ∷ it) (all_parents ids)
-
 -- behind tokens without a parent the first parent is that of the rest
 behind_others : (others tokens : List TokenView) → HasNone IsParentToken others → parents_of (others ++ tokens) ≡ parents_of tokens
 behind_others others tokens none = flat_map-append parent_id others tokens ∙ ap (λ (it : List ObjectId). it ++ parents_of tokens) (no_parents others none)
 
 -- ---- no parent comes behind the committer
 
-behind_header : (before : State) (token : TokenView) (behind : State) → MayComeHeader before → state_behind before token ≡ Some behind → (¬ IsParentToken token) × MayComeHeader behind
-behind_header state.Tree token behind may comes = absurd may
-behind_header state.Parents token behind may comes = absurd may
-behind_header state.Committer token behind may comes = absurd may
-behind_header state.Encoding (tree_token id) behind may comes = cc
-behind_header state.Encoding (parent_token id) behind may comes = cc
-behind_header state.Encoding (author_token name email time) behind may comes = cc
-behind_header state.Encoding (committer_token name email time) behind may comes = cc
-behind_header state.Encoding (encoding_token encoding) behind may comes = let same : state.ExtraHeaders ≡ behind = cc in (λ is. is, subst MayComeHeader same tt)
-behind_header state.Encoding (header_token header) behind may comes = let same : state.ExtraHeaders ≡ behind = cc in (λ is. is, subst MayComeHeader same tt)
-behind_header state.Encoding (message_token message) behind may comes = let same : state.ExtraHeaders ≡ behind = cc in (λ is. is, subst MayComeHeader same tt)
-behind_header state.ExtraHeaders (tree_token id) behind may comes = cc
-behind_header state.ExtraHeaders (parent_token id) behind may comes = cc
-behind_header state.ExtraHeaders (author_token name email time) behind may comes = cc
-behind_header state.ExtraHeaders (committer_token name email time) behind may comes = cc
-behind_header state.ExtraHeaders (encoding_token encoding) behind may comes = cc
-behind_header state.ExtraHeaders (header_token header) behind may comes = let same : state.ExtraHeaders ≡ behind = cc in (λ is. is, subst MayComeHeader same tt)
-behind_header state.ExtraHeaders (message_token message) behind may comes = let same : state.ExtraHeaders ≡ behind = cc in (λ is. is, subst MayComeHeader same tt)
+abbrev IsBehindActors : State → Type 0
+IsBehindActors state.Encoding = ⊤
+IsBehindActors state.ExtraHeaders = ⊤
+IsBehindActors state.End = ⊤
+IsBehindActors _ = ⊥
 
-none_behind : (kind : Kind) (before : State) (input : List ℕ) (tokens : List TokenView) (ending : Ending) → MayComeHeader before → Tells kind before input tokens ending → HasNone IsParentToken tokens
+behind_folded : (before : State) (input : List ℕ) → MayFold before input → IsBehindActors before
+behind_folded state.Tree input may = absurd may
+behind_folded state.Parents input may = absurd may
+behind_folded state.Committer input may = absurd may
+behind_folded state.Encoding input may = tt
+behind_folded state.ExtraHeaders input may = tt
+behind_folded state.End input may = absurd may
+
+behind_actors : (kind : Kind) (before : State) (input : List ℕ) (line : LineView) (token : TokenView) (after : State) (rest : List ℕ) → HasLine kind before input line after rest → TellsLine line token → IsBehindActors before
+    → (¬ IsParentToken token) × IsBehindActors after
+behind_actors kind before input line token after rest (tree_comes _ hex _ has) tells may = absurd may
+behind_actors kind before input line token after rest (parent_comes _ hex _ has) tells may = absurd may
+behind_actors kind before input line token after rest (author_comes _ actor _ has) tells may = absurd may
+behind_actors kind before input line token after rest (committer_comes _ actor _ has) tells may = absurd may
+behind_actors kind before input line token after rest (encoding_comes _ encoding _ has) (tells_encoding _) may = (λ is. is, tt)
+behind_actors kind before input line token after rest (first_header_comes _ header _ has other) (tells_header _) may = (λ is. is, tt)
+behind_actors kind before input line token after rest (header_comes _ header _ has) (tells_header _) may = (λ is. is, tt)
+behind_actors kind before input line token after rest (first_message_comes _ message is) (tells_message _) may = (λ is. is, tt)
+behind_actors kind before input line token after rest (message_comes _ message is) (tells_message _) may = (λ is. is, tt)
+
+none_behind : (kind : Kind) (before : State) (input : List ℕ) (tokens : List TokenView) (ending : Ending) → IsBehindActors before → Tells kind before input tokens ending → HasNone IsParentToken tokens
 none_behind kind before input tokens ending may (tells_end _) = All-nil (λ it. ¬ IsParentToken it)
 none_behind kind before input tokens ending may (tells_error _ _ some none) = All-nil (λ it. ¬ IsParentToken it)
-none_behind kind before input tokens ending may (tells_piece _ behind _ rest token others _ has told) =
-    let it = behind_header before token behind may has.comes in
+none_behind kind before input tokens ending may (tells_piece _ behind _ rest token others _ (line, has, tells) told) =
+    let it = behind_actors kind before input line token behind rest has tells may in
     All-cons (λ it. ¬ IsParentToken it) token others it.0 (none_behind kind behind rest others ending it.1 told)
 
 -- ---- the iterator
@@ -116,7 +118,7 @@ module _ (it : ParentIds) (tokens : List TokenView) (told : Tells (reader_kind (
   none_given after (OutOfMemory, (before, input, (passed, passes, none), refused), ended, same_kind) =
       let kind = reader_kind (parents_reader it) in
       let at = behind_passed (HasToken kind) (one_token kind) (no_token_of_nothing kind) (reader_state (parents_reader it)) before (reader_bytes (parents_reader it)) input passed tokens complete passes told in
-      ap parents_of at.joined ∙ behind_others passed at.others none ∙ no_parents at.others (none_behind _ before input at.others complete refused.0 at.told)
+      ap parents_of at.joined ∙ behind_others passed at.others none ∙ no_parents at.others (none_behind _ before input at.others complete (behind_folded before input refused.0) at.told)
 
 always : (ids : List ObjectId) (it : ParentIds) (tokens : List TokenView) → Tells (reader_kind (parents_reader it)) (reader_state (parents_reader it)) (reader_bytes (parents_reader it)) tokens complete
     → parents_of tokens ≡ ids → AlwaysYields GivesParent (λ id. id) it ids
@@ -131,25 +133,43 @@ always (id ∷ ids) it tokens told some = (
       (first, always ids after next.others next.told more),
 )
 
-parents_in : (commit : CommitLines) (tokens : List TokenView) → (are : AreTokensOf commit tokens) → parents_of tokens ≡ are.parents
-parents_in commit tokens are =
-    let P : TokenView → Type 0 = λ it. ¬ IsParentToken it in
-    let author = author_token are.author.name are.author.email are.author.time in
-    let committer = committer_token are.committer.name are.committer.email are.committer.time in
-    let ids = tree_token are.tree ∷ map parent_token are.parents in
-    let joined = are.joined ∙ cut_at_author ids author committer (encoding_tokens commit.encoding) (map header_token commit.extra_headers) (message_token commit.message) in
-    let encoding = none_in_encoding IsParentToken (λ encoding is. is) commit.encoding in
-    let headers = none_mapped IsParentToken header_token (λ header is. is) commit.extra_headers in
-    let message = All-cons P (message_token commit.message) [] (λ is. is) (All-nil P) in
-    let last = encoding_tokens commit.encoding ++ map header_token commit.extra_headers ++ message_token commit.message ∷ [] in
-    let behind = All-append P (encoding_tokens commit.encoding ++ map header_token commit.extra_headers) (message_token commit.message ∷ []) (All-append P (encoding_tokens commit.encoding) (map header_token commit.extra_headers) encoding headers) message in
-    let others = All-cons P author (committer ∷ last) (λ is. is) (All-cons P committer last (λ is. is) behind) in
-    ap parents_of joined ∙ flat_map-append parent_id ids (author ∷ committer ∷ last) ∙ ap (λ (it : List ObjectId). parents_of ids ++ it) (no_parents (author ∷ committer ∷ last) others)
-    ∙ append-nil (parents_of ids) ∙ all_parents are.parents
+-- ---- the parents of a commit
+
+abbrev hex_of : LineView → List (List ℕ)
+hex_of (parent_line hex) = hex ∷ []
+hex_of _ = []
+
+all_told : (lines : List LineView) (tokens : List TokenView) → AllZip TellsLine lines tokens → AllZip Spells (flat_map hex_of lines) (parents_of tokens)
+all_told [] [] zips = tt
+all_told [] (token ∷ tokens) zips = absurd zips
+all_told (line ∷ lines) [] zips = absurd zips
+all_told (_ ∷ lines) (_ ∷ tokens) (tells_tree hex id spells, others) = all_told lines tokens others
+all_told (_ ∷ lines) (_ ∷ tokens) (tells_parent hex id spells, others) = (spells, all_told lines tokens others)
+all_told (_ ∷ lines) (_ ∷ tokens) (tells_author text name email time is, others) = all_told lines tokens others
+all_told (_ ∷ lines) (_ ∷ tokens) (tells_committer text name email time is, others) = all_told lines tokens others
+all_told (_ ∷ lines) (_ ∷ tokens) (tells_encoding encoding, others) = all_told lines tokens others
+all_told (_ ∷ lines) (_ ∷ tokens) (tells_header header, others) = all_told lines tokens others
+all_told (_ ∷ lines) (_ ∷ tokens) (tells_message message, others) = all_told lines tokens others
+
+hexes_in : (hexes : List (List ℕ)) (lines : List LineView) → flat_map hex_of lines ≡ [] → flat_map hex_of (map parent_line hexes ++ lines) ≡ hexes
+hexes_in [] lines none = none
+hexes_in (hex ∷ hexes) lines none = ap (λ (it : List (List ℕ)). hex ∷ it) (hexes_in hexes lines none)
+
+none_in_headers : (headers : List Header) (message : List ℕ) → flat_map hex_of (map header_line headers ++ message_line message ∷ []) ≡ []
+none_in_headers [] message = refl
+none_in_headers (header ∷ headers) message = none_in_headers headers message
+
+none_in_encoding : (encoding : Option (List ℕ)) (headers : List Header) (message : List ℕ) → flat_map hex_of (encoding_lines encoding ++ (map header_line headers ++ message_line message ∷ [])) ≡ []
+none_in_encoding None headers message = none_in_headers headers message
+none_in_encoding (Some encoding) headers message = none_in_headers headers message
+
+parents_spelled : (commit : CommitLines) (tokens : List TokenView) → AreTokensOf commit tokens → AllZip Spells commit.parents (parents_of tokens)
+parents_spelled commit tokens are =
+    subst (λ (hexes : List (List ℕ)). AllZip Spells hexes (parents_of tokens)) (hexes_in commit.parents _ (none_in_encoding commit.encoding commit.extra_headers commit.message)) (all_told (lines_of commit) tokens are)
 
 pub its_parents : (kind : Kind) (text : List ℕ) (commit : CommitLines) (it : ParentIds) → IsCommitText kind text commit → IsAtStart kind text (parents_reader it)
     → (ids : List ObjectId) × AllZip Spells commit.parents ids × YieldsList GivesParent (λ id. id) it ids
 its_parents kind text commit it is start =
-    let whole = commit_told kind text commit is in
-    let told = from_start kind text (parents_reader it) whole.tokens start whole.told in
-    (whole.are.parents, whole.are.parents_spelled, record { runs = always whole.are.parents it whole.tokens told (parents_in commit whole.tokens whole.are) })
+    let run = language.told kind text commit is in
+    let told = from_start kind text (parents_reader it) run.0 start run.1 in
+    (parents_of run.0, parents_spelled commit run.0 run.2, record { runs = always (parents_of run.0) it run.0 told refl })

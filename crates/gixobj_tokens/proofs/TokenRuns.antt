@@ -7,15 +7,14 @@ use Rattle.gixobj_ids.specs.declared.decode.Error.TheVariants.{Malformed, OutOfM
 use Rattle.gixobj_ids.specs.declared.hash.kind.Kind.{Kind}
 use Rattle.gixobj_fields.proofs.Runs as runs
 use Rattle.gixobj_fields.proofs.Runs.{passes_one, tells_passed}
-use Rattle.gixobj_tokens.proofs.CommitsTold.{no_token_of_nothing}
-use Rattle.gixobj_tokens.proofs.OneToken.{one_token}
+use Rattle.gixobj_tokens.proofs.Tokens.{no_token_of_nothing, one_token, text_of_token}
 use Rattle.gixobj_fields.specs.Runs.{Ending, broken, complete, tells_end, tells_error}
 use Rattle.gixobj_tokens.specs.CommitRuns.{Tells}
 use Rattle.gixobj_tokens.specs.CommitTokens.{HasToken, IsTokenText, RefusesToken, TokenView, token_view}
 use Rattle.gixobj_tokens.specs.TokenGiving.{GivesToken, reader_bytes, reader_kind, reader_state}
 use Rattle.gixobj_tokens.specs.TokenPassing.{AreTokenTexts, FindsFault, FindsNone, LacksAll, PassesNone}
 use Rattle.gixobj_tokens.specs.declared.ref_iter.CommitRefIter.{CommitRefIter}
-use Rattle.gixobj_tokens.specs.declared.ref_iter.State.{State}
+use Rattle.gixobj_lines.specs.declared.lines.State.{State}
 use Rattle.gixobj_tokens.specs.declared.ref_iter.Token.{Token}
 
 -- ---- one run, and the texts of a run
@@ -24,7 +23,7 @@ pub one_run : (kind : Kind) (before : State) (input : List ℕ) (a b : List Toke
 one_run kind = runs.one_run (HasToken kind) (one_token kind) (no_token_of_nothing kind)
 
 pub texts_of_run : (kind : Kind) (before : State) (input : List ℕ) (tokens : List TokenView) → Tells kind before input tokens complete → AreTokenTexts kind input tokens
-texts_of_run kind = runs.texts_of_run (HasToken kind) (IsTokenText kind) (λ before input token behind rest it. (it.text, it.joined, it.written))
+texts_of_run kind = runs.texts_of_run (HasToken kind) (IsTokenText kind) (text_of_token kind)
 
 -- ---- a reader that looks for a token
 

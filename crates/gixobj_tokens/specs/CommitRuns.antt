@@ -4,7 +4,7 @@ use Rattle.gixobj_fields.specs.Runs as runs
 use Rattle.gixobj_fields.specs.Runs.{Ending}
 use Rattle.gixobj_ids.specs.declared.hash.kind.Kind.{Kind}
 use Rattle.gixobj_tokens.specs.CommitTokens.{HasToken, TokenView}
-use Rattle.gixobj_tokens.specs.declared.ref_iter.State.{State}
+use Rattle.gixobj_lines.specs.declared.lines.State.{State}
 
 -- from this state over this input these tokens are told, and then the run ends so
 abbrev pub Tells : Kind → State → List ℕ → List TokenView → Ending → Type 0

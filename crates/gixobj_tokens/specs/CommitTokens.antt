@@ -1,22 +1,19 @@
 -- Commits told token by token.
-use Rattle.std.specs.Prelude.{◌≡◌, ◌≢◌, ℕ, List, [], ◌∷◌, ◌++◌, Option, Some, None, codes, ⊤}
+use Rattle.std.specs.Prelude.{ℕ, List, []}
 use Rattle.bstr.specs.BStr.{bstr_bytes}
-use Rattle.gixobj_ids.specs.Hash.{Spells, id_kind}
-use Rattle.gixobj_commits.specs.CommitReading.{LacksName}
-use Rattle.gixobj_fields.specs.HeaderReading.{header_of}
 use Rattle.gixobj_actors.specs.Actor.{IsActor}
+use Rattle.gixobj_fields.specs.HeaderReading.{header_of}
+use Rattle.gixobj_fields.specs.HeaderText.{Header}
 use Rattle.gixobj_fields.specs.Runs.{HasNoPiece}
-use Rattle.gixobj_fields.specs.HeaderText.{BeginsSeveralLines, EndsHeader, Header, IsHeaderText, field_text}
-use Rattle.gixobj_texts.specs.Parse.{IsFree}
+use Rattle.gixobj_ids.specs.Hash.{Spells}
 use Rattle.gixobj_ids.specs.declared.decode.Error.{Error}
 use Rattle.gixobj_ids.specs.declared.decode.Error.TheVariants.{Malformed, OutOfMemory}
 use Rattle.gixobj_ids.specs.declared.hash.kind.Kind.{Kind}
 use Rattle.gixobj_ids.specs.declared.hash.object_id.ObjectId.{ObjectId}
-use Rattle.gixobj_tokens.specs.declared.ref_iter.State.{State}
-use Rattle.gixobj_tokens.specs.declared.ref_iter.State.TheVariants as state
+use Rattle.gixobj_lines.specs.Lines.{HasLine, LineView, RefusesLine, author_line, committer_line, encoding_line, header_line, message_line, parent_line, tree_line}
+use Rattle.gixobj_lines.specs.declared.lines.State.{State}
 use Rattle.gixobj_tokens.specs.declared.ref_iter.Token.{Token}
 use Rattle.gixobj_tokens.specs.declared.ref_iter.Token.TheVariants as token
-use Rattle.gixobj_texts.specs.Bytes.{newline}
 
 -- a token, wherever it lies
 pub data TokenView : Type 0 where
@@ -37,78 +34,29 @@ token_view (token.Encoding encoding) = encoding_token (bstr_bytes encoding)
 token_view (token.ExtraHeader header) = header_token (header_of header)
 token_view (token.Message message) = message_token (bstr_bytes message)
 
--- the text is the field of this name whose value spells the id, of this kind
-pub record IsIdText (name : List ℕ) (kind : Kind) (text : List ℕ) (id : ObjectId) : Type 0 where
-  pub hex : List ℕ
-  pub joined : text ≡ field_text name hex
-  pub spelled : Spells hex id
-  pub of_kind : id_kind id ≡ kind
+-- the token tells the line: the id that its hex text spells, the parts of its actor, or its value as it is
+pub data TellsLine : LineView → TokenView → Type 0 where
+  tells_tree : (hex : List ℕ) (id : ObjectId) → Spells hex id → TellsLine (tree_line hex) (tree_token id)
+  tells_parent : (hex : List ℕ) (id : ObjectId) → Spells hex id → TellsLine (parent_line hex) (parent_token id)
+  tells_author : (line name email time : List ℕ) → IsActor line name email time → TellsLine (author_line line) (author_token name email time)
+  tells_committer : (line name email time : List ℕ) → IsActor line name email time → TellsLine (committer_line line) (committer_token name email time)
+  tells_encoding : (encoding : List ℕ) → TellsLine (encoding_line encoding) (encoding_token encoding)
+  tells_header : (header : Header) → TellsLine (header_line header) (header_token header)
+  tells_message : (message : List ℕ) → TellsLine (message_line message) (message_token message)
 
--- the text is the field of this name whose value is the actor
-pub record IsActorText (name text actor_name email time : List ℕ) : Type 0 where
-  pub line : List ℕ
-  pub joined : text ≡ field_text name line
-  pub actor : IsActor line actor_name email time
-
--- the text is the token
-abbrev pub IsTokenText : Kind → TokenView → List ℕ → Type 0
-IsTokenText kind (tree_token id) text = IsIdText (codes "tree") kind text id
-IsTokenText kind (parent_token id) text = IsIdText (codes "parent") kind text id
-IsTokenText kind (author_token name email time) text = IsActorText (codes "author") text name email time
-IsTokenText kind (committer_token name email time) text = IsActorText (codes "committer") text name email time
-IsTokenText kind (encoding_token encoding) text = (text ≡ field_text (codes "encoding") encoding) × IsFree newline encoding
-IsTokenText kind (header_token header) text = IsHeaderText text header
-IsTokenText kind (message_token message) text = text ≡ newline ∷ message
-
--- where the reader stands behind the token, or none where no such token comes here
-abbrev pub state_behind : State → TokenView → Option State
-state_behind state.Tree (tree_token id) = Some state.Parents
-state_behind state.Parents (parent_token id) = Some state.Parents
-state_behind state.Parents (author_token name email time) = Some state.Committer
-state_behind state.Committer (committer_token name email time) = Some state.Encoding
-state_behind state.Encoding (encoding_token encoding) = Some state.ExtraHeaders
-state_behind state.Encoding (header_token header) = Some state.ExtraHeaders
-state_behind state.Encoding (message_token message) = Some state.ExtraHeaders
-state_behind state.ExtraHeaders (header_token header) = Some state.ExtraHeaders
-state_behind state.ExtraHeaders (message_token message) = Some state.ExtraHeaders
-state_behind _ _ = None
-
--- what may follow the token: no line of the same header, and nothing behind the message
-abbrev pub MayFollow : TokenView → List ℕ → Type 0
-MayFollow (header_token header) rest = EndsHeader rest
-MayFollow (message_token message) rest = rest ≡ []
-MayFollow _ rest = ⊤
-
--- directly behind the committer a header named `encoding` is the encoding
-abbrev pub IsNoEncoding : State → TokenView → Type 0
-IsNoEncoding state.Encoding (header_token header) = header.name ≢ codes "encoding"
-IsNoEncoding _ _ = ⊤
-
--- the input begins with this token, and goes on with the rest in the state behind it
-pub record HasToken (kind : Kind) (before : State) (input : List ℕ) (token : TokenView) (behind : State) (rest : List ℕ) : Type 0 where
-  pub text : List ℕ
-  pub joined : input ≡ text ++ rest
-  pub written : IsTokenText kind token text
-  pub comes : state_behind before token ≡ Some behind
-  pub follows : MayFollow token rest
-  pub no_encoding : IsNoEncoding before token
+-- the input begins with a line that the token tells, and goes on with the rest in the state behind it
+abbrev pub HasToken : Kind → State → List ℕ → TokenView → State → List ℕ → Type 0
+HasToken kind before input token behind rest = (line : LineView) × HasLine kind before input line behind rest × TellsLine line token
 
 -- the input begins with no token
 abbrev pub HasNoToken : Kind → State → List ℕ → Type 0
 HasNoToken kind before input = HasNoPiece (HasToken kind) before input
 
--- a header may come here
-abbrev pub MayComeHeader : State → Type 0
-MayComeHeader state.Encoding = ⊤
-MayComeHeader state.ExtraHeaders = ⊤
-MayComeHeader _ = ⊥
-
--- what comes directly behind the committer is not the encoding, which has one line
-abbrev pub BeginsNoEncoding : State → List ℕ → Type 0
-BeginsNoEncoding state.Encoding input = LacksName (codes "encoding") input
-BeginsNoEncoding _ input = ⊤
+-- the text is the token: it begins with it, and ends behind it
+abbrev pub IsTokenText : Kind → TokenView → List ℕ → Type 0
+IsTokenText kind token text = (before : State) × (behind : State) × HasToken kind before text token behind []
 
 -- why no token is read: there is none, or it is a header of several lines, whose value takes memory
 abbrev pub RefusesToken : Kind → State → List ℕ → Error → Type 0
 RefusesToken kind before input Malformed = HasNoToken kind before input
-RefusesToken kind before input OutOfMemory = MayComeHeader before × BeginsSeveralLines input × BeginsNoEncoding before input
+RefusesToken kind before input OutOfMemory = RefusesLine kind before input OutOfMemory

@@ -4,12 +4,11 @@ pub mod Readers
 pub mod TokenFilters
 pub mod TokenGiving
 pub mod TokenPassing
-pub mod TokenReading
 pub use Rattle.gixobj_actors.specs.Actor
 pub use Rattle.gixobj_actors.specs.ActorWriting
 pub use Rattle.gixobj_actors.specs.Date
-pub use Rattle.gixobj_commits.specs.Commit
-pub use Rattle.gixobj_commits.specs.CommitReading
+pub use Rattle.gixobj_lines.specs.Commit
+pub use Rattle.gixobj_lines.specs.Lines
 pub use Rattle.gixobj_commits.specs.CommitViews
 pub use Rattle.gixobj_fields.specs.HeaderReading
 pub use Rattle.gixobj_fields.specs.HeaderText

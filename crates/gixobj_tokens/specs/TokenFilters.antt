@@ -9,7 +9,7 @@ use Rattle.gixobj_tokens.specs.CommitTokens.{HasToken, TokenView, parent_token}
 use Rattle.gixobj_tokens.specs.TokenGiving.{reader_bytes, reader_kind, reader_state, tokens_left}
 use Rattle.gixobj_tokens.specs.TokenPassing.{FindsNone, IsActorToken, IsActorTokenOf, IsParentToken, PassesNone}
 use Rattle.gixobj_tokens.specs.declared.ref_iter.CommitRefIter.{CommitRefIter}
-use Rattle.gixobj_tokens.specs.declared.ref_iter.State.{State}
+use Rattle.gixobj_lines.specs.declared.lines.State.{State}
 use Rattle.gixobj_tokens.specs.declared.ref_iter.filters.ParentIds.{ParentIds}
 use Rattle.gixobj_tokens.specs.declared.ref_iter.filters.Signatures.{Signatures}
 

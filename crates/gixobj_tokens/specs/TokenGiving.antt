@@ -8,8 +8,8 @@ use Rattle.gixobj_ids.specs.declared.hash.object_id.ObjectId.{ObjectId}
 use Rattle.gixobj_tokens.specs.CommitTokens.{HasToken, RefusesToken, TokenView, token_view}
 use Rattle.gixobj_tokens.specs.CommitTokens.TokenView.{tree_token, parent_token, author_token, committer_token, encoding_token, header_token, message_token}
 use Rattle.gixobj_tokens.specs.declared.ref_iter.CommitRefIter.{CommitRefIter}
-use Rattle.gixobj_tokens.specs.declared.ref_iter.State.{State}
-use Rattle.gixobj_tokens.specs.declared.ref_iter.State.TheVariants as state
+use Rattle.gixobj_lines.specs.declared.lines.State.{State}
+use Rattle.gixobj_lines.specs.declared.lines.State.TheVariants as state
 use Rattle.gixobj_tokens.specs.declared.ref_iter.Token.{Token}
 use Rattle.gixobj_tokens.specs.declared.ref_iter.Token.TheVariants as token
 use Rattle.gixobj_fields.specs.HeaderReading.{BorrowsOneLine}

@@ -9,7 +9,7 @@ use Rattle.gixobj_fields.specs.Runs.{Ending, broken, complete}
 use Rattle.gixobj_tokens.specs.CommitTokens.{HasToken, IsTokenText, RefusesToken, TokenView, author_token, committer_token, message_token, parent_token}
 use Rattle.gixobj_tokens.specs.TokenGiving.{reader_bytes, reader_kind, reader_state}
 use Rattle.gixobj_tokens.specs.declared.ref_iter.CommitRefIter.{CommitRefIter}
-use Rattle.gixobj_tokens.specs.declared.ref_iter.State.{State}
+use Rattle.gixobj_lines.specs.declared.lines.State.{State}
 
 -- the input is the join of a text for each token
 abbrev pub AreTokenTexts : Kind → List ℕ → List TokenView → Type 0

@@ -1,37 +1,23 @@
 //! Commits told token by token.
 ghost use Rattle.std.specs.Prelude.{◌≡◌, MatchOption, None, Some};
 ghost use Rattle.gixobj_ids.specs.Hash.Borrowed.{borrowed_id};
-ghost use Rattle.gixobj_tokens.specs.TokenGiving.{GivesToken, IsAtStart, token_id, tokens_left};
-ghost use Rattle.gixobj_tokens.specs.CommitTokens.{token_view};
+ghost use Rattle.gixobj_lines.specs.Lines.{HasHex, IsParsed, line_view};
+ghost use Rattle.gixobj_tokens.specs.CommitTokens.{TellsLine, token_view};
+ghost use Rattle.gixobj_tokens.specs.TokenGiving.{BorrowsValue, GivesToken, IsAtStart, token_id, tokens_left};
 
 mod access;
 mod filters;
 mod parts;
-mod tokens;
 
 use bstr::BStr;
 pub use filters::{ParentIds, Signatures};
 use gixobj_actors::actor::SignatureRef;
 use gixobj_ids::decode::Error;
 use gixobj_ids::hash::{Kind, ObjectId, oid};
+use gixobj_ids::parse::id_of_hex;
+use gixobj_lines::lines::{Line, State, read_line};
 use std::alloc::Global;
 use std::borrow::CowSlice;
-use tokens::read_token;
-
-/// Where in a commit a reader stands.
-#[derive(Clone, Copy, Debug)]
-pub(crate) enum State {
-    /// Before the tree.
-    Tree,
-    /// Before a parent or the author.
-    Parents,
-    /// Before the committer.
-    Committer,
-    /// Before the encoding, another header or the message.
-    Encoding,
-    /// Before a header or the message.
-    ExtraHeaders,
-}
 
 /// A reader of a commit that tells it token by token.
 #[derive(Clone, Copy, Drop)]
@@ -73,11 +59,11 @@ impl<'a> Iterator for CommitRefIter<'a> {
         if self.bytes.is_empty() {
             return None;
         }
-        match read_token(self.alloc, self.state, self.hash_kind, self.bytes) {
-            Ok((token, state, rest)) => {
+        match read_line(self.alloc, self.state, self.hash_kind, self.bytes) {
+            Ok((line, state, rest)) => {
                 self.bytes = rest;
                 self.state = state;
-                Some(Ok(token))
+                Some(Ok(Token::of_line(line)))
             }
             Err(error) => {
                 self.bytes = b"";
@@ -116,6 +102,28 @@ pub enum Token<'a> {
     ExtraHeader((BStr<'a>, CowSlice<'a, u8>)),
     /// The message.
     Message(BStr<'a>),
+}
+
+/// Lifecycle
+impl<'a> Token<'a> {
+    /// The token that tells the line. It takes no memory.
+    #[tactic(auto, using(crate::specs::CommitTokens::tells_tree, crate::specs::CommitTokens::tells_parent, crate::specs::CommitTokens::tells_author, crate::specs::CommitTokens::tells_committer, crate::specs::CommitTokens::tells_encoding, crate::specs::CommitTokens::tells_header, crate::specs::CommitTokens::tells_message))]
+    fn of_line(line: Line<'a>) -> Token<'a>
+        requires parsed { IsParsed line }
+        requires ids { HasHex (line_view line) }
+        ensures told { TellsLine (line_view line.entry) (token_view result) }
+        ensures borrowed { BorrowsValue result }
+    {
+        match line {
+            Line::Tree(hex) => Token::Tree { id: id_of_hex(hex) },
+            Line::Parent(hex) => Token::Parent { id: id_of_hex(hex) },
+            Line::Author(_, signature) => Token::Author { signature },
+            Line::Committer(_, signature) => Token::Committer { signature },
+            Line::Encoding(encoding) => Token::Encoding(encoding),
+            Line::ExtraHeader(header) => Token::ExtraHeader(header),
+            Line::Message(message) => Token::Message(message),
+        }
+    }
 }
 
 /// Access

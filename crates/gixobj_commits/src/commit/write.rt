@@ -6,7 +6,7 @@ ghost use Rattle.gixobj_ids.specs.Hash.{hex_text};
 ghost use Rattle.gixobj_fields.specs.HeaderText.{field_text};
 ghost use Rattle.gixobj_fields.specs.Streams.{Puts, PutsFront};
 ghost use Rattle.gixobj_fields.specs.Writing.{AddsSize, IsSize, RefusesNothing, SaysWhy};
-ghost use Rattle.gixobj_commits.specs.Commit.{encoding_text};
+ghost use Rattle.gixobj_lines.specs.Commit.{encoding_text};
 ghost use Rattle.gixobj_commits.specs.CommitViews.{bytes_if_some};
 ghost use Rattle.gixobj_commits.specs.CommitWriting.{RefusesEncodingLine};
 ghost use Rattle.gixobj_texts.specs.Bytes.{newline};
@@ -117,7 +117,7 @@ impl Field for BStr<'_> {
     ghost use Rattle.std.specs.Str.{str_to_ascii_lowercase};
     ghost use Rattle.bstr.specs.BStr.{bstr_bytes};
     ghost use Rattle.gixobj_ids.specs.Hash.{IsHexOfAnId};
-    ghost use Rattle.gixobj_commits.specs.Commit.{parent_text};
+    ghost use Rattle.gixobj_lines.specs.Commit.{parent_text};
 
     ghost can_put = { λ hex. IsHexOfAnId (bstr_bytes hex) };
 
@@ -135,7 +135,7 @@ impl Field for BStr<'_> {
 /// A parent, by its id.
 impl Field for ObjectId {
     ghost use Rattle.gixobj_ids.specs.Hash.{hex_text};
-    ghost use Rattle.gixobj_commits.specs.Commit.{parent_text};
+    ghost use Rattle.gixobj_lines.specs.Commit.{parent_text};
 
     ghost written = { λ id. parent_text (hex_text id) };
 

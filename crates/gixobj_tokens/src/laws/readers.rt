@@ -8,7 +8,7 @@ ghost use Rattle.gixobj_ids.specs.declared.decode.Error.{Error};
 ghost use Rattle.gixobj_ids.specs.declared.decode.Error.TheVariants.{Malformed};
 ghost use Rattle.gixobj_ids.specs.declared.hash.kind.Kind.{Kind};
 ghost use Rattle.gixobj_ids.specs.declared.hash.object_id.ObjectId.{ObjectId};
-ghost use Rattle.gixobj_commits.specs.Commit.{CommitLines, IsCommitText};
+ghost use Rattle.gixobj_lines.specs.Commit.{CommitLines, IsCommitText};
 ghost use Rattle.gixobj_fields.specs.Runs.{complete};
 ghost use Rattle.gixobj_tokens.specs.CommitRuns.{Tells};
 ghost use Rattle.gixobj_tokens.specs.CommitTokens.{TokenView};
@@ -17,7 +17,7 @@ ghost use Rattle.gixobj_tokens.specs.TokenFilters.{GivesParent, parents_reader};
 ghost use Rattle.gixobj_tokens.specs.TokenGiving.{GivesId, IsAtStart};
 ghost use Rattle.gixobj_tokens.specs.TokenPassing.{FindsAuthor, FindsCommitter, FindsFault, FindsMessage, FindsNone, IsAuthorToken, IsCommitterToken, IsMessageToken};
 ghost use Rattle.gixobj_tokens.specs.declared.ref_iter.CommitRefIter.{CommitRefIter};
-ghost use Rattle.gixobj_tokens.specs.declared.ref_iter.State.TheVariants as state;
+ghost use Rattle.gixobj_lines.specs.declared.lines.State.TheVariants as state;
 ghost use Rattle.gixobj_tokens.specs.declared.ref_iter.filters.ParentIds.{ParentIds};
 
 /// Both readers read one language. The text of a commit is told to its end, as exactly the tokens of

@@ -5,7 +5,7 @@ ghost use Rattle.gixobj_fields.specs.Runs.{Ending, complete};
 ghost use Rattle.gixobj_tokens.specs.CommitRuns.{Tells};
 ghost use Rattle.gixobj_tokens.specs.CommitTokens.{HasToken, TokenView};
 ghost use Rattle.gixobj_tokens.specs.TokenPassing.{AreTokenTexts};
-ghost use Rattle.gixobj_tokens.specs.declared.ref_iter.State.{State};
+ghost use Rattle.gixobj_lines.specs.declared.lines.State.{State};
 
 /// A text begins with one token at most in each state of the reader.
 pub fn tokens_have_one_reading()

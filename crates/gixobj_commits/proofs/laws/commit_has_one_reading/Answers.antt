@@ -1,4 +1,4 @@
-use Rattle.gixobj_commits.proofs.CommitChains.{one_commit}
+use Rattle.gixobj_lines.proofs.WholeCommits.{one_commit}
 use Rattle.gixobj_commits.proofs.laws.commit_has_one_reading.Goals as goal
 
 pub returns : goal.returns

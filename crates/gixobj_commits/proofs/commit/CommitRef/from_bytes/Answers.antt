@@ -1,45 +1,43 @@
+use Rattle.std.proofs.Common.{rules, ◌≡◌, ◌≢◌}
 use Rattle.std.proofs.lemmas.Result.{err_from_is_err_and}
-use Rattle.gixobj_commits.proofs.CommitChains.{commit_of_parts, no_author, no_committer, no_encoding, no_tree, parentage, refuses_headers, refuses_parents, with_author, with_committer}
+use Rattle.gixobj_commits.specs.CommitViews.{commit_lines}
+use Rattle.gixobj_lines.proofs.OneLine.{line_shortens}
+use Rattle.gixobj_lines.proofs.WholeCommits.{are_ids, gathers_more, of_an_id, reaches_memory, refuses_commit, whole}
+use Rattle.gixobj_lines.specs.Lines.{line_view}
+use Rattle.gixobj_lines.specs.declared.lines.State.TheVariants as state
 use Rattle.gixobj_commits.proofs.commit.CommitRef.from_bytes.Goals as goal
 
-pub returns-in_default-clause-refusal : goal.returns-in_default-clause-refusal
-returns-in_default-clause-refusal c = no_tree c.args.hash_kind c.args.bytes.now c.in_default.ensures.none
-
-pub returns-in_err-parents-clause-refusal : goal.returns-in_err-parents-clause-refusal
-returns-in_err-parents-clause-refusal c =
+pub returns-in_err-line-clause-refusal : goal.returns-in_err-line-clause-refusal
+returns-in_err-line-clause-refusal c =
     let from = err_from_is_err_and c.from_residual.result c.from_residual.ensures.1 in
-    rw from.1 (refuses_parents _ _ _ c.in-Some.rest.now from.0 c.in_err-parents.field-0.0 from.2 c.in-Some.ensures.found c.in_err-parents.ensures.refusal)
+    let going : c.loop-state.state ≢ state.End = search rules in
+    rw from.1 (refuses_commit c.args.hash_kind c.args.bytes.now c.loop-state.state c.loop-state.rest.now (commit_lines c.loop-state.commit) from.0 c.in_err-line.field-0.0 from.2 c.loop-state.invariant.0 going c.in_err-line.ensures.refusal)
 
-pub returns-in_default-actor_line-clause-refusal :
-    goal.returns-in_default-actor_line-clause-refusal
-returns-in_default-actor_line-clause-refusal c =
-    no_author _ _ _ (parentage _ _ _ _ _ _ c.in-Some.ensures.found c.in_ok-parents.ensures.found) c.in_default-actor_line.ensures.none
+pub returns-in_err-put-clause-refusal : goal.returns-in_err-put-clause-refusal
+returns-in_err-put-clause-refusal c =
+    let from = err_from_is_err_and c.from_residual-in_err-put.result c.from_residual-in_err-put.ensures.1 in
+    rw (from.1, from.2, c.in_err-put.ensures.refusal.0)
+    (reaches_memory c.args.hash_kind c.args.bytes.now (commit_lines c.loop-state.commit) c.loop-state.state c.in_ok-line.behind c.loop-state.rest.now c.in_ok-line.after.now (line_view c.in_ok-line.line)
+    c.loop-state.invariant.0 c.in_ok-line.ensures.found c.in_err-put.ensures.refusal.1)
 
-pub returns-in_default-actor_line-2-clause-refusal :
-    goal.returns-in_default-actor_line-2-clause-refusal
-returns-in_default-actor_line-2-clause-refusal c =
-    let read = parentage c.args.hash_kind c.args.bytes.now _ _ _ _ c.in-Some.ensures.found c.in_ok-parents.ensures.found in
-    no_committer _ _ _ (with_author _ _ _ _ _ read c.in-Some-actor_line.ensures.found) c.in_default-actor_line-2.ensures.none
+pub loop-state-smaller : goal.loop-state-smaller
+loop-state-smaller c = line_shortens c.args.hash_kind c.loop-state.state c.loop-state.rest.now (line_view c.in_ok-line.line) c.in_ok-line.behind c.in_ok-line.after.now c.in_ok-line.ensures.found
 
-pub returns-in_default-encoding-clause-refusal :
-    goal.returns-in_default-encoding-clause-refusal
-returns-in_default-encoding-clause-refusal c =
-    let read = parentage c.args.hash_kind c.args.bytes.now _ _ _ _ c.in-Some.ensures.found c.in_ok-parents.ensures.found in
-    let authored = with_author _ _ _ _ _ read c.in-Some-actor_line.ensures.found in
-    no_encoding _ _ _ (with_committer _ _ _ _ _ authored c.in-Some-actor_line-2.ensures.found) c.in_default-encoding.ensures.none
-
-pub returns-in_err-extra_headers-clause-refusal :
-    goal.returns-in_err-extra_headers-clause-refusal
-returns-in_err-extra_headers-clause-refusal c =
-    let read = parentage c.args.hash_kind c.args.bytes.now _ _ _ _ c.in-Some.ensures.found c.in_ok-parents.ensures.found in
-    let authored = with_author _ _ _ _ _ read c.in-Some-actor_line.ensures.found in
-    let committed = with_committer _ _ _ _ _ authored c.in-Some-actor_line-2.ensures.found in
-    let from = err_from_is_err_and c.from_residual-in_err-extra_headers.result c.from_residual-in_err-extra_headers.ensures.1 in
-    rw from.1 (refuses_headers _ _ _ c.in-Some-encoding.rest.now _ from.0 c.in_err-extra_headers.field-0.0 from.2 committed c.in-Some-encoding.ensures.found c.in_err-extra_headers.ensures.refusal)
+pub loop-state-preserved : goal.loop-state-preserved
+loop-state-preserved c = (
+  gathers_more c.args.hash_kind c.args.bytes.now (commit_lines c.loop-state.commit) (commit_lines c.put.new.self) c.loop-state.state c.in_ok-line.behind c.loop-state.rest.now c.in_ok-line.after.now (line_view c.in_ok-line.line)
+      c.loop-state.invariant.0 c.in_ok-line.ensures.found c.in_ok-put.ensures.put,
+  c.in_ok-put.ensures.room,
+  c.in_ok-put.ensures.borrowed c.loop-state.invariant.2 c.in_ok-line.ensures.parsed,
+)
 
 pub returns-clause-found : goal.returns-clause-found
 returns-clause-found c =
-    let read = parentage c.args.hash_kind c.args.bytes.now _ _ _ _ c.in-Some.ensures.found c.in_ok-parents.ensures.found in
-    let authored = with_author _ _ _ _ _ read c.in-Some-actor_line.ensures.found in
-    let committed = with_committer _ _ _ _ _ authored c.in-Some-actor_line-2.ensures.found in
-    rw c.new.ensures (commit_of_parts _ _ _ _ _ _ _ committed c.in-Some-encoding.ensures.found c.in_ok-extra_headers.ensures.found)
+    let at_end : c.loop-state.state ≡ state.End = search rules in
+    whole c.args.hash_kind c.args.bytes.now c.loop-state.state c.loop-state.rest.now (commit_lines c.loop-state.commit) c.loop-state.invariant.0 at_end
+
+pub returns-clause-has_ids : goal.returns-clause-has_ids
+returns-clause-has_ids c =
+    let at_end : c.loop-state.state ≡ state.End = search rules in
+    let is = whole c.args.hash_kind c.args.bytes.now c.loop-state.state c.loop-state.rest.now (commit_lines c.loop-state.commit) c.loop-state.invariant.0 at_end in
+    record { tree = of_an_id c.args.hash_kind _ is.tree; parents = are_ids c.args.hash_kind _ is.parents }

@@ -1,6 +1,0 @@
-use Rattle.gixobj_commits.proofs.CommitParts.{no_actor_of_field}
-use Rattle.gixobj_commits.proofs.commit.decode.actor_line.Goals as goal
-
-pub returns-in_default-signature-clause-none : goal.returns-in_default-signature-clause-none
-returns-in_default-signature-clause-none c =
-    no_actor_of_field c.args.name.now c.args.input.now c.in-Some.line.now c.in-Some.rest.now c.in-Some.ensures.found c.in_default-signature.ensures.none

@@ -1,9 +1,0 @@
-use Rattle.std.proofs.lemmas.Bool.{true≢false}
-use Rattle.std.proofs.Common.{sym}
-use Rattle.gixobj_commits.proofs.CommitParts.{no_id_of_field}
-use Rattle.gixobj_commits.proofs.commit.decode.id_line.Goals as goal
-
-pub returns-in_default-hex_hash-clause-none : goal.returns-in_default-hex_hash-clause-none
-returns-in_default-hex_hash-clause-none c =
-    no_id_of_field c.args.name.now c.args.kind c.args.input.now c.in-Some.value.now c.in-Some.rest.now c.in-Some.ensures.found
-    (λ hex. true≢false (sym (c.in_default-hex_hash.ensures.accepts.1 hex)))

@@ -1,0 +1,5 @@
+pub mod CommitsRead
+mod LineRefusals
+pub mod LinesTold
+pub mod OneLine
+pub mod WholeCommits

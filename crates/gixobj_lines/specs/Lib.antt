@@ -1,0 +1,3 @@
+pub mod Commit
+pub mod Gathering
+pub mod Lines

@@ -1,0 +1,180 @@
+//! The line at the front of a commit's text, by where a reader stands.
+ghost use Rattle.std.specs.Prelude.{◌≡◌, ◌≢◌, ◌∷◌, ℕ, List, IfErr, IfNone, IfOk, IfSome, MatchOption};
+ghost use Rattle.bstr.specs.BStr.{bstr_bytes};
+ghost use Rattle.gixobj_actors.specs.Actor.{IsActor};
+ghost use Rattle.gixobj_ids.specs.declared.hash.kind.Kind.{Kind};
+ghost use Rattle.gixobj_lines.specs.Lines.{HasActor, HasId, HasLine, HasNoActor, HasNoId, IsParsed, RefusesLine, line_view};
+ghost use Rattle.gixobj_lines.specs.declared.lines.State.TheVariants as state;
+ghost use Rattle.gixobj_texts.specs.Bytes.{newline};
+
+use bstr::BStr;
+use gixobj_actors::actor::SignatureRef;
+use gixobj_actors::parse::signature;
+use gixobj_fields::parse::{after_name, any_header_field, header_field};
+use gixobj_ids::decode::Error;
+use gixobj_ids::hash::Kind;
+use gixobj_ids::parse::hex_hash;
+use std::alloc::Global;
+use std::borrow::CowSlice;
+
+/// Where in a commit a reader stands.
+#[derive(Clone, Copy, Debug)]
+pub enum State {
+    /// Before the tree.
+    Tree,
+    /// Before a parent or the author.
+    Parents,
+    /// Before the committer.
+    Committer,
+    /// Before the encoding, another header or the message.
+    Encoding,
+    /// Before a header or the message.
+    ExtraHeaders,
+    /// Behind the message.
+    End,
+}
+
+/// A line of a commit, or a header of several.
+#[derive(Debug, Drop)]
+pub enum Line<'a> {
+    /// The hex text of the tree's id.
+    Tree(BStr<'a>),
+    /// The hex text of a parent's id.
+    Parent(BStr<'a>),
+    /// The line of the author, and the actor that it names.
+    Author(BStr<'a>, SignatureRef<'a>),
+    /// The line of the committer, and the actor that it names.
+    Committer(BStr<'a>, SignatureRef<'a>),
+    /// The name of the message's encoding.
+    Encoding(BStr<'a>),
+    /// A header behind these.
+    ExtraHeader((BStr<'a>, CowSlice<'a, u8>)),
+    /// The message.
+    Message(BStr<'a>),
+}
+
+/// The line at the front of the input, the state behind it, and what follows it.
+pub fn read_line(
+    alloc: Global,
+    before: State,
+    kind: Kind,
+    input: &[u8],
+) -> Result<(Line<'_>, State, &[u8]), Error>
+    ensures found { IfOk result (λ it. HasLine kind before input.now (line_view it.0) it.1 it.2.now) }
+    ensures parsed { IfOk result (λ it. IsParsed it.0) }
+    ensures refusal { IfErr result (RefusesLine kind before input.now) }
+{
+    match before {
+        State::Tree => read_tree(kind, input),
+        State::Parents => read_parent_or_author(kind, input),
+        State::Committer => read_committer(input),
+        State::Encoding => read_encoding_or_header(alloc, input),
+        State::ExtraHeaders => read_header_or_message(alloc, input),
+        State::End => Err(Error::Malformed),
+    }
+}
+
+fn read_tree(kind: Kind, input: &[u8]) -> Result<(Line<'_>, State, &[u8]), Error>
+    ensures found { IfOk result (λ it. HasLine kind state.Tree input.now (line_view it.0) it.1 it.2.now) }
+    ensures parsed { IfOk result (λ it. IsParsed it.0) }
+    ensures refusal { IfErr result (RefusesLine kind state.Tree input.now) }
+{
+    let Some((hex, rest)) = id_line(input, b"tree", kind) else {
+        return Err(Error::Malformed);
+    };
+    Ok((Line::Tree(hex), State::Parents, rest))
+}
+
+fn read_parent_or_author(kind: Kind, input: &[u8]) -> Result<(Line<'_>, State, &[u8]), Error>
+    ensures found { IfOk result (λ it. HasLine kind state.Parents input.now (line_view it.0) it.1 it.2.now) }
+    ensures parsed { IfOk result (λ it. IsParsed it.0) }
+    ensures refusal { IfErr result (RefusesLine kind state.Parents input.now) }
+{
+    if let Some((hex, rest)) = id_line(input, b"parent", kind) {
+        return Ok((Line::Parent(hex), State::Parents, rest));
+    }
+    let Some((line, actor, rest)) = actor_line(input, b"author") else {
+        return Err(Error::Malformed);
+    };
+    Ok((Line::Author(line, actor), State::Committer, rest))
+}
+
+fn read_committer(input: &[u8]) -> Result<(Line<'_>, State, &[u8]), Error>
+    ensures found { (kind : Kind) → IfOk result (λ it. HasLine kind state.Committer input.now (line_view it.0) it.1 it.2.now) }
+    ensures parsed { IfOk result (λ it. IsParsed it.0) }
+    ensures refusal { (kind : Kind) → IfErr result (RefusesLine kind state.Committer input.now) }
+{
+    let Some((line, actor, rest)) = actor_line(input, b"committer") else {
+        return Err(Error::Malformed);
+    };
+    Ok((Line::Committer(line, actor), State::Encoding, rest))
+}
+
+fn read_encoding_or_header(alloc: Global, input: &[u8]) -> Result<(Line<'_>, State, &[u8]), Error>
+    ensures found { (kind : Kind) → IfOk result (λ it. HasLine kind state.Encoding input.now (line_view it.0) it.1 it.2.now) }
+    ensures parsed { IfOk result (λ it. IsParsed it.0) }
+    ensures refusal { (kind : Kind) → IfErr result (RefusesLine kind state.Encoding input.now) }
+{
+    let Some(_) = after_name(input, b"encoding") else {
+        return read_header_or_message(alloc, input);
+    };
+    let Some((encoding, rest)) = header_field(input, b"encoding") else {
+        return Err(Error::Malformed);
+    };
+    Ok((
+        Line::Encoding(BStr::new(encoding)),
+        State::ExtraHeaders,
+        rest,
+    ))
+}
+
+fn read_header_or_message(alloc: Global, input: &[u8]) -> Result<(Line<'_>, State, &[u8]), Error>
+    ensures found { (kind : Kind) → IfOk result (λ it. HasLine kind state.ExtraHeaders input.now (line_view it.0) it.1 it.2.now) }
+    ensures parsed { IfOk result (λ it. IsParsed it.0) }
+    ensures refusal { (kind : Kind) → IfErr result (RefusesLine kind state.ExtraHeaders input.now) }
+{
+    if let Some(message) = after_newline(input) {
+        return Ok((Line::Message(BStr::new(message)), State::End, b""));
+    }
+    let (header, rest) = any_header_field(alloc, input)?;
+    Ok((Line::ExtraHeader(header), State::ExtraHeaders, rest))
+}
+
+/// What stands behind a newline at the front of the input.
+fn after_newline(input: &[u8]) -> Option<&[u8]>
+    ensures { MatchOption result ((rest : List ℕ) → input.now ≢ newline ∷ rest) (λ rest. input.now ≡ newline ∷ rest.now) }
+{
+    match input {
+        [b'\n', rest @ ..] => Some(rest),
+        _ => None,
+    }
+}
+
+/// The id of the field of this name at the front, in hex, and what follows its line.
+fn id_line<'a>(input: &'a [u8], name: &[u8], kind: Kind) -> Option<(BStr<'a>, &'a [u8])>
+    ensures found { IfSome result (λ it. HasId name.now kind input.now (bstr_bytes it.0) it.1.now) }
+    ensures none { IfNone result (HasNoId name.now kind input.now) }
+{
+    let Some((value, rest)) = header_field(input, name) else {
+        return None;
+    };
+    let Some(hex) = hex_hash(value, kind) else {
+        return None;
+    };
+    Some((hex, rest))
+}
+
+/// The line of the actor in the field of this name at the front, the actor, and what follows it.
+fn actor_line<'a>(input: &'a [u8], name: &[u8]) -> Option<(BStr<'a>, SignatureRef<'a>, &'a [u8])>
+    ensures found { IfSome result (λ it. HasActor name.now input.now (bstr_bytes it.0) it.2.now) }
+    ensures parsed { IfSome result (λ it. IsActor (bstr_bytes it.0) (bstr_bytes it.1.name) (bstr_bytes it.1.email) (bstr_bytes it.1.time)) }
+    ensures none { IfNone result (HasNoActor name.now input.now) }
+{
+    let Some((line, rest)) = header_field(input, name) else {
+        return None;
+    };
+    let Some(actor) = signature(line) else {
+        return None;
+    };
+    Some((BStr::new(line), actor, rest))
+}
