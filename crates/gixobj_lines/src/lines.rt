@@ -74,6 +74,7 @@ pub fn read_line(
     }
 }
 
+#[tactic(auto, using(crate::specs::Lines::tree_comes))]
 fn read_tree(kind: Kind, input: &[u8]) -> Result<(Line<'_>, State, &[u8]), Error>
     ensures found { IfOk result (λ it. HasLine kind state.Tree input.now (line_view it.0) it.1 it.2.now) }
     ensures parsed { IfOk result (λ it. IsParsed it.0) }
@@ -85,6 +86,7 @@ fn read_tree(kind: Kind, input: &[u8]) -> Result<(Line<'_>, State, &[u8]), Error
     Ok((Line::Tree(hex), State::Parents, rest))
 }
 
+#[tactic(auto, using(crate::specs::Lines::parent_comes, crate::specs::Lines::author_comes))]
 fn read_parent_or_author(kind: Kind, input: &[u8]) -> Result<(Line<'_>, State, &[u8]), Error>
     ensures found { IfOk result (λ it. HasLine kind state.Parents input.now (line_view it.0) it.1 it.2.now) }
     ensures parsed { IfOk result (λ it. IsParsed it.0) }
@@ -99,6 +101,7 @@ fn read_parent_or_author(kind: Kind, input: &[u8]) -> Result<(Line<'_>, State, &
     Ok((Line::Author(line, actor), State::Committer, rest))
 }
 
+#[tactic(auto, using(crate::specs::Lines::committer_comes))]
 fn read_committer(input: &[u8]) -> Result<(Line<'_>, State, &[u8]), Error>
     ensures found { (kind : Kind) → IfOk result (λ it. HasLine kind state.Committer input.now (line_view it.0) it.1 it.2.now) }
     ensures parsed { IfOk result (λ it. IsParsed it.0) }
@@ -110,6 +113,7 @@ fn read_committer(input: &[u8]) -> Result<(Line<'_>, State, &[u8]), Error>
     Ok((Line::Committer(line, actor), State::Encoding, rest))
 }
 
+#[tactic(auto, using(crate::specs::Lines::encoding_comes))]
 fn read_encoding_or_header(alloc: Global, input: &[u8]) -> Result<(Line<'_>, State, &[u8]), Error>
     ensures found { (kind : Kind) → IfOk result (λ it. HasLine kind state.Encoding input.now (line_view it.0) it.1 it.2.now) }
     ensures parsed { IfOk result (λ it. IsParsed it.0) }
@@ -128,6 +132,7 @@ fn read_encoding_or_header(alloc: Global, input: &[u8]) -> Result<(Line<'_>, Sta
     ))
 }
 
+#[tactic(auto, using(crate::specs::Lines::header_comes, crate::specs::Lines::message_comes, crate::proofs::LineRefusals::refuses_header))]
 fn read_header_or_message(alloc: Global, input: &[u8]) -> Result<(Line<'_>, State, &[u8]), Error>
     ensures found { (kind : Kind) → IfOk result (λ it. HasLine kind state.ExtraHeaders input.now (line_view it.0) it.1 it.2.now) }
     ensures parsed { IfOk result (λ it. IsParsed it.0) }

@@ -1,6 +1,6 @@
 use Rattle.std.proofs.lemmas.Result.{IfErr-weaker, IfOk-weaker}
 use Rattle.gixobj_lines.proofs.LineRefusals.{as_first, no_encoding, refuses_first}
-use Rattle.gixobj_lines.specs.Lines.{encoding_comes, line_view}
+use Rattle.gixobj_lines.specs.Lines.{line_view}
 use Rattle.gixobj_lines.proofs.lines.read_encoding_or_header.Goals as goal
 
 pub returns-in_default-clause-found : goal.returns-in_default-clause-found
@@ -14,6 +14,3 @@ returns-in_default-clause-refusal c = λ kind.
 pub returns-in_default-header_field-clause-refusal :
     goal.returns-in_default-header_field-clause-refusal
 returns-in_default-header_field-clause-refusal c = λ kind. no_encoding kind c.args.input.now c.in-Some.field-0.now c.in-Some.ensures.found c.in_default-header_field.ensures.none
-
-pub returns-clause-found : goal.returns-clause-found
-returns-clause-found c = λ kind. rw c.new.ensures (encoding_comes _ _ _ c.in-Some-header_field.ensures.found)
