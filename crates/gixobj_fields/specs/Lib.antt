@@ -1,6 +1,7 @@
 pub mod FieldWriting
 pub mod HeaderReading
 pub mod HeaderText
+pub mod Readers
 pub mod Runs
 pub mod Streams
 pub mod Writing

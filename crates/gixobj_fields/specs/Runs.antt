@@ -1,5 +1,7 @@
 -- Readers that tell an object piece by piece: from a state over bytes a piece comes, and then another state over the rest.
 use Rattle.std.specs.Prelude.{◌≡◌, ◌≢◌, ℕ, List, [], ◌∷◌, All}
+use Rattle.gixobj_ids.specs.declared.decode.Error.{Error}
+use Rattle.gixobj_ids.specs.declared.decode.Error.TheVariants.{Malformed, OutOfMemory}
 
 -- how a run ends: no bytes are left, or those that are begin with no piece
 pub data Ending : Type 0 where
@@ -14,6 +16,11 @@ module _ {S P : Type 0} (Has : S → List ℕ → P → S → List ℕ → Type 
   -- the input begins with no piece
   abbrev pub HasNoPiece : S → List ℕ → Type 0
   HasNoPiece before input = (piece : P) (behind : S) (rest : List ℕ) → ¬ Has before input piece behind rest
+
+  -- why no piece is read: there is none, or the one that comes wants memory
+  abbrev pub Refuses : (S → List ℕ → Type 0) → S → List ℕ → Error → Type 0
+  Refuses Wants before input Malformed = HasNoPiece before input
+  Refuses Wants before input OutOfMemory = Wants before input
 
   -- from this state over this input these pieces are told, and then the run ends so
   pub data Tells : S → List ℕ → List P → Ending → Type 0 where

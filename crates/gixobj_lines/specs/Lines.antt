@@ -4,11 +4,10 @@ use Rattle.bstr.specs.BStr.{bstr_bytes}
 use Rattle.gixobj_actors.specs.Actor.{IsActor}
 use Rattle.gixobj_fields.specs.HeaderReading.{BorrowsOneLine, header_of}
 use Rattle.gixobj_fields.specs.HeaderText.{BeginsSeveralLines, HasField, HasHeader, Header}
-use Rattle.gixobj_fields.specs.Runs.{HasNoPiece}
+use Rattle.gixobj_fields.specs.Runs.{Refuses}
 use Rattle.gixobj_ids.specs.Hash.{IsHexOfAnId}
 use Rattle.gixobj_ids.specs.Hash.Hex.{IsHexOf}
 use Rattle.gixobj_ids.specs.declared.decode.Error.{Error}
-use Rattle.gixobj_ids.specs.declared.decode.Error.TheVariants.{Malformed, OutOfMemory}
 use Rattle.gixobj_ids.specs.declared.hash.kind.Kind.{Kind}
 use Rattle.gixobj_lines.specs.declared.lines.Line.{Line}
 use Rattle.gixobj_lines.specs.declared.lines.Line.TheVariants as line
@@ -88,7 +87,10 @@ MayFold state.Encoding input = LacksName (codes "encoding") input
 MayFold state.ExtraHeaders input = ⊤
 MayFold _ input = ⊥
 
--- why no line is read: there is none, or it is a header of several lines, whose value takes memory
+-- a header of several lines comes, whose value takes memory
+abbrev pub WantsMemory : State → List ℕ → Type 0
+WantsMemory before input = MayFold before input × BeginsSeveralLines input
+
+-- why no line is read
 abbrev pub RefusesLine : Kind → State → List ℕ → Error → Type 0
-RefusesLine kind before input Malformed = HasNoPiece (HasLine kind) before input
-RefusesLine kind before input OutOfMemory = MayFold before input × BeginsSeveralLines input
+RefusesLine kind = Refuses (HasLine kind) WantsMemory

@@ -5,6 +5,7 @@ use Rattle.std.specs.List.{AllZip}
 use Rattle.std.specs.Prelude.{map, ⊤}
 use Rattle.gixobj_actors.specs.Actor.{IsActor}
 use Rattle.gixobj_fields.proofs.Runs.{behind_first, behind_passed, one_here}
+use Rattle.gixobj_fields.specs.Readers.{Standing}
 use Rattle.gixobj_fields.specs.Runs.{Ending, HasNone, broken, complete, tells_end, tells_piece}
 use Rattle.gixobj_ids.specs.Hash.{Spells}
 use Rattle.gixobj_ids.specs.declared.decode.Error.{Error}
@@ -22,7 +23,7 @@ use Rattle.gixobj_tokens.proofs.Tokens.{no_token_of_nothing, one_token}
 use Rattle.gixobj_tokens.specs.CommitRuns.{Tells}
 use Rattle.gixobj_tokens.specs.CommitTokens.{HasToken, TellsLine, TokenView, author_token, committer_token, message_token, tells_author, tells_committer, tells_message, tells_tree, token_view, tree_token}
 use Rattle.gixobj_tokens.specs.Readers.{AreTokensOf, EndsInMessage}
-use Rattle.gixobj_tokens.specs.TokenGiving.{GivesId, GivesToken, IsAtStart, answered_id, id_or_malformed, reader_bytes, reader_kind, reader_state, token_id}
+use Rattle.gixobj_tokens.specs.TokenGiving.{GivesId, GivesToken, IsAtStart, answered_id, id_or_malformed, standing, token_id}
 use Rattle.gixobj_tokens.specs.TokenPassing.{FindsAuthor, FindsCommitter, FindsFault, FindsFirst, FindsMessage, FindsNone, IsAuthorToken, IsCommitterToken, IsMessageToken, LacksAll}
 use Rattle.gixobj_tokens.specs.declared.ref_iter.CommitRefIter.{CommitRefIter}
 use Rattle.gixobj_tokens.specs.declared.ref_iter.Token.{Token}
@@ -105,8 +106,8 @@ is_message message token (tells_message _) = tt
 -- ---- the run of a reader at the start of a commit's text
 
 pub from_start : (kind : Kind) (text : List ℕ) (reader : CommitRefIter) (tokens : List TokenView) → IsAtStart kind text reader → Tells kind state.Tree text tokens complete
-    → Tells (reader_kind reader) (reader_state reader) (reader_bytes reader) tokens complete
-from_start kind text reader tokens start told = rw (start.of_kind, start.standing, start.bytes) told
+    → Tells (standing reader).kind (standing reader).state (standing reader).bytes tokens complete
+from_start kind text reader tokens start told = subst (λ (it : Standing Kind State). Tells it.kind it.state it.bytes tokens complete) (sym start) told
 
 begins_token : (kind : Kind) (before : State) (input : List ℕ) (line : LineView) (lines : List LineView) (tokens : List TokenView) → Tells kind before input tokens complete → AllZip TellsLine (line ∷ lines) tokens
     → (token : TokenView) × (behind : State) × (rest : List ℕ) × HasToken kind before input token behind rest
@@ -117,22 +118,22 @@ module _ (kind : Kind) (text : List ℕ) (commit : CommitLines) (reader : Commit
   run : (tokens : List TokenView) × Tells kind state.Tree text tokens complete × AreTokensOf commit tokens × EndsInMessage tokens
   run = language.told kind text commit is
 
-  told : Tells (reader_kind reader) (reader_state reader) (reader_bytes reader) run.0 complete
+  told : Tells (standing reader).kind (standing reader).state (standing reader).bytes run.0 complete
   told = from_start kind text reader run.0 start run.1
 
   line_found : (Is : TokenView → Type 0) (token : TokenView) → FindsFirst Is reader token → (line : LineView) × IsLineOf commit line × TellsLine line token
   line_found Is token (before, behind, here, rest, (passed, passes, none), has) =
-      let has_token = HasToken (reader_kind reader) in
-      let one = one_token (reader_kind reader) in
-      let some = no_token_of_nothing (reader_kind reader) in
-      let at = behind_passed has_token one some (reader_state reader) before (reader_bytes reader) here passed run.0 complete passes told in
+      let has_token = HasToken (standing reader).kind in
+      let one = one_token (standing reader).kind in
+      let some = no_token_of_nothing (standing reader).kind in
+      let at = behind_passed has_token one some (standing reader).state before (standing reader).bytes here passed run.0 complete passes told in
       let first = behind_first has_token one some before behind here rest token at.others complete has at.told in
       let joined = at.joined ∙ ap (λ (it : List TokenView). passed ++ it) first.joined in
       line_here (IsLineOf commit) (lines_of commit) passed token first.others (all_of_it commit) (subst (λ (it : List TokenView). AllZip TellsLine (lines_of commit) it) joined run.2)
 
   lacks_none : (Is : TokenView → Type 0) (ending : Ending) (front : List LineView) (line : LineView) (more : List LineView) → lines_of commit ≡ front ++ line ∷ more → ((token : TokenView) → TellsLine line token → Is token) → LacksAll Is reader ending → ⊥
   lacks_none Is ending front line more joined is_such (tokens, lacks, none) =
-      let same = (one_run (reader_kind reader) (reader_state reader) (reader_bytes reader) tokens run.0 ending complete lacks told).0 in
+      let same = (one_run (standing reader).kind (standing reader).state (standing reader).bytes tokens run.0 ending complete lacks told).0 in
       let here = token_here front line more run.0 (subst (λ (it : List LineView). AllZip TellsLine it run.0) joined run.2) in
       one_here Is here.front here.token here.more (is_such here.token here.tells) (subst (HasNone Is) (same ∙ here.joined) none)
 
@@ -162,18 +163,18 @@ module _ (kind : Kind) (text : List ℕ) (commit : CommitLines) (reader : Commit
 
   -- ---- the tree
 
-  tree_begins : (token : TokenView) × (behind : State) × (rest : List ℕ) × HasToken (reader_kind reader) (reader_state reader) (reader_bytes reader) token behind rest
-  tree_begins = begins_token (reader_kind reader) (reader_state reader) (reader_bytes reader) (tree_line commit.tree) _ run.0 told run.2
+  tree_begins : (token : TokenView) × (behind : State) × (rest : List ℕ) × HasToken (standing reader).kind (standing reader).state (standing reader).bytes token behind rest
+  tree_begins = begins_token (standing reader).kind (standing reader).state (standing reader).bytes (tree_line commit.tree) _ run.0 told run.2
 
   its_answer : (answer : Option (Result Token Error)) (after : CommitRefIter) → GivesToken reader answer after → (id : ObjectId) × (answered_id answer ≡ Ok id) × Spells commit.tree id
   its_answer (Some (Ok token)) after gives =
-      let kind' = reader_kind reader in
-      let first = behind_first (HasToken kind') (one_token kind') (no_token_of_nothing kind') (reader_state reader) (reader_state after) (reader_bytes reader) (reader_bytes after) (token_view token) run.0 complete gives.0 told in
+      let kind' = (standing reader).kind in
+      let first = behind_first (HasToken kind') (one_token kind') (no_token_of_nothing kind') (standing reader).state (standing after).state (standing reader).bytes (standing after).bytes (token_view token) run.0 complete gives.0 told in
       let tree = tree_of commit _ (token_view token) first.others (subst (λ (it : List TokenView). AllZip TellsLine (lines_of commit) it) first.joined run.2) in
       (tree.0, ap (λ (it : TokenView). id_or_malformed (token_id it)) tree.1, tree.2)
   its_answer (Some (Err Malformed)) after gives = absurd (gives.1 _ _ _ tree_begins.3)
-  its_answer (Some (Err OutOfMemory)) after gives = absurd (subst (λ (it : State). MayFold it (reader_bytes reader)) start.standing gives.1.0)
-  its_answer None after gives = absurd (no_token_of_nothing (reader_kind reader) (reader_state reader) (reader_bytes reader) tree_begins.0 _ _ gives.0 tree_begins.3)
+  its_answer (Some (Err OutOfMemory)) after gives = absurd (subst (λ (it : Standing Kind State). MayFold it.state it.bytes) start gives.1.0)
+  its_answer None after gives = absurd (no_token_of_nothing (standing reader).kind (standing reader).state (standing reader).bytes tree_begins.0 _ _ gives.0 tree_begins.3)
 
   pub its_tree : (after : CommitRefIter) (result : Result ObjectId Error) → GivesId reader result after → (id : ObjectId) × (result ≡ Ok id) × Spells commit.tree id
   its_tree after result (answer, gives, is_answer) = let it = its_answer answer after gives in (it.0, is_answer ∙ it.1, it.2)

@@ -1,6 +1,5 @@
 mod CommitsFound
 mod OneLanguage
 mod ParentsFound
-mod TokenFilterSteps
 mod TokenRuns
 mod Tokens

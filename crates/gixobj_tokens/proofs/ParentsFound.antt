@@ -25,7 +25,7 @@ use Rattle.gixobj_tokens.specs.CommitRuns.{Tells}
 use Rattle.gixobj_tokens.specs.CommitTokens.{HasToken, TellsLine, TokenView, author_token, committer_token, encoding_token, header_token, message_token, parent_token, tells_author, tells_committer, tells_encoding, tells_header, tells_message, tells_parent, tells_tree, tree_token}
 use Rattle.gixobj_tokens.specs.Readers.{AreTokensOf}
 use Rattle.gixobj_tokens.specs.TokenFilters.{GivesParent, parents_reader}
-use Rattle.gixobj_tokens.specs.TokenGiving.{IsAtStart, reader_bytes, reader_kind, reader_state}
+use Rattle.gixobj_tokens.specs.TokenGiving.{IsAtStart, standing}
 use Rattle.gixobj_tokens.specs.TokenPassing.{IsParentToken}
 use Rattle.gixobj_tokens.specs.declared.ref_iter.filters.ParentIds.{ParentIds}
 
@@ -96,18 +96,18 @@ none_behind kind before input tokens ending may (tells_piece _ behind _ rest tok
 -- the whole run behind the parent that was given
 record Given (id : ObjectId) (tokens : List TokenView) (after : ParentIds) : Type 0 where
   others : List TokenView
-  told : Tells (reader_kind (parents_reader after)) (reader_state (parents_reader after)) (reader_bytes (parents_reader after)) others complete
+  told : Tells (standing (parents_reader after)).kind (standing (parents_reader after)).state (standing (parents_reader after)).bytes others complete
   first : parents_of tokens ≡ id ∷ parents_of others
 
-module _ (it : ParentIds) (tokens : List TokenView) (told : Tells (reader_kind (parents_reader it)) (reader_state (parents_reader it)) (reader_bytes (parents_reader it)) tokens complete) where
+module _ (it : ParentIds) (tokens : List TokenView) (told : Tells (standing (parents_reader it)).kind (standing (parents_reader it)).state (standing (parents_reader it)).bytes tokens complete) where
   some_given : (id : ObjectId) (after : ParentIds) → GivesParent it (Some id) after → Given id tokens after
   some_given id after (before, input, token, (passed, passes, none), has, is, same_kind) =
-      let kind = reader_kind (parents_reader it) in
-      let at = behind_passed (HasToken kind) (one_token kind) (no_token_of_nothing kind) (reader_state (parents_reader it)) before (reader_bytes (parents_reader it)) input passed tokens complete passes told in
+      let kind = (standing (parents_reader it)).kind in
+      let at = behind_passed (HasToken kind) (one_token kind) (no_token_of_nothing kind) (standing (parents_reader it)).state before (standing (parents_reader it)).bytes input passed tokens complete passes told in
       let one = behind_first (HasToken kind) (one_token kind) (no_token_of_nothing kind) before _ input _ token at.others complete has at.told in
       record {
         others = one.others;
-        told = subst (λ (kind : Kind). Tells kind (reader_state (parents_reader after)) (reader_bytes (parents_reader after)) one.others complete) (sym same_kind) one.told;
+        told = subst (λ (kind : Kind). Tells kind (standing (parents_reader after)).state (standing (parents_reader after)).bytes one.others complete) (sym same_kind) one.told;
         first = ap parents_of at.joined ∙ behind_others passed at.others none ∙ ap parents_of one.joined ∙ ap (λ (first : TokenView). parent_id first ++ parents_of one.others) is;
       }
 
@@ -116,11 +116,11 @@ module _ (it : ParentIds) (tokens : List TokenView) (told : Tells (reader_kind (
       let same = (one_run _ _ _ others tokens ending complete run told).0 in
       no_parents tokens (subst (HasNone IsParentToken) same none)
   none_given after (OutOfMemory, (before, input, (passed, passes, none), refused), ended, same_kind) =
-      let kind = reader_kind (parents_reader it) in
-      let at = behind_passed (HasToken kind) (one_token kind) (no_token_of_nothing kind) (reader_state (parents_reader it)) before (reader_bytes (parents_reader it)) input passed tokens complete passes told in
+      let kind = (standing (parents_reader it)).kind in
+      let at = behind_passed (HasToken kind) (one_token kind) (no_token_of_nothing kind) (standing (parents_reader it)).state before (standing (parents_reader it)).bytes input passed tokens complete passes told in
       ap parents_of at.joined ∙ behind_others passed at.others none ∙ no_parents at.others (none_behind _ before input at.others complete (behind_folded before input refused.0) at.told)
 
-always : (ids : List ObjectId) (it : ParentIds) (tokens : List TokenView) → Tells (reader_kind (parents_reader it)) (reader_state (parents_reader it)) (reader_bytes (parents_reader it)) tokens complete
+always : (ids : List ObjectId) (it : ParentIds) (tokens : List TokenView) → Tells (standing (parents_reader it)).kind (standing (parents_reader it)).state (standing (parents_reader it)).bytes tokens complete
     → parents_of tokens ≡ ids → AlwaysYields GivesParent (λ id. id) it ids
 always [] it tokens told none = λ id after gives. let given = some_given it tokens told id after gives in cc (none, given.first)
 always (id ∷ ids) it tokens told some = (

@@ -4,13 +4,12 @@ use Rattle.bstr.specs.BStr.{bstr_bytes}
 use Rattle.gixobj_actors.specs.Actor.{IsActor}
 use Rattle.gixobj_fields.specs.HeaderReading.{header_of}
 use Rattle.gixobj_fields.specs.HeaderText.{Header}
-use Rattle.gixobj_fields.specs.Runs.{HasNoPiece}
+use Rattle.gixobj_fields.specs.Runs.{Refuses}
 use Rattle.gixobj_ids.specs.Hash.{Spells}
 use Rattle.gixobj_ids.specs.declared.decode.Error.{Error}
-use Rattle.gixobj_ids.specs.declared.decode.Error.TheVariants.{Malformed, OutOfMemory}
 use Rattle.gixobj_ids.specs.declared.hash.kind.Kind.{Kind}
 use Rattle.gixobj_ids.specs.declared.hash.object_id.ObjectId.{ObjectId}
-use Rattle.gixobj_lines.specs.Lines.{HasLine, LineView, RefusesLine, author_line, committer_line, encoding_line, header_line, message_line, parent_line, tree_line}
+use Rattle.gixobj_lines.specs.Lines.{HasLine, LineView, WantsMemory, author_line, committer_line, encoding_line, header_line, message_line, parent_line, tree_line}
 use Rattle.gixobj_lines.specs.declared.lines.State.{State}
 use Rattle.gixobj_tokens.specs.declared.ref_iter.Token.{Token}
 use Rattle.gixobj_tokens.specs.declared.ref_iter.Token.TheVariants as token
@@ -48,15 +47,10 @@ pub data TellsLine : LineView → TokenView → Type 0 where
 abbrev pub HasToken : Kind → State → List ℕ → TokenView → State → List ℕ → Type 0
 HasToken kind before input token behind rest = (line : LineView) × HasLine kind before input line behind rest × TellsLine line token
 
--- the input begins with no token
-abbrev pub HasNoToken : Kind → State → List ℕ → Type 0
-HasNoToken kind before input = HasNoPiece (HasToken kind) before input
-
 -- the text is the token: it begins with it, and ends behind it
 abbrev pub IsTokenText : Kind → TokenView → List ℕ → Type 0
 IsTokenText kind token text = (before : State) × (behind : State) × HasToken kind before text token behind []
 
--- why no token is read: there is none, or it is a header of several lines, whose value takes memory
+-- why no token is read
 abbrev pub RefusesToken : Kind → State → List ℕ → Error → Type 0
-RefusesToken kind before input Malformed = HasNoToken kind before input
-RefusesToken kind before input OutOfMemory = RefusesLine kind before input OutOfMemory
+RefusesToken kind = Refuses (HasToken kind) WantsMemory

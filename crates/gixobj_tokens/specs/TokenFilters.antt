@@ -1,15 +1,15 @@
 -- Readers that tell the parents of a commit alone, or its actors alone.
-use Rattle.std.specs.Prelude.{◌≡◌, ℕ, List, [], Option, Some, None}
+use Rattle.std.specs.Prelude.{◌≡◌, Option, Some, None}
 use Rattle.std.specs.Iterator.{Count}
 use Rattle.bstr.specs.BStr.{bstr_bytes}
 use Rattle.gixobj_actors.specs.declared.actor.SignatureRef.{SignatureRef}
-use Rattle.gixobj_ids.specs.declared.decode.Error.{Error}
 use Rattle.gixobj_ids.specs.declared.hash.object_id.ObjectId.{ObjectId}
 use Rattle.gixobj_tokens.specs.CommitTokens.{HasToken, TokenView, parent_token}
-use Rattle.gixobj_tokens.specs.TokenGiving.{reader_bytes, reader_kind, reader_state, tokens_left}
-use Rattle.gixobj_tokens.specs.TokenPassing.{FindsNone, IsActorToken, IsActorTokenOf, IsParentToken, PassesNone}
+use Rattle.gixobj_fields.specs.Readers as readers
+use Rattle.gixobj_lines.specs.Lines.{WantsMemory}
+use Rattle.gixobj_tokens.specs.TokenGiving.{standing, tokens_left}
+use Rattle.gixobj_tokens.specs.TokenPassing.{IsActorToken, IsActorTokenOf, IsParentToken}
 use Rattle.gixobj_tokens.specs.declared.ref_iter.CommitRefIter.{CommitRefIter}
-use Rattle.gixobj_lines.specs.declared.lines.State.{State}
 use Rattle.gixobj_tokens.specs.declared.ref_iter.filters.ParentIds.{ParentIds}
 use Rattle.gixobj_tokens.specs.declared.ref_iter.filters.Signatures.{Signatures}
 
@@ -28,13 +28,11 @@ actors_left it = tokens_left (actors_reader it)
 
 -- past tokens that are none such the reader reads one that is this
 abbrev pub ReadsFirst : (TokenView → Type 0) → (TokenView → Type 0) → CommitRefIter → CommitRefIter → Type 0
-ReadsFirst Is This before after =
-    (state : State) × (input : List ℕ) × (token : TokenView) × PassesNone Is before state input
-    × HasToken (reader_kind before) state input token (reader_state after) (reader_bytes after) × This token × (reader_kind after ≡ reader_kind before)
+ReadsFirst = readers.ReadsFirst standing HasToken
 
--- no such token comes to the end of the run, or before a header whose value finds no memory, and the reader is at its end
+-- no such token comes to the end of the run, or before a header whose value wants memory, and the reader is at its end
 abbrev pub ReadsNone : (TokenView → Type 0) → CommitRefIter → CommitRefIter → Type 0
-ReadsNone Is before after = (error : Error) × FindsNone Is before error × (reader_bytes after ≡ []) × (reader_kind after ≡ reader_kind before)
+ReadsNone = readers.ReadsNone standing HasToken (λ kind. WantsMemory)
 
 -- the next parent, or none
 abbrev pub GivesParent : ParentIds → Option ObjectId → ParentIds → Type 0

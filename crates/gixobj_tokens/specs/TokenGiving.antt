@@ -1,11 +1,13 @@
 -- What a reader of tokens gives.
-use Rattle.std.specs.Prelude.{◌≡◌, ◌≢◌, ℕ, List, [], Option, Some, None, Result, Ok, Err, length, ⊤}
+use Rattle.std.specs.Prelude.{◌≡◌, ℕ, List, Option, Some, None, Result, Ok, Err, length, ⊤}
 use Rattle.std.specs.Iterator.{Count, at_most}
 use Rattle.gixobj_ids.specs.declared.decode.Error.{Error}
 use Rattle.gixobj_ids.specs.declared.decode.Error.TheVariants.{Malformed}
 use Rattle.gixobj_ids.specs.declared.hash.kind.Kind.{Kind}
 use Rattle.gixobj_ids.specs.declared.hash.object_id.ObjectId.{ObjectId}
-use Rattle.gixobj_tokens.specs.CommitTokens.{HasToken, RefusesToken, TokenView, token_view}
+use Rattle.gixobj_fields.specs.Readers.{Gives, Standing}
+use Rattle.gixobj_lines.specs.Lines.{WantsMemory}
+use Rattle.gixobj_tokens.specs.CommitTokens.{HasToken, TokenView, token_view}
 use Rattle.gixobj_tokens.specs.CommitTokens.TokenView.{tree_token, parent_token, author_token, committer_token, encoding_token, header_token, message_token}
 use Rattle.gixobj_tokens.specs.declared.ref_iter.CommitRefIter.{CommitRefIter}
 use Rattle.gixobj_lines.specs.declared.lines.State.{State}
@@ -16,43 +18,26 @@ use Rattle.gixobj_fields.specs.HeaderReading.{BorrowsOneLine}
 
 -- ---- one token
 
--- the bytes that a reader has left
-abbrev pub reader_bytes : CommitRefIter → List ℕ
-reader_bytes reader = reader.bytes.now
-
--- where it stands
-abbrev pub reader_state : CommitRefIter → State
-reader_state reader = reader.state
-
--- the kind of its ids
-abbrev pub reader_kind : CommitRefIter → Kind
-reader_kind reader = reader.hash_kind
+-- where a reader stands
+abbrev pub standing : CommitRefIter → Standing Kind State
+standing reader = record { kind = reader.hash_kind; state = reader.state; bytes = reader.bytes.now }
 
 -- the reader stands before the tree of a commit with this text and ids of this kind
-pub record IsAtStart (kind : Kind) (text : List ℕ) (reader : CommitRefIter) : Type 0 where
-  pub bytes : reader_bytes reader ≡ text
-  pub standing : reader_state reader ≡ state.Tree
-  pub of_kind : reader_kind reader ≡ kind
+abbrev pub IsAtStart : Kind → List ℕ → CommitRefIter → Type 0
+IsAtStart kind text reader = standing reader ≡ record { kind = kind; state = state.Tree; bytes = text }
 
 -- no more tokens come than bytes are left
 abbrev pub tokens_left : CommitRefIter → Count
-tokens_left reader = at_most (length (reader_bytes reader))
+tokens_left reader = at_most (length (standing reader).bytes)
 
 -- a header's value of one line is borrowed, one of several is owned
 abbrev pub BorrowsValue : Token → Type 0
 BorrowsValue (token.ExtraHeader header) = BorrowsOneLine header.1
 BorrowsValue _ = ⊤
 
--- what one call answers: the next token; no token, and no bytes are left behind the error; or nothing, without bytes
+-- what one call answers: the next token; an error, behind which no bytes are left; or nothing, without bytes
 abbrev pub GivesToken : CommitRefIter → Option (Result Token Error) → CommitRefIter → Type 0
-GivesToken before (Some (Ok token)) after =
-    HasToken (reader_kind before) (reader_state before) (reader_bytes before) (token_view token) (reader_state after) (reader_bytes after)
-    × (reader_kind after ≡ reader_kind before) × BorrowsValue token
-GivesToken before (Some (Err error)) after =
-    (reader_bytes before ≢ []) × RefusesToken (reader_kind before) (reader_state before) (reader_bytes before) error
-    × (reader_bytes after ≡ []) × (reader_kind after ≡ reader_kind before)
-GivesToken before None after =
-    (reader_bytes before ≡ []) × (reader_bytes after ≡ []) × (reader_state after ≡ reader_state before) × (reader_kind after ≡ reader_kind before)
+GivesToken = Gives standing HasToken (λ kind. WantsMemory) token_view BorrowsValue
 
 -- ---- ids of tokens
 

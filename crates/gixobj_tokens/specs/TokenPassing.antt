@@ -2,44 +2,33 @@
 use Rattle.std.specs.Prelude.{◌≡◌, ◌⊎◌, ℕ, List, [], ⊤}
 use Rattle.std.specs.List.{AllZip, concat}
 use Rattle.gixobj_ids.specs.declared.decode.Error.{Error}
-use Rattle.gixobj_ids.specs.declared.decode.Error.TheVariants.{Malformed, OutOfMemory}
 use Rattle.gixobj_ids.specs.declared.hash.kind.Kind.{Kind}
-use Rattle.gixobj_fields.specs.Runs as runs
-use Rattle.gixobj_fields.specs.Runs.{Ending, broken, complete}
-use Rattle.gixobj_tokens.specs.CommitTokens.{HasToken, IsTokenText, RefusesToken, TokenView, author_token, committer_token, message_token, parent_token}
-use Rattle.gixobj_tokens.specs.TokenGiving.{reader_bytes, reader_kind, reader_state}
+use Rattle.gixobj_fields.specs.Readers as readers
+use Rattle.gixobj_fields.specs.Runs.{Ending, complete}
+use Rattle.gixobj_lines.specs.Lines.{WantsMemory}
+use Rattle.gixobj_tokens.specs.CommitTokens.{HasToken, IsTokenText, TokenView, author_token, committer_token, message_token, parent_token}
+use Rattle.gixobj_tokens.specs.TokenGiving.{standing}
 use Rattle.gixobj_tokens.specs.declared.ref_iter.CommitRefIter.{CommitRefIter}
-use Rattle.gixobj_lines.specs.declared.lines.State.{State}
 
 -- the input is the join of a text for each token
 abbrev pub AreTokenTexts : Kind → List ℕ → List TokenView → Type 0
 AreTokenTexts kind input tokens = (texts : List (List ℕ)) × (input ≡ concat texts) × AllZip (IsTokenText kind) tokens texts
 
--- the reader goes past tokens that are none such, to this state and these bytes
-abbrev pub PassesNone : (TokenView → Type 0) → CommitRefIter → State → List ℕ → Type 0
-PassesNone Is reader behind rest = runs.PassesNone (HasToken (reader_kind reader)) Is (reader_state reader) (reader_bytes reader) behind rest
-
 -- past tokens that are none such, this one comes
 abbrev pub FindsFirst : (TokenView → Type 0) → CommitRefIter → TokenView → Type 0
-FindsFirst Is reader token = runs.FindsFirst (HasToken (reader_kind reader)) Is (reader_state reader) (reader_bytes reader) token
+FindsFirst = readers.FindsFirst standing HasToken
 
 -- the whole run of the reader has no such token, and ends so
 abbrev pub LacksAll : (TokenView → Type 0) → CommitRefIter → Ending → Type 0
-LacksAll Is reader ending = runs.LacksAll (HasToken (reader_kind reader)) Is (reader_state reader) (reader_bytes reader) ending
-
--- tokens that are none such, and then a header whose value finds no memory
-abbrev pub LacksMemory : (TokenView → Type 0) → CommitRefIter → Type 0
-LacksMemory Is reader = (before : State) × (input : List ℕ) × PassesNone Is reader before input × RefusesToken (reader_kind reader) before input OutOfMemory
+LacksAll = readers.LacksAll standing HasToken
 
 -- why no such token is found
 abbrev pub FindsNone : (TokenView → Type 0) → CommitRefIter → Error → Type 0
-FindsNone Is reader Malformed = (ending : Ending) × LacksAll Is reader ending
-FindsNone Is reader OutOfMemory = LacksMemory Is reader
+FindsNone = readers.FindsNone standing HasToken (λ kind. WantsMemory)
 
 -- why no such token is found, where the bytes may end without one
 abbrev pub FindsFault : (TokenView → Type 0) → CommitRefIter → Error → Type 0
-FindsFault Is reader Malformed = LacksAll Is reader broken
-FindsFault Is reader OutOfMemory = LacksMemory Is reader
+FindsFault = readers.FindsFault standing HasToken (λ kind. WantsMemory)
 
 abbrev pub IsParentToken : TokenView → Type 0
 IsParentToken (parent_token id) = ⊤

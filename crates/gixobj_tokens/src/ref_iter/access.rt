@@ -31,6 +31,7 @@ impl<'a> CommitRefIter<'a> {
     /// Who made the change: the first author that is told, not trimmed.
     ///
     /// The error that comes before it, or `Malformed` where none comes.
+    #[tactic(auto, using(crate::proofs::TokenRuns::seeks_start, crate::proofs::TokenRuns::seeks_first))]
     pub fn author(self) -> Result<SignatureRef<'a>, Error>
         ensures found { IfOk result (λ it. FindsAuthor self.entry (bstr_bytes it.name) (bstr_bytes it.email) (bstr_bytes it.time)) }
         ensures refusal { IfErr result (FindsNone IsAuthorToken self.entry) }
@@ -47,6 +48,7 @@ impl<'a> CommitRefIter<'a> {
     /// Who made the commit: the first committer that is told, not trimmed.
     ///
     /// The error that comes before it, or `Malformed` where none comes.
+    #[tactic(auto, using(crate::proofs::TokenRuns::seeks_start, crate::proofs::TokenRuns::seeks_first))]
     pub fn committer(self) -> Result<SignatureRef<'a>, Error>
         ensures found { IfOk result (λ it. FindsCommitter self.entry (bstr_bytes it.name) (bstr_bytes it.email) (bstr_bytes it.time)) }
         ensures refusal { IfErr result (FindsNone IsCommitterToken self.entry) }
@@ -63,6 +65,7 @@ impl<'a> CommitRefIter<'a> {
     /// The message, all bytes behind the empty line, or nothing where the bytes end before it.
     ///
     /// The error that comes before it. Headers of several lines that stand before it take memory.
+    #[tactic(auto, using(crate::proofs::TokenRuns::seeks_start, crate::proofs::TokenRuns::seeks_first))]
     pub fn message(self) -> Result<BStr<'a>, Error>
         ensures found { IfOk result (λ it. FindsMessage self.entry (bstr_bytes it)) }
         ensures refusal { IfErr result (FindsFault IsMessageToken self.entry) }

@@ -46,6 +46,7 @@ impl<'a> Iterator for ParentIds<'a> {
 
     ghost remaining = { parents_left };
 
+    #[tactic(auto, using(crate::proofs::TokenRuns::seeks_start, crate::proofs::TokenRuns::reads_first))]
     fn next(&mut self) -> Option<ObjectId> {
         while let Some(item) = self.tokens.next() {
             let Ok(token) = item else {
@@ -69,6 +70,7 @@ impl<'a> Iterator for Signatures<'a> {
 
     ghost remaining = { actors_left };
 
+    #[tactic(auto, using(crate::proofs::TokenRuns::seeks_start, crate::proofs::TokenRuns::reads_first))]
     fn next(&mut self) -> Option<SignatureRef<'a>> {
         while let Some(item) = self.tokens.next() {
             let Ok(token) = item else {
