@@ -1,6 +1,7 @@
 -- Fields as they are written.
 use Rattle.std.proofs.Common.{◌≡◌, ◌≢◌, ◌+◌, ◌<◌, ◌*◌, ℕ, suc, List, [], ◌∷◌, ◌++◌, true, false, length, arith, refl, sym, ap, ◌∙◌, inl, inr, append_assoc, length-append}
 use Rattle.std.specs.Prelude.{Contains, ◌==◌}
+use Rattle.std.specs.List.{flat_map}
 use Rattle.std.proofs.lemmas.Bool.{eqb-true, true≢false}
 use Rattle.std.proofs.lemmas.List.{append-nil}
 use Rattle.std.proofs.lemmas.List.Elements.{All-contains, All-head, All-tail}
@@ -8,12 +9,12 @@ use Rattle.hex.proofs.HexLemmas.{length-encode_with}
 use Rattle.hex.specs.Hex.{lower_digits}
 use Rattle.gixobj_ids.specs.Hash.{hex_text, id_bytes}
 use Rattle.gixobj_ids.specs.declared.hash.object_id.ObjectId.{ObjectId}
-use Rattle.gixobj_fields.specs.HeaderText.{field_text, line_text}
+use Rattle.gixobj_fields.specs.HeaderText.{field_text, following_text, line_text}
 use Rattle.gixobj_texts.specs.Parse.{IsFree, SplitsAt}
 use Rattle.gixobj_fields.specs.Streams.{Puts, PutsFront, SinkView}
 use Rattle.gixobj_fields.specs.Writing.{RefusesNothing}
 use Rattle.gixobj_fields.proofs.Puts.{front_within}
-use Rattle.gixobj_fields.specs.FieldWriting.{IsLastLine, RefusesField, folded}
+use Rattle.gixobj_fields.specs.FieldWriting.{IsLastLine, RefusesField, folded, value_lines}
 
 -- a text without the byte does not hold it
 pub holds_none : (byte : ℕ) (text : List ℕ) → IsFree byte text → Contains text byte → ⊥
@@ -32,27 +33,43 @@ other-head byte text free = (let other = All-head (λ it. it ≢ 10) byte text f
 free-tail : (byte : ℕ) (text : List ℕ) → IsFree 10 (byte ∷ text) → IsFree 10 text
 free-tail byte text free = All-tail (λ it. it ≢ 10) byte text free
 
+-- what a cut of a value says of how it is written
+written_so : (value first : List ℕ) (more : List (List ℕ)) → value_lines value ≡ (first, more) → folded value ≡ line_text first ++ flat_map following_text more
+written_so value first more cut = ap (λ (lines : List ℕ × List (List ℕ)). line_text lines.0 ++ flat_map following_text lines.1) cut
+
+lines_of_one : (value : List ℕ) → IsFree 10 value → value_lines value ≡ (value, [])
+lines_of_one [] free = refl
+lines_of_one (byte ∷ []) free = rw (other-head byte [] free) refl
+lines_of_one (byte ∷ next ∷ rest) free =
+    rw (other-head byte (next ∷ rest) free) (ap (λ (lines : List ℕ × List (List ℕ)). (byte ∷ lines.0, lines.1)) (lines_of_one (next ∷ rest) (free-tail byte (next ∷ rest) free)))
+
+lines_of_ended : (line : List ℕ) → IsFree 10 line → value_lines (line ++ 10 ∷ []) ≡ (line, [])
+lines_of_ended [] free = refl
+lines_of_ended (byte ∷ []) free = rw (other-head byte [] free) refl
+lines_of_ended (byte ∷ next ∷ rest) free =
+    rw (other-head byte (next ∷ rest) free) (ap (λ (lines : List ℕ × List (List ℕ)). (byte ∷ lines.0, lines.1)) (lines_of_ended (next ∷ rest) (free-tail byte (next ∷ rest) free)))
+
+lines_of_more : (line : List ℕ) (byte : ℕ) (after : List ℕ) → IsFree 10 line → value_lines (line ++ 10 ∷ byte ∷ after) ≡ (line, (value_lines (byte ∷ after)).0 ∷ (value_lines (byte ∷ after)).1)
+lines_of_more [] byte after free = refl
+lines_of_more (first ∷ []) byte after free = rw (other-head first [] free) refl
+lines_of_more (first ∷ next ∷ rest) byte after free =
+    rw (other-head first (next ∷ rest) free) (ap (λ (lines : List ℕ × List (List ℕ)). (first ∷ lines.0, lines.1)) (lines_of_more (next ∷ rest) byte after (free-tail first (next ∷ rest) free)))
+
 pub folded_without_newline : (value : List ℕ) → IsFree 10 value → folded value ≡ value ++ 10 ∷ []
-folded_without_newline [] free = refl
-folded_without_newline (byte ∷ []) free = rw (other-head byte [] free) refl
-folded_without_newline (byte ∷ next ∷ rest) free =
-    rw (other-head byte (next ∷ rest) free) (ap (λ (it : List ℕ). byte ∷ it) (folded_without_newline (next ∷ rest) (free-tail byte (next ∷ rest) free)))
+folded_without_newline value free = written_so value value [] (lines_of_one value free) ∙ append-nil (line_text value)
 
 pub folded_line : (line : List ℕ) → IsFree 10 line → folded (line ++ 10 ∷ []) ≡ line ++ 10 ∷ []
-folded_line [] free = refl
-folded_line (byte ∷ []) free = rw (other-head byte [] free) refl
-folded_line (byte ∷ next ∷ rest) free =
-    rw (other-head byte (next ∷ rest) free) (ap (λ (it : List ℕ). byte ∷ it) (folded_line (next ∷ rest) (free-tail byte (next ∷ rest) free)))
+folded_line line free = written_so (line ++ 10 ∷ []) line [] (lines_of_ended line free) ∙ append-nil (line_text line)
 
 pub folded_with_newline : (value : List ℕ) → IsLastLine value → Contains value 10 → folded value ≡ value ++ []
 folded_with_newline value (inl free) has = absurd (holds_none 10 value free has)
 folded_with_newline value (inr (line, is, free)) has = rw is (folded_line line free ∙ sym (append-nil (line ++ 10 ∷ [])))
 
 folded_lines : (line : List ℕ) (byte : ℕ) (after : List ℕ) → IsFree 10 line → folded (line ++ 10 ∷ byte ∷ after) ≡ line ++ 10 ∷ 32 ∷ folded (byte ∷ after)
-folded_lines [] byte after free = refl
-folded_lines (first ∷ []) byte after free = rw (other-head first [] free) refl
-folded_lines (first ∷ next ∷ rest) byte after free =
-    rw (other-head first (next ∷ rest) free) (ap (λ (it : List ℕ). first ∷ it) (folded_lines (next ∷ rest) byte after (free-tail first (next ∷ rest) free)))
+folded_lines line byte after free =
+    let rest = value_lines (byte ∷ after) in
+    let flat : line_text line ++ flat_map following_text (rest.0 ∷ rest.1) ≡ line ++ 10 ∷ 32 ∷ (line_text rest.0 ++ flat_map following_text rest.1) = simp append_assoc in
+    written_so (line ++ 10 ∷ byte ∷ after) line (rest.0 ∷ rest.1) (lines_of_more line byte after free) ∙ flat
 
 pub lines_again : (line after : List ℕ) → IsFree 10 line → (length after == 0) ≡ false → folded (line ++ 10 ∷ after) ≡ line ++ 10 ∷ 32 ∷ folded after
 lines_again line [] free some = absurd (true≢false some)

@@ -1,15 +1,21 @@
 -- Header fields as they are written, and what is refused of them (gitformat-signature, "Commit signatures").
 use Rattle.std.specs.Prelude.{◌≡◌, ◌⊎◌, ℕ, List, [], ◌∷◌, ◌++◌, ◌==◌, Contains, if◌then◌else◌}
+use Rattle.std.specs.List.{flat_map}
 use Rattle.gixobj_texts.specs.Parse.{IsFree}
-use Rattle.gixobj_fields.specs.HeaderText.{Header}
+use Rattle.gixobj_fields.specs.HeaderText.{Header, following_text, line_text}
 use Rattle.gixobj_fields.specs.Writing.{Refused, empty_header, header_with_newline}
 use Rattle.gixobj_texts.specs.Bytes.{newline, space}
 
--- a header's value as it is written: a space before each line but the first, and a newline at the end
+-- the lines of a value without their newlines, the first and those that follow it: a newline at the end ends the last
+abbrev pub value_lines : List ℕ → List ℕ × List (List ℕ)
+value_lines [] = ([], [])
+value_lines (byte ∷ []) = if byte == newline then ([], []) else (byte ∷ [], [])
+value_lines (byte ∷ next ∷ rest) =
+    if byte == newline then ([], (value_lines (next ∷ rest)).0 ∷ (value_lines (next ∷ rest)).1) else (byte ∷ (value_lines (next ∷ rest)).0, (value_lines (next ∷ rest)).1)
+
+-- a header's value as it is written: its first line, and those that follow it
 abbrev pub folded : List ℕ → List ℕ
-folded [] = newline ∷ []
-folded (byte ∷ []) = if byte == newline then newline ∷ [] else byte ∷ newline ∷ []
-folded (byte ∷ next ∷ rest) = if byte == newline then newline ∷ space ∷ folded (next ∷ rest) else byte ∷ folded (next ∷ rest)
+folded value = line_text (value_lines value).0 ++ flat_map following_text (value_lines value).1
 
 -- a header as it is written
 abbrev pub header_text : Header → List ℕ
