@@ -82,6 +82,7 @@ impl<'a> CommitRef<'a> {
     }
 
     /// The ids of the parents, in order. It takes no memory.
+    #[tactic(auto, using(gixobj_ids::proofs::HexIds::all_spelled))]
     pub fn parents(&self) -> Parents<'_>
         requires { All IsHexOfAnId (commit_lines self.now).parents }
         ensures { AllZip Spells (commit_lines self.now).parents (parents_left result) }

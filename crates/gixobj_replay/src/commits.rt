@@ -9,6 +9,7 @@ use crate::texts::{Columns, bytes_of, hex_of, size_text, text_of, time_text, wri
 use bstr::BStr;
 use gixobj_base::actor::SignatureRef;
 use gixobj_base::hash::Kind::Sha1;
+use gixobj_base::hash::ObjectId;
 use gixobj_base::{Kind, WriteTo, compute_hash, decode};
 use gixobj_codec::{Commit, CommitRef};
 use std::alloc::{AllocError, Global};
@@ -39,8 +40,7 @@ pub(crate) fn commit_answer(alloc: Global, question: &[u8]) -> Result<Vec<u8>, A
 fn put_ids(alloc: Global, commit: &CommitRef<'_>, columns: &mut Columns) -> Result<(), AllocError>
     requires { HasIds (commit_lines commit.now) }
 {
-    let hex = hex_of(alloc, commit.tree.as_bytes())?;
-    let tree = format!(in alloc; "{hex} {}", commit.tree())?;
+    let tree = id_text(alloc, commit.tree, commit.tree())?;
     columns.put("tree", tree.as_str())?;
     put_parents(alloc, commit, columns)
 }
@@ -54,10 +54,15 @@ fn put_parents(
     requires { HasIds (commit_lines commit.now) }
 {
     for (hex, id) in commit.parents.iter().zip(commit.parents()) {
-        let hex = hex_of(alloc, hex.as_bytes())?;
-        columns.put("parent", format!(in alloc; "{hex} {id}")?.as_str())?;
+        columns.put("parent", id_text(alloc, *hex, id)?.as_str())?;
     }
     Ok(())
+}
+
+/// An id, in hex as it stands in a commit and as it is written.
+fn id_text(alloc: Global, hex: BStr<'_>, id: ObjectId) -> Result<String, AllocError> {
+    let hex = hex_of(alloc, hex.as_bytes())?;
+    format!(in alloc; "{hex} {id}")
 }
 
 /// The columns of the actors, as they stand and trimmed, and of the time.

@@ -27,6 +27,10 @@ fn author_and_committer_told(rt: HostRuntime) -> Result<(), Fail> {
     let tokens = CommitRefIter::from_bytes(alloc, &text, Kind::Sha1);
     assert!(rt; tokens.author()?.name.as_bytes() == b" B\t".as_slice());
     assert!(rt; tokens.committer()?.name.as_bytes() == b"A".as_slice());
+    let mut actors = tokens.signatures();
+    assert!(rt; actors.next() == Some(tokens.author()?));
+    assert!(rt; actors.next() == Some(tokens.committer()?));
+    assert!(rt; actors.next().is_none());
     Ok(())
 }
 
