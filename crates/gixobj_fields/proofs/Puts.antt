@@ -1,8 +1,8 @@
 -- What is put into a sink in several steps.
-use Rattle.std.proofs.Common.{◌≡◌, ◌-◌, ◌≤◌, ℕ, take, drop, List, [], ◌++◌, Option, Some, None, Result, Ok, Err, OnErr, append_assoc, arith, length, length-append, sym, ap, ◌∙◌}
+use Rattle.std.proofs.Common.{◌≡◌, ◌-◌, ◌≤◌, ℕ, take, drop, List, [], ◌++◌, Option, Some, None, Result, Ok, Err, append_assoc, arith, length, length-append, sym, ap, ◌∙◌}
 use Rattle.std.proofs.lemmas.List.{append-nil, length-drop, take-append-drop, take_all}
 use Rattle.std.specs.Io.KnownBytes.{Appends}
-use Rattle.gixobj_fields.specs.Streams.{Puts, PutsFront, SinkView}
+use Rattle.gixobj_fields.specs.Streams.{Puts, PutsFront, PutsOrFails, SinkView}
 
 pub appends_more : (a b c : Option (List ℕ)) (x y : List ℕ) → Appends a b x → Appends b c y → Appends a c (x ++ y)
 appends_more None b c x y p q = tt
@@ -65,7 +65,7 @@ cut_behind front all rest n joined short =
     let behind : take (length rest - n) (drop n rest) ≡ drop n rest = take_all (length rest - n) (drop n rest) (omega (arith, length-drop n rest)) in
     rw behind (joined ∙ ap (λ (it : List ℕ). front ++ it) (sym (take-append-drop n rest)) ∙ sym (append_assoc front (take n rest) (drop n rest)))
 
--- what holds is so where there is an error
-pub so_on_err : {T E P : Type 0} (r : Result T E) → P → OnErr r P
-so_on_err (Ok value) so = tt
-so_on_err (Err why) so = so
+-- behind what was put, more is put, or fails
+pub puts_or_fails_more : {T E : Type 0} (r : Result T E) (a b c : SinkView) (x y : List ℕ) → Puts a b x → PutsOrFails r b c y → PutsOrFails r a c (x ++ y)
+puts_or_fails_more (Ok value) a b c x y first more = puts_more a b c x y first more
+puts_or_fails_more (Err why) a b c x y first more = front_more a b c x y first more
