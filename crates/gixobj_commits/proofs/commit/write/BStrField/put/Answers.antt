@@ -3,8 +3,5 @@ use Rattle.std.proofs.Common.{sym}
 use Rattle.gixobj_ids.proofs.HexCase.{hex_in_lower_case}
 use Rattle.gixobj_commits.proofs.commit.write.BStrField.put.Goals as goal
 
-pub returns-clause-ok : goal.returns-clause-ok
-returns-clause-ok g c = rw (sym (hex_in_lower_case _ _ c.id_of_hex.ensures.spelled)) c.trusted_header_id.ensures.written
-
-pub returns-clause-err : goal.returns-clause-err
-returns-clause-err g c = rw (sym (hex_in_lower_case _ _ c.id_of_hex.ensures.spelled)) c.trusted_header_id.ensures.err
+pub returns-clause-put : goal.returns-clause-put
+returns-clause-put g c = rw (sym (hex_in_lower_case _ _ c.id_of_hex.ensures.spelled)) c.trusted_header_id.ensures.put
