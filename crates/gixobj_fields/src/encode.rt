@@ -159,6 +159,7 @@ pub fn header_field<S: Sink>(
 ///
 /// A newline is put at the end where the value has none there. The error is the sink's. It takes no
 /// memory.
+#[tactic(auto, using(crate::proofs::Puts::front_of_byte, crate::proofs::Puts::puts_or_fails_behind_byte))]
 pub fn header_field_multi_line<S: Sink>(name: &[u8], value: &[u8], sink: &mut S) -> io::Result<()>
     ensures put { PutsOrFails result (S.view sink.old) (S.view sink.new) (name.now ++ space ∷ folded value.now) }
     ensures same_loan { S.loan sink.new ≡ S.loan sink.old }
@@ -168,6 +169,7 @@ pub fn header_field_multi_line<S: Sink>(name: &[u8], value: &[u8], sink: &mut S)
 }
 
 /// Puts the lines of a value.
+#[tactic(auto, using(crate::proofs::FieldWrites::line_front, crate::proofs::Puts::puts_or_fails_more))]
 fn put_folded<S: Sink>(value: &[u8], sink: &mut S) -> io::Result<()>
     ensures put { PutsOrFails result (S.view sink.old) (S.view sink.new) (folded value.now) }
     ensures same_loan { S.loan sink.new ≡ S.loan sink.old }
