@@ -121,6 +121,7 @@ impl Field for BStr<'_> {
 
     ghost written = { λ hex. parent_text (str_to_ascii_lowercase (bstr_bytes hex)) };
 
+    #[tactic(auto, using(gixobj_ids::proofs::HexCase::hex_in_lower_case))]
     fn put<S: Sink>(&self, sink: &mut S) -> io::Result<()> {
         trusted_header_id(b"parent", &id_of_hex(*self), sink)
     }
@@ -179,6 +180,7 @@ impl Field for (BString, BString) {
 }
 
 /// Puts fields, one after the other.
+#[tactic(auto, using(gixobj_fields::proofs::Joins::item_front))]
 fn put_all<T: Field, S: Sink>(fields: &[T], sink: &mut S) -> io::Result<()>
     requires { All T.can_put fields.now }
     ensures put { PutsOrFails result (S.view sink.old) (S.view sink.new) (flat_map T.written fields.now) }
