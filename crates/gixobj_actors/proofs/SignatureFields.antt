@@ -1,7 +1,7 @@
 -- The field of an actor, put in its parts.
 use Rattle.std.proofs.Common.{ℕ, List, [], ◌∷◌, ◌++◌, refl}
 use Rattle.bstr.specs.Owned.{bstring_bytes}
-use Rattle.gixobj_fields.proofs.Puts.{front_behind_two, front_first}
+use Rattle.gixobj_fields.proofs.Puts.{front_behind_byte, front_first}
 use Rattle.gixobj_fields.specs.HeaderText.{field_text}
 use Rattle.gixobj_fields.specs.Streams.{Puts, PutsFront, SinkView}
 use Rattle.gixobj_fields.specs.Writing.{SaysWhy}
@@ -15,7 +15,7 @@ pub signature_refused : (a b c : SinkView) (Unchanged : Type 0) (name : List ℕ
     → RefusesActor (bstring_bytes actor.name) (bstring_bytes actor.email) Unchanged (PutsFront b c (owned_text actor)) e
     → SaysWhy (RefusesSignature name actor) a c (field_text name (owned_text actor)) e
 signature_refused a b c U name actor (error.Writer cause) put same refusal =
-    front_behind_two a b c name (32 ∷ []) (owned_text actor ++ 10 ∷ []) put (front_first b c (owned_text actor) (10 ∷ []) refusal.1)
+    front_behind_byte a b c name 32 (owned_text actor ++ 10 ∷ []) put (front_first b c (owned_text actor) (10 ∷ []) refusal.1)
 signature_refused a b c U name actor error.IllegalActor put same refusal = (name ++ 32 ∷ [], (refusal.0, refl, refl), same refusal.1)
 signature_refused a b c U name actor (error.NewlineInHeaderValue value) put same refusal = absurd refusal
 signature_refused a b c U name actor error.EmptyValue put same refusal = absurd refusal

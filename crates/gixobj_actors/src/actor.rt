@@ -9,7 +9,7 @@ ghost use Rattle.bstr.specs.Owned.{bstring_bytes};
 ghost use Rattle.gixobj_actors.specs.Actor.{EndsTime, IsActorLine, IsGap, IsNameOf, IsNoActorLine, IsTimeOrDefault, IsWritable, actor_text, is_time_byte as is_time_byte_of, trimmed};
 ghost use Rattle.gixobj_actors.specs.ActorWriting.{IsLegalActor, RefusesActor, borrowed_text, owned_text};
 ghost use Rattle.gixobj_actors.specs.Date.{IsNoTimeText, IsTimeText, time_text};
-ghost use Rattle.gixobj_fields.specs.Streams.{Puts, PutsFront, writer_view};
+ghost use Rattle.gixobj_fields.specs.Streams.{Puts, PutsFront, PutsOrFails, writer_view};
 ghost use Rattle.gixobj_ids.specs.declared.decode.Error.TheVariants.{Malformed};
 ghost use Rattle.gixobj_fields.specs.Writing.{IsSize};
 
@@ -230,8 +230,7 @@ fn is_writable(text: &[u8]) -> bool
 
 /// Writes an actor, whatever its bytes are.
 fn put_actor<S: Sink>(name: &[u8], email: &[u8], time: &[u8], sink: &mut S) -> io::Result<()>
-    ensures ok { OnOk result (Puts (S.view sink.old) (S.view sink.new) (actor_text name.now email.now time.now)) }
-    ensures err { OnErr result (PutsFront (S.view sink.old) (S.view sink.new) (actor_text name.now email.now time.now)) }
+    ensures put { PutsOrFails result (S.view sink.old) (S.view sink.new) (actor_text name.now email.now time.now) }
     ensures same_loan { S.loan sink.new ≡ S.loan sink.old }
 {
     put_parts(&[name, b" <", email, b"> ", time], sink)

@@ -15,6 +15,7 @@ use gixobj_fields::streams::{Sink, put_parts};
 ///
 /// `IllegalActor` behind the name and the space, where the actor's name or email has a `<`, a `>` or a
 /// newline; `Writer` where the sink refused bytes. It takes no memory.
+#[tactic(auto, using(gixobj_fields::proofs::Puts::front_of_byte, gixobj_fields::proofs::Puts::front_behind_byte, gixobj_fields::proofs::Puts::front_more))]
 pub fn trusted_header_signature<S: Sink>(
     name: &[u8],
     actor: &Signature,

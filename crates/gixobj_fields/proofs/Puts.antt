@@ -1,8 +1,8 @@
 -- What is put into a sink in several steps.
-use Rattle.std.proofs.Common.{◌≡◌, ◌-◌, ◌≤◌, ℕ, take, drop, List, [], ◌++◌, Option, Some, None, Result, Ok, Err, OnErr, append_assoc, arith, length, length-append, sym, ap, ◌∙◌}
+use Rattle.std.proofs.Common.{◌≡◌, ◌-◌, ◌≤◌, ℕ, take, drop, List, [], ◌++◌, Option, Some, None, ◌∷◌, Result, Ok, Err, append_assoc, arith, length, length-append, sym, ap, ◌∙◌}
 use Rattle.std.proofs.lemmas.List.{append-nil, length-drop, take-append-drop, take_all}
 use Rattle.std.specs.Io.KnownBytes.{Appends}
-use Rattle.gixobj_fields.specs.Streams.{Puts, PutsFront, SinkView}
+use Rattle.gixobj_fields.specs.Streams.{Puts, PutsFront, PutsOrFails, SinkView}
 
 pub appends_more : (a b c : Option (List ℕ)) (x y : List ℕ) → Appends a b x → Appends b c y → Appends a c (x ++ y)
 appends_more None b c x y p q = tt
@@ -52,12 +52,12 @@ front_more a b c x y first part =
 pub front_within : (a b c : SinkView) (x y z : List ℕ) → Puts a b x → PutsFront b c y → PutsFront a c (x ++ (y ++ z))
 front_within a b c x y z first part = front_more a b c x (y ++ z) first (front_first b c y z part)
 
--- the same of two parts that were put as one
-pub front_of_two : (a b : SinkView) (x y z : List ℕ) → PutsFront a b (x ++ y) → PutsFront a b (x ++ (y ++ z))
-front_of_two a b x y z part = rw (← append_assoc x y z) (front_first a b (x ++ y) z part)
+-- the same of a part that was put with the byte behind it
+pub front_of_byte : (a b : SinkView) (x : List ℕ) (byte : ℕ) (z : List ℕ) → PutsFront a b (x ++ byte ∷ []) → PutsFront a b (x ++ byte ∷ z)
+front_of_byte a b x byte z part = rw (← append_assoc x (byte ∷ []) z) (front_first a b (x ++ byte ∷ []) z part)
 
-pub front_behind_two : (a b c : SinkView) (x y z : List ℕ) → Puts a b (x ++ y) → PutsFront b c z → PutsFront a c (x ++ (y ++ z))
-front_behind_two a b c x y z first part = rw (← append_assoc x y z) (front_more a b c (x ++ y) z first part)
+pub front_behind_byte : (a b c : SinkView) (x : List ℕ) (byte : ℕ) (z : List ℕ) → Puts a b (x ++ byte ∷ []) → PutsFront b c z → PutsFront a c (x ++ byte ∷ z)
+front_behind_byte a b c x byte z first part = rw (← append_assoc x (byte ∷ []) z) (front_more a b c (x ++ byte ∷ []) z first part)
 
 -- what is left of a list behind a front of it
 pub cut_behind : (front all rest : List ℕ) (n : ℕ) → all ≡ front ++ rest → n ≤ length rest → all ≡ (front ++ take n rest) ++ take (length rest - n) (drop n rest)
@@ -65,7 +65,10 @@ cut_behind front all rest n joined short =
     let behind : take (length rest - n) (drop n rest) ≡ drop n rest = take_all (length rest - n) (drop n rest) (omega (arith, length-drop n rest)) in
     rw behind (joined ∙ ap (λ (it : List ℕ). front ++ it) (sym (take-append-drop n rest)) ∙ sym (append_assoc front (take n rest) (drop n rest)))
 
--- what holds is so where there is an error
-pub so_on_err : {T E P : Type 0} (r : Result T E) → P → OnErr r P
-so_on_err (Ok value) so = tt
-so_on_err (Err why) so = so
+-- behind what was put, more is put, or fails
+pub puts_or_fails_more : {T E : Type 0} (r : Result T E) (a b c : SinkView) (x y : List ℕ) → Puts a b x → PutsOrFails r b c y → PutsOrFails r a c (x ++ y)
+puts_or_fails_more (Ok value) a b c x y first more = puts_more a b c x y first more
+puts_or_fails_more (Err why) a b c x y first more = front_more a b c x y first more
+
+pub puts_or_fails_behind_byte : {T E : Type 0} (r : Result T E) (a b c : SinkView) (x : List ℕ) (byte : ℕ) (z : List ℕ) → Puts a b (x ++ byte ∷ []) → PutsOrFails r b c z → PutsOrFails r a c (x ++ byte ∷ z)
+puts_or_fails_behind_byte r a b c x byte z first more = rw (← append_assoc x (byte ∷ []) z) (puts_or_fails_more r a b c (x ++ byte ∷ []) z first more)

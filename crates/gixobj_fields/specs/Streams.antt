@@ -1,5 +1,5 @@
 -- What sinks hold and take.
-use Rattle.std.specs.Prelude.{◌≡◌, ◌<◌, ◌≤◌, ◌+◌, ◌-◌, ◌++◌, ℕ, List, Option, Some, length, vec_capacity, vec_len}
+use Rattle.std.specs.Prelude.{◌≡◌, ◌<◌, ◌≤◌, ◌+◌, ◌-◌, ◌++◌, ℕ, List, MatchResult, Option, Result, Some, length, vec_capacity, vec_len}
 use Rattle.std.specs.Io.KnownBytes.{Appends}
 use Rattle.std.specs.declared.alloc.Global.{Global}
 use Rattle.std.specs.declared.vec.Vec.{Vec}
@@ -30,3 +30,7 @@ pub record PutsFront (before after : SinkView) (bytes : List ℕ) : Type 0 where
   pub missing : 0 < length rest
   pub held : Appends before.held after.held front
   pub short : before.room < length bytes
+
+-- all the bytes were put, or, at an error, a front of them, but not all
+abbrev pub PutsOrFails : {T E : Type 0} → Result T E → SinkView → SinkView → List ℕ → Type 0
+PutsOrFails result before after bytes = MatchResult result (λ _. Puts before after bytes) (λ _. PutsFront before after bytes)

@@ -1,11 +1,11 @@
 //! What is refused of objects that are written, and header fields, written (gitdatamodel, "commits";
 //! gitformat-signature, "Commit signatures").
-ghost use Rattle.std.specs.Prelude.{◌≡◌, ◌<◌, ◌+◌, ◌^◌, ◌++◌, ◌∷◌, [], length, IfErr, MatchOption, OnErr, OnOk};
+ghost use Rattle.std.specs.Prelude.{◌≡◌, ◌<◌, ◌+◌, ◌^◌, ◌++◌, ◌∷◌, [], length, IfErr, MatchOption, OnOk};
 ghost use Rattle.std.specs.Option.{SomeIff};
 ghost use Rattle.gixobj_ids.specs.Hash.{hex_text};
 ghost use Rattle.gixobj_fields.specs.FieldWriting.{IsLastLine, RefusesField, folded};
 ghost use Rattle.gixobj_fields.specs.HeaderText.{field_text};
-ghost use Rattle.gixobj_fields.specs.Streams.{Puts, PutsFront};
+ghost use Rattle.gixobj_fields.specs.Streams.{Puts, PutsOrFails};
 ghost use Rattle.gixobj_fields.specs.Writing.{AddsSize, RefusesNothing, SaysWhy};
 ghost use Rattle.gixobj_texts.specs.Bytes.{newline, space};
 
@@ -110,8 +110,7 @@ impl From<AllocError> for Error {
 /// It looks at neither, so the caller has to know that they have no newline. The error is the sink's.
 /// It takes no memory.
 pub fn trusted_header_field<S: Sink>(name: &[u8], value: &[u8], sink: &mut S) -> io::Result<()>
-    ensures written { OnOk result (Puts (S.view sink.old) (S.view sink.new) (field_text name.now value.now)) }
-    ensures err { OnErr result (PutsFront (S.view sink.old) (S.view sink.new) (field_text name.now value.now)) }
+    ensures put { PutsOrFails result (S.view sink.old) (S.view sink.new) (field_text name.now value.now) }
     ensures same_loan { S.loan sink.new ≡ S.loan sink.old }
 {
     put_parts(&[name, b" ", value, b"\n"], sink)
@@ -120,8 +119,7 @@ pub fn trusted_header_field<S: Sink>(name: &[u8], value: &[u8], sink: &mut S) ->
 /// Puts the field of an id: its value is the id's 40 or 64 hex digits, in lower case (gitdatamodel,
 /// "commits"). The error is the sink's. It takes no memory.
 pub fn trusted_header_id<S: Sink>(name: &[u8], id: &ObjectId, sink: &mut S) -> io::Result<()>
-    ensures written { OnOk result (Puts (S.view sink.old) (S.view sink.new) (field_text name.now (hex_text id.now))) }
-    ensures err { OnErr result (PutsFront (S.view sink.old) (S.view sink.new) (field_text name.now (hex_text id.now))) }
+    ensures put { PutsOrFails result (S.view sink.old) (S.view sink.new) (field_text name.now (hex_text id.now)) }
     ensures same_loan { S.loan sink.new ≡ S.loan sink.old }
 {
     let mut buffer = [0; 64];
@@ -161,9 +159,9 @@ pub fn header_field<S: Sink>(
 ///
 /// A newline is put at the end where the value has none there. The error is the sink's. It takes no
 /// memory.
+#[tactic(auto, using(crate::proofs::Puts::front_of_byte, crate::proofs::Puts::puts_or_fails_behind_byte))]
 pub fn header_field_multi_line<S: Sink>(name: &[u8], value: &[u8], sink: &mut S) -> io::Result<()>
-    ensures written { OnOk result (Puts (S.view sink.old) (S.view sink.new) (name.now ++ space ∷ folded value.now)) }
-    ensures err { OnErr result (PutsFront (S.view sink.old) (S.view sink.new) (name.now ++ space ∷ folded value.now)) }
+    ensures put { PutsOrFails result (S.view sink.old) (S.view sink.new) (name.now ++ space ∷ folded value.now) }
     ensures same_loan { S.loan sink.new ≡ S.loan sink.old }
 {
     put_parts(&[name, b" "], sink)?;
@@ -171,9 +169,9 @@ pub fn header_field_multi_line<S: Sink>(name: &[u8], value: &[u8], sink: &mut S)
 }
 
 /// Puts the lines of a value.
+#[tactic(auto, using(crate::proofs::FieldWrites::line_front, crate::proofs::Puts::puts_or_fails_more))]
 fn put_folded<S: Sink>(value: &[u8], sink: &mut S) -> io::Result<()>
-    ensures written { OnOk result (Puts (S.view sink.old) (S.view sink.new) (folded value.now)) }
-    ensures err { OnErr result (PutsFront (S.view sink.old) (S.view sink.new) (folded value.now)) }
+    ensures put { PutsOrFails result (S.view sink.old) (S.view sink.new) (folded value.now) }
     ensures same_loan { S.loan sink.new ≡ S.loan sink.old }
 {
     let mut rest = value;
@@ -186,8 +184,7 @@ fn put_folded<S: Sink>(value: &[u8], sink: &mut S) -> io::Result<()>
 
 /// Puts a line, and the space before the next.
 fn put_line<S: Sink>(line: &[u8], sink: &mut S) -> io::Result<()>
-    ensures written { OnOk result (Puts (S.view sink.old) (S.view sink.new) (line.now ++ newline ∷ space ∷ [])) }
-    ensures err { OnErr result (PutsFront (S.view sink.old) (S.view sink.new) (line.now ++ newline ∷ space ∷ [])) }
+    ensures put { PutsOrFails result (S.view sink.old) (S.view sink.new) (line.now ++ newline ∷ space ∷ []) }
     ensures same_loan { S.loan sink.new ≡ S.loan sink.old }
 {
     put_parts(&[line, b"\n "], sink)
@@ -196,8 +193,7 @@ fn put_line<S: Sink>(line: &[u8], sink: &mut S) -> io::Result<()>
 /// Puts the last line, with its newline.
 fn put_last_line<S: Sink>(line: &[u8], sink: &mut S) -> io::Result<()>
     requires { IsLastLine line.now }
-    ensures written { OnOk result (Puts (S.view sink.old) (S.view sink.new) (folded line.now)) }
-    ensures err { OnErr result (PutsFront (S.view sink.old) (S.view sink.new) (folded line.now)) }
+    ensures put { PutsOrFails result (S.view sink.old) (S.view sink.new) (folded line.now) }
     ensures same_loan { S.loan sink.new ≡ S.loan sink.old }
 {
     let end = missing_newline(line);

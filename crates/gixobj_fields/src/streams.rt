@@ -4,11 +4,11 @@
 //! Over a [`Source`] and a [`Sink`] it says that a slice is always read, and that a `Vec` refuses
 //! bytes only where it has no room for them. [`FromRead`] and [`ToWrite`] make one of any reader or
 //! writer, which may then fail at every call.
-ghost use Rattle.std.specs.Prelude.{◌≡◌, ℕ, List, Option, Some, OnOk, OnErr, ⊤};
+ghost use Rattle.std.specs.Prelude.{◌≡◌, ℕ, List, Option, Some, OnErr, ⊤};
 ghost use Rattle.std.specs.Io.{ReadsAtMost, WritesAtMost};
 ghost use Rattle.std.specs.Io.KnownBytes.{ReadConsumes, WriteAppends};
 ghost use Rattle.std.specs.List.{flat_map};
-ghost use Rattle.gixobj_fields.specs.Streams.{Puts, PutsFront, list_view, writer_view};
+ghost use Rattle.gixobj_fields.specs.Streams.{PutsOrFails, list_view, writer_view};
 
 use std::io;
 use std::io::{ErrorKind, Read, Write};
@@ -82,8 +82,7 @@ pub trait Sink {
     /// Puts all the bytes at the end. Where it has no room for them it may fail, and then a front of
     /// them, but not all, has been put.
     fn put(&mut self, bytes: &[u8]) -> io::Result<()>
-        ensures ok { OnOk result (Puts (view self.old) (view self.new) bytes.now) }
-        ensures err { OnErr result (PutsFront (view self.old) (view self.new) bytes.now) }
+        ensures put { PutsOrFails result (view self.old) (view self.new) bytes.now }
         ensures same_loan { loan self.new ≡ loan self.old };
 }
 
@@ -141,8 +140,7 @@ impl<W: Write> ToWrite<'_, W> {
 /// Puts texts at the end of a sink, one after the other. Where it fails, there was no room for them all,
 /// and a front of them, but not all, has been put. It takes no memory.
 pub fn put_parts<S: Sink>(parts: &[&[u8]], sink: &mut S) -> io::Result<()>
-    ensures ok { OnOk result (Puts (S.view sink.old) (S.view sink.new) (flat_map (λ part. part.now) parts.now)) }
-    ensures err { OnErr result (PutsFront (S.view sink.old) (S.view sink.new) (flat_map (λ part. part.now) parts.now)) }
+    ensures put { PutsOrFails result (S.view sink.old) (S.view sink.new) (flat_map (λ part. part.now) parts.now) }
     ensures same_loan { S.loan sink.new ≡ S.loan sink.old }
 {
     for part in parts {

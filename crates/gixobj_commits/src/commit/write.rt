@@ -1,10 +1,10 @@
 //! Commits, written (gitdatamodel, "commits").
-ghost use Rattle.std.specs.Prelude.{◌≡◌, ◌<◌, ◌+◌, ◌^◌, ◌++◌, ◌∷◌, All, codes, length, IfErr, OnErr, OnOk};
+ghost use Rattle.std.specs.Prelude.{◌≡◌, ◌<◌, ◌+◌, ◌^◌, ◌++◌, ◌∷◌, All, codes, length, IfErr, OnOk};
 ghost use Rattle.std.specs.List.{flat_map};
 ghost use Rattle.std.specs.Option.{SomeIff};
 ghost use Rattle.gixobj_ids.specs.Hash.{hex_text};
 ghost use Rattle.gixobj_fields.specs.HeaderText.{field_text};
-ghost use Rattle.gixobj_fields.specs.Streams.{Puts, PutsFront};
+ghost use Rattle.gixobj_fields.specs.Streams.{Puts, PutsOrFails};
 ghost use Rattle.gixobj_fields.specs.Writing.{AddsSize, IsSize, RefusesNothing, SaysWhy};
 ghost use Rattle.gixobj_lines.specs.Commit.{encoding_text};
 ghost use Rattle.gixobj_commits.specs.CommitViews.{bytes_if_some};
@@ -75,8 +75,7 @@ impl WriteTo for CommitRef<'_> {
 /// Puts the lines of the tree and of the parents.
 fn put_ids<T: Field, S: Sink>(tree: &ObjectId, parents: &[T], sink: &mut S) -> io::Result<()>
     requires { All T.can_put parents.now }
-    ensures ok { OnOk result (Puts (S.view sink.old) (S.view sink.new) (field_text (codes "tree") (hex_text tree.now) ++ flat_map T.written parents.now)) }
-    ensures err { OnErr result (PutsFront (S.view sink.old) (S.view sink.new) (field_text (codes "tree") (hex_text tree.now) ++ flat_map T.written parents.now)) }
+    ensures put { PutsOrFails result (S.view sink.old) (S.view sink.new) (field_text (codes "tree") (hex_text tree.now) ++ flat_map T.written parents.now) }
     ensures same_loan { S.loan sink.new ≡ S.loan sink.old }
 {
     trusted_header_id(b"tree", tree, sink)?;
@@ -103,8 +102,7 @@ trait Field {
     /// Puts the field.
     fn put<S: Sink>(&self, sink: &mut S) -> io::Result<()>
         requires { can_put self.now }
-        ensures ok { OnOk result (Puts (S.view sink.old) (S.view sink.new) (written self.now)) }
-        ensures err { OnErr result (PutsFront (S.view sink.old) (S.view sink.new) (written self.now)) }
+        ensures put { PutsOrFails result (S.view sink.old) (S.view sink.new) (written self.now) }
         ensures same_loan { S.loan sink.new ≡ S.loan sink.old };
 
     /// The size with that of the field, or none past 64 bits.
@@ -123,6 +121,7 @@ impl Field for BStr<'_> {
 
     ghost written = { λ hex. parent_text (str_to_ascii_lowercase (bstr_bytes hex)) };
 
+    #[tactic(auto, using(gixobj_ids::proofs::HexCase::hex_in_lower_case))]
     fn put<S: Sink>(&self, sink: &mut S) -> io::Result<()> {
         trusted_header_id(b"parent", &id_of_hex(*self), sink)
     }
@@ -181,10 +180,10 @@ impl Field for (BString, BString) {
 }
 
 /// Puts fields, one after the other.
+#[tactic(auto, using(gixobj_fields::proofs::Joins::item_front))]
 fn put_all<T: Field, S: Sink>(fields: &[T], sink: &mut S) -> io::Result<()>
     requires { All T.can_put fields.now }
-    ensures ok { OnOk result (Puts (S.view sink.old) (S.view sink.new) (flat_map T.written fields.now)) }
-    ensures err { OnErr result (PutsFront (S.view sink.old) (S.view sink.new) (flat_map T.written fields.now)) }
+    ensures put { PutsOrFails result (S.view sink.old) (S.view sink.new) (flat_map T.written fields.now) }
     ensures same_loan { S.loan sink.new ≡ S.loan sink.old }
 {
     for field in fields {

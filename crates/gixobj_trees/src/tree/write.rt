@@ -49,6 +49,7 @@ impl WriteTo for Tree {
 }
 
 /// Puts one entry.
+#[tactic(auto, using(crate::proofs::TreeWrites::mode_front, crate::proofs::TreeWrites::mode_put, crate::proofs::TreeWrites::name_front))]
 fn put_entry<S: Sink>(alloc: Global, entry: &Entry, sink: &mut S) -> Result<(), Error>
     ensures written { OnOk result (Puts (S.view sink.old) (S.view sink.new) (entry_text entry.now)) }
     ensures free { OnOk result (IsFree 0 entry.now.name) }

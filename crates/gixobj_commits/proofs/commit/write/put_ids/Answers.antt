@@ -1,18 +1,17 @@
 -- Where a step fails, a front of its part stands behind the parts before it.
 use Rattle.std.proofs.Common.{codes}
 use Rattle.std.specs.List.{flat_map}
-use Rattle.std.proofs.lemmas.Result.{on_err_weaker}
+use Rattle.std.proofs.lemmas.Result.{MatchResult-from_err}
 use Rattle.gixobj_ids.specs.Hash.{hex_text}
-use Rattle.gixobj_fields.proofs.Puts.{front_first, front_more, so_on_err}
+use Rattle.gixobj_fields.proofs.Puts.{front_first, puts_or_fails_more}
 use Rattle.gixobj_fields.specs.HeaderText.{field_text}
 use Rattle.gixobj_commits.proofs.commit.write.put_ids.Goals as goal
 
-pub returns-in_err-trusted_header_id-clause-err : goal.returns-in_err-trusted_header_id-clause-err
-returns-in_err-trusted_header_id-clause-err g c =
-    so_on_err c.from_residual.result
-    (front_first _ _ (field_text (codes "tree") (hex_text c.args.tree.now)) (flat_map g.T.Field.written c.args.parents.now) c.in_err-trusted_header_id.ensures.err)
+pub returns-in_err-trusted_header_id-clause-put : goal.returns-in_err-trusted_header_id-clause-put
+returns-in_err-trusted_header_id-clause-put g c =
+    MatchResult-from_err _ _ _ c.from_residual.ensures.0
+    (λ _. front_first _ _ (field_text (codes "tree") (hex_text c.args.tree.now)) (flat_map g.T.Field.written c.args.parents.now) c.in_err-trusted_header_id.ensures.put)
 
-pub returns-clause-err : goal.returns-clause-err
-returns-clause-err g c =
-    on_err_weaker c.put_all.result
-    (front_more _ _ _ (field_text (codes "tree") (hex_text c.args.tree.now)) (flat_map g.T.Field.written c.args.parents.now) c.in_ok-trusted_header_id.ensures.written) c.put_all.ensures.err
+pub returns-clause-put : goal.returns-clause-put
+returns-clause-put g c =
+    puts_or_fails_more _ _ _ _ (field_text (codes "tree") (hex_text c.args.tree.now)) (flat_map g.T.Field.written c.args.parents.now) c.in_ok-trusted_header_id.ensures.put c.put_all.ensures.put

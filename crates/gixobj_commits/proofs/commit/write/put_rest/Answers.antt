@@ -24,12 +24,12 @@ returns-in_err-put_all-clause-refusal g c =
     let from = err_from_is_err_and c.from_residual-in_err-put_all.result c.from_residual-in_err-put_all.ensures.1 in
     let encoding = encoding_text (bytes_if_some c.args.encoding) in
     let headers : List ℕ = flat_map g.T.Field.written c.args.headers.now in
-    rw (from.1, from.2) (front_first _ _ (encoding ++ headers) (10 ∷ c.args.message.now) (front_more _ _ _ encoding headers c.in_ok-put_encoding.ensures.written c.in_err-put_all.ensures.err))
+    rw (from.1, from.2) (front_first _ _ (encoding ++ headers) (10 ∷ c.args.message.now) (front_more _ _ _ encoding headers c.in_ok-put_encoding.ensures.written c.in_err-put_all.ensures.put))
 
 pub returns-in_err-put_parts-clause-refusal : goal.returns-in_err-put_parts-clause-refusal
 returns-in_err-put_parts-clause-refusal g c =
     let from = err_from_is_err_and c.from_residual-in_err-put_parts.result c.from_residual-in_err-put_parts.ensures.1 in
     let encoding = encoding_text (bytes_if_some c.args.encoding) in
     let headers : List ℕ = flat_map g.T.Field.written c.args.headers.now in
-    let before = puts_more _ _ _ encoding headers c.in_ok-put_encoding.ensures.written c.in_ok-put_all.ensures.ok in
-    rw (from.1, from.2, ← append-nil c.args.message.now) (front_more _ _ _ (encoding ++ headers) (10 ∷ (c.args.message.now ++ [])) before c.in_err-put_parts.ensures.err)
+    let before = puts_more _ _ _ encoding headers c.in_ok-put_encoding.ensures.written c.in_ok-put_all.ensures.put in
+    rw (from.1, from.2, ← append-nil c.args.message.now) (front_more _ _ _ (encoding ++ headers) (10 ∷ (c.args.message.now ++ [])) before c.in_err-put_parts.ensures.put)

@@ -17,21 +17,21 @@ returns-in_err-put_ids-clause-refusal g c =
     let whole = borrowed_as_put c.args.self.now c.id_of_hex-tree.result c.as_slice-parents.result.now c.as_bytes-author.result.now c.as_bytes-committer.result.now c.as_slice-headers.result.now c.as_bytes-message.result.now
     c.id_of_hex-tree.ensures.spelled c.as_slice-parents.ensures c.as_bytes-author.ensures c.as_bytes-committer.ensures c.as_slice-headers.ensures.value c.as_bytes-message.ensures in
     let from = err_from_is_err_and c.from_residual.result c.from_residual.ensures.1 in
-    rw (from.1, from.2) (first_front _ _ _ _ _ _ _ whole c.in_err-put_ids.ensures.err)
+    rw (from.1, from.2) (first_front _ _ _ _ _ _ _ whole c.in_err-put_ids.ensures.put)
 
 pub returns-in_err-trusted_header_field-clause-refusal : goal.returns-in_err-trusted_header_field-clause-refusal
 returns-in_err-trusted_header_field-clause-refusal g c =
     let whole = borrowed_as_put c.args.self.now c.id_of_hex-tree.result c.as_slice-parents.result.now c.as_bytes-author.result.now c.as_bytes-committer.result.now c.as_slice-headers.result.now c.as_bytes-message.result.now
     c.id_of_hex-tree.ensures.spelled c.as_slice-parents.ensures c.as_bytes-author.ensures c.as_bytes-committer.ensures c.as_slice-headers.ensures.value c.as_bytes-message.ensures in
     let from = err_from_is_err_and c.from_residual-in_err-trusted_header_field.result c.from_residual-in_err-trusted_header_field.ensures.1 in
-    rw (from.1, from.2) (second_front _ _ _ _ _ _ _ _ whole c.in_ok-put_ids.ensures.ok c.in_err-trusted_header_field.ensures.err)
+    rw (from.1, from.2) (second_front _ _ _ _ _ _ _ _ whole c.in_ok-put_ids.ensures.put c.in_err-trusted_header_field.ensures.put)
 
 pub returns-in_err-trusted_header_field-2-clause-refusal : goal.returns-in_err-trusted_header_field-2-clause-refusal
 returns-in_err-trusted_header_field-2-clause-refusal g c =
     let whole = borrowed_as_put c.args.self.now c.id_of_hex-tree.result c.as_slice-parents.result.now c.as_bytes-author.result.now c.as_bytes-committer.result.now c.as_slice-headers.result.now c.as_bytes-message.result.now
     c.id_of_hex-tree.ensures.spelled c.as_slice-parents.ensures c.as_bytes-author.ensures c.as_bytes-committer.ensures c.as_slice-headers.ensures.value c.as_bytes-message.ensures in
     let from = err_from_is_err_and c.from_residual-in_err-trusted_header_field-2.result c.from_residual-in_err-trusted_header_field-2.ensures.1 in
-    rw (from.1, from.2) (third_front _ _ _ _ _ _ _ _ _ whole c.in_ok-put_ids.ensures.ok c.in_ok-trusted_header_field.ensures.written c.in_err-trusted_header_field-2.ensures.err)
+    rw (from.1, from.2) (third_front _ _ _ _ _ _ _ _ _ whole c.in_ok-put_ids.ensures.put c.in_ok-trusted_header_field.ensures.put c.in_err-trusted_header_field-2.ensures.put)
 
 pub returns-in_err-put_rest-clause-refusal : goal.returns-in_err-put_rest-clause-refusal
 returns-in_err-put_rest-clause-refusal g c =
@@ -39,13 +39,13 @@ returns-in_err-put_rest-clause-refusal g c =
     c.id_of_hex-tree.ensures.spelled c.as_slice-parents.ensures c.as_bytes-author.ensures c.as_bytes-committer.ensures c.as_slice-headers.ensures.value c.as_bytes-message.ensures in
     let from = err_from_is_err_and c.from_residual-in_err-put_rest.result c.from_residual-in_err-put_rest.ensures.1 in
     rw (from.1, from.2) (says_why_behind (RefusesEncodingLine (bytes_if_some c.args.self.now.encoding)) (RefusesLines (in_lower_case (commit_lines c.args.self.now))) (g.S.Sink.view c.args.sink.now) (g.S.Sink.view c.trusted_header_field-2.new.sink) (g.S.Sink.view c.put_rest.new.sink) _ _ _
-    (three_put _ _ _ _ _ _ _ c.in_ok-put_ids.ensures.ok c.in_ok-trusted_header_field.ensures.written c.in_ok-trusted_header_field-2.ensures.written)
+    (three_put _ _ _ _ _ _ _ c.in_ok-put_ids.ensures.put c.in_ok-trusted_header_field.ensures.put c.in_ok-trusted_header_field-2.ensures.put)
     (λ value parts. borrowed_refused c.args.self.now c.id_of_hex-tree.result c.as_slice-parents.result.now c.as_bytes-author.result.now c.as_bytes-committer.result.now value parts c.id_of_hex-tree.ensures.spelled c.as_slice-parents.ensures c.as_bytes-author.ensures c.as_bytes-committer.ensures)
-    (fourth_front _ _ _ _ _ _ _ _ _ _ whole c.in_ok-put_ids.ensures.ok c.in_ok-trusted_header_field.ensures.written c.in_ok-trusted_header_field-2.ensures.written)
+    (fourth_front _ _ _ _ _ _ _ _ _ _ whole c.in_ok-put_ids.ensures.put c.in_ok-trusted_header_field.ensures.put c.in_ok-trusted_header_field-2.ensures.put)
     c.in_err-put_rest.field-0.0 c.in_err-put_rest.ensures.refusal)
 
 pub returns-clause-written : goal.returns-clause-written
 returns-clause-written g c =
     let whole = borrowed_as_put c.args.self.now c.id_of_hex-tree.result c.as_slice-parents.result.now c.as_bytes-author.result.now c.as_bytes-committer.result.now c.as_slice-headers.result.now c.as_bytes-message.result.now
     c.id_of_hex-tree.ensures.spelled c.as_slice-parents.ensures c.as_bytes-author.ensures c.as_bytes-committer.ensures c.as_slice-headers.ensures.value c.as_bytes-message.ensures in
-    all_put _ _ _ _ _ _ _ _ _ _ whole c.in_ok-put_ids.ensures.ok c.in_ok-trusted_header_field.ensures.written c.in_ok-trusted_header_field-2.ensures.written c.in_ok-put_rest.ensures.written
+    all_put _ _ _ _ _ _ _ _ _ _ whole c.in_ok-put_ids.ensures.put c.in_ok-trusted_header_field.ensures.put c.in_ok-trusted_header_field-2.ensures.put c.in_ok-put_rest.ensures.written
