@@ -1,5 +1,5 @@
 -- What is found among the headers of a list, which an iterator gives in order.
-use Rattle.std.proofs.Common.{◌≡◌, ◌≢◌, ℕ, Bool, List, [], ◌∷◌, ◌++◌, map, Option, None, Some, length, true, false, cond, refl, sym, ap, ◌∙◌}
+use Rattle.std.proofs.Common.{◌≡◌, ◌≢◌, ℕ, Bool, List, [], ◌∷◌, ◌++◌, map, Option, None, Some, length, true, false, cond, refl, sym, ap, subst, ◌∙◌}
 use Rattle.std.proofs.lemmas.Iterator.{YieldsList}
 use Rattle.std.proofs.lemmas.Iterator.Consumers.{YieldsList-from_shown}
 use Rattle.std.proofs.lemmas.List.{append-nil, length-map}
@@ -7,7 +7,6 @@ use Rattle.std.proofs.lemmas.List.Elements.{All-head, All-tail}
 use Rattle.std.proofs.lemmas.Slice.Eq.{bytes_eq-Decides}
 use Rattle.std.specs.Iterator.{Yields, YieldsFirstBy}
 use Rattle.std.specs.List.{filter}
-use Rattle.std.specs.Option.{option_map}
 use Rattle.std.specs.Str.{bytes_eq}
 use Rattle.bstr.specs.BStr.{bstr_bytes}
 use Rattle.bstr.specs.declared.bstr.BStr.{BStr}
@@ -41,19 +40,23 @@ module _ {S : Type 0} (rest : S → List Header) where
   came s t [] yielded = ap rest yielded
   came s t (pair ∷ pairs) (next, step, yielded) = step ∙ ap (λ it. pair_of pair ∷ it) (came next t pairs yielded)
 
-  first : (name : List ℕ) (s t : S) (others : List (BStr × BStr)) (value : Option BStr) → PassesOthers (YieldsFirstBy pair_of rest) name s others value t
+  all_came : (name : List ℕ) (s t : S) (others : List (BStr × BStr)) → PassesOthers (YieldsFirstBy pair_of rest) name s others None t → rest s ≡ map pair_of others
+  all_came name s t others (lacks, (last, yielded, step)) =
+      came s last others yielded ∙ ap (λ it. map pair_of others ++ it) step.0 ∙ append-nil (map pair_of others)
+
+  first : (name : List ℕ) (s t : S) (others : List (BStr × BStr)) (value : BStr) → PassesOthers (YieldsFirstBy pair_of rest) name s others (Some value) t
       → HasFirst name (rest s) (map pair_of others) value (rest t)
-  first name s t others None (lacks, (last, yielded, step)) =
-      (lacks, (came s last others yielded ∙ ap (λ it. map pair_of others ++ it) step.0 ∙ append-nil (map pair_of others), step.1))
-  first name s t others (Some value) (lacks, (key, named, (last, yielded, step))) =
+  first name s t others value (lacks, (key, named, (last, yielded, step))) =
       (lacks, came s last others yielded ∙ ap (λ it. map pair_of others ++ it) (step ∙ ap (λ it. header_at it value ∷ rest t) named))
 
   pub first_value : (name : List ℕ) (s : S) (result : Option BStr) → FindsValue (YieldsFirstBy pair_of rest) name s result → IsFirstValue name (rest s) result
-  first_value name s result (to, (others, passes)) = (map pair_of others, rest to, first name s to others result passes)
+  first_value name s None (to, (others, passes)) = subst (LacksHeader name) (sym (all_came name s to others passes)) passes.0
+  first_value name s (Some value) (to, (others, passes)) = (map pair_of others, rest to, first name s to others value passes)
 
   pub first_place : (name : List ℕ) (s : S) (result : Option ℕ) → FindsPlace (YieldsFirstBy pair_of rest) name s result → IsFirstPlace name (rest s) result
-  first_place name s result (others, value, to, passes, is) =
-      (map pair_of others, rest to, value, first name s to others value passes, is ∙ ap (λ n. option_map (λ _. n) value) (sym (length-map others pair_of)))
+  first_place name s None (others, to, passes) = first_value name s None (to, (others, passes))
+  first_place name s (Some place) (others, to, (value, passes, counted)) =
+      (map pair_of others, rest to, value, first name s to others value passes, counted ∙ sym (length-map others pair_of))
 
   -- ---- all values
 
@@ -62,13 +65,13 @@ module _ {S : Type 0} (rest : S → List Header) where
 
   none_to_come : (s t : FindAll S) → GivesAll (YieldsFirstBy pair_of rest) s None t → length (still_to_come s) ≡ 0
   none_to_come s t (same, (others, passes)) =
-      let (lacks, all) = first s.name.now s.inner t.inner others None passes in
-      ap (λ it. length (values_named s.name.now it)) (all.0 ∙ sym (append-nil (map pair_of others))) ∙ ap length (passed s.name.now (map pair_of others) [] lacks)
+      let all = all_came s.name.now s.inner t.inner others passes ∙ sym (append-nil (map pair_of others)) in
+      ap (λ it. length (values_named s.name.now it)) all ∙ ap length (passed s.name.now (map pair_of others) [] passes.0)
 
   one_came : (s : FindAll S) (value : BStr) (t : FindAll S) → GivesAll (YieldsFirstBy pair_of rest) s (Some value) t → still_to_come s ≡ bstr_bytes value ∷ still_to_come t
   one_came s value t (same, (others, passes)) =
       let name = s.name.now in
-      let (lacks, all) = first name s.inner t.inner others (Some value) passes in
+      let (lacks, all) = first name s.inner t.inner others value passes in
       ap (values_named name) all ∙ passed name (map pair_of others) (header_at name value ∷ rest t.inner) lacks ∙ taken name value (rest t.inner)
       ∙ ap (λ it. bstr_bytes value ∷ values_named it (rest t.inner)) (sym same)
 

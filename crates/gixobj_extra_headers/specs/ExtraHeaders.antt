@@ -1,8 +1,7 @@
 -- Headers of commits, found by their names.
-use Rattle.std.specs.Prelude.{◌≡◌, ◌≢◌, ℕ, List, [], ◌∷◌, ◌++◌, All, Option, None, Some, MatchOption, codes, length, map}
+use Rattle.std.specs.Prelude.{◌≡◌, ◌≢◌, ℕ, List, ◌∷◌, ◌++◌, All, Option, None, Some, MatchOption, codes, length, map}
 use Rattle.std.specs.Iterator.{YieldsThen}
 use Rattle.std.specs.List.{filter}
-use Rattle.std.specs.Option.{option_map}
 use Rattle.std.specs.Str.{bytes_eq}
 use Rattle.bstr.specs.BStr.{bstr_bytes}
 use Rattle.bstr.specs.declared.bstr.BStr.{BStr}
@@ -45,17 +44,18 @@ header_at name value = record { name = name; value = bstr_bytes value }
 abbrev pub LacksHeader : List ℕ → List Header → Type 0
 LacksHeader name headers = All (λ it. it.name ≢ name) headers
 
--- the first header of this name has this value, and stands behind these others and before this rest; or there is none, and all are others
-abbrev pub HasFirst : List ℕ → List Header → List Header → Option BStr → List Header → Type 0
-HasFirst name headers others value rest = LacksHeader name others × MatchOption value ((headers ≡ others) × (rest ≡ [])) (λ it. headers ≡ others ++ header_at name it ∷ rest)
+-- the first header of this name has this value, and stands behind these others and before this rest
+abbrev pub HasFirst : List ℕ → List Header → List Header → BStr → List Header → Type 0
+HasFirst name headers others value rest = LacksHeader name others × (headers ≡ others ++ header_at name value ∷ rest)
 
 -- the value of the first header of this name, or none where no header has it
 abbrev pub IsFirstValue : List ℕ → List Header → Option BStr → Type 0
-IsFirstValue name headers result = (others rest : List Header) × HasFirst name headers others result rest
+IsFirstValue name headers result = MatchOption result (LacksHeader name headers) (λ value. (others rest : List Header) × HasFirst name headers others value rest)
 
 -- the place from 0 of the first header of this name, or none where no header has it
 abbrev pub IsFirstPlace : List ℕ → List Header → Option ℕ → Type 0
-IsFirstPlace name headers result = (others rest : List Header) × (value : Option BStr) × HasFirst name headers others value rest × (result ≡ option_map (λ _. length others) value)
+IsFirstPlace name headers result = MatchOption result (LacksHeader name headers)
+    (λ place. (others rest : List Header) × (value : BStr) × HasFirst name headers others value rest × (place ≡ length others))
 
 -- the values of all headers of this name, in order
 abbrev pub values_named : List ℕ → List Header → List (List ℕ)
@@ -78,7 +78,8 @@ module _ {S : Type 0} (steps : S → Option (BStr × BStr) → S → Type 0) (na
 
   -- how many headers come before the first of this name, or none where none comes
   abbrev pub FindsPlace : S → Option ℕ → Type 0
-  FindsPlace from result = (others : List (BStr × BStr)) × (value : Option BStr) × (to : S) × PassesOthers from others value to × (result ≡ option_map (λ _. length others) value)
+  FindsPlace from result = (others : List (BStr × BStr)) × (to : S) × MatchOption result (PassesOthers from others None to)
+      (λ place. (value : BStr) × PassesOthers from others (Some value) to × (place ≡ length others))
 
 -- one call of a search for all values of a name: the next of them, or none where none comes
 abbrev pub GivesAll : {S : Type 0} → (S → Option (BStr × BStr) → S → Type 0) → FindAll S → Option BStr → FindAll S → Type 0
