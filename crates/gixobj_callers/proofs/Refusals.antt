@@ -62,8 +62,3 @@ pub tree_there : (kind : Kind) (text : List ℕ) (result : Result ObjectId Error
     → IfErr result (λ error. IsNoCommitText kind text)
 tree_there kind text (Ok id) found = tt
 tree_there kind text (Err error) found = λ commit is. let same = (found commit is).1 in cc same
-
--- what is so of each is so of all
-pub all_given : {T E X : Type 0} {Q : X → Type 0} (P : X → T → Type 0) (result : Result T E) → ((x : X) → Q x → IfOk result (P x)) → IfOk result (λ value. (x : X) → Q x → P x value)
-all_given P (Ok value) each = each
-all_given P (Err error) each = tt

@@ -6,9 +6,10 @@ ghost use Rattle.gixobj_codec.specs.CommitViews.{commit_lines, owned_lines};
 ghost use Rattle.gixobj_codec.specs.ExtraHeaders.{IsFirstPlace, IsFirstValue, values_named};
 
 use bstr::BStr;
+use gixobj_base::OutOfMemory;
 use gixobj_codec::laws::{borrowed_headers_are_found, owned_headers_are_found};
 use gixobj_codec::{Commit, CommitRef};
-use std::alloc::{AllocError, Global};
+use std::alloc::Global;
 
 /// The value of the first header of this name.
 pub fn value_of<'a>(commit: &'a CommitRef<'_>, name: &str) -> Option<BStr<'a>>
@@ -32,10 +33,11 @@ pub fn values_of<'a>(
     alloc: Global,
     commit: &'a CommitRef<'_>,
     name: &'a str,
-) -> Result<Vec<BStr<'a>>, AllocError>
+) -> Result<Vec<BStr<'a>>, OutOfMemory>
     requires { IsHexOfAnId (commit_lines commit.now).tree }
     ensures { IfOk result (λ it. map bstr_bytes it.items ≡ values_named name.now (commit_lines commit.now).extra_headers) }
 {
     borrowed_headers_are_found();
-    commit.extra_headers().find_all(name).collect(alloc)
+    let values = commit.extra_headers().find_all(name).collect(alloc)?;
+    Ok(values)
 }

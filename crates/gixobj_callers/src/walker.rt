@@ -3,15 +3,16 @@ ghost use Rattle.std.specs.Prelude.{◌≡◌, IfErr, IfOk, IsTrue};
 ghost use Rattle.std.specs.List.{AllZip};
 ghost use Rattle.bstr.specs.BStr.{bstr_bytes};
 ghost use Rattle.gixobj_base.specs.Hash.{Spells};
-ghost use Rattle.gixobj_base.specs.ids.decode.Error.TheVariants.{OutOfMemory};
+ghost use Rattle.gixobj_base.specs.ids.decode.Error.TheVariants as decode;
 ghost use Rattle.gixobj_codec.specs.Commit.{CommitLines, IsCommitText, IsNoCommitText};
 
 use bstr::BStr;
+use gixobj_base::OutOfMemory;
 use gixobj_base::decode::Error;
 use gixobj_base::hash::{Kind, ObjectId};
 use gixobj_codec::CommitRefIter;
 use gixobj_codec::laws::readers::{ids_are_found, message_is_found};
-use std::alloc::{AllocError, Global};
+use std::alloc::Global;
 
 /// The tree of a commit. It is refused only where the text is no commit's.
 pub fn tree_of(alloc: Global, text: &[u8], kind: Kind) -> Result<ObjectId, Error>
@@ -23,19 +24,20 @@ pub fn tree_of(alloc: Global, text: &[u8], kind: Kind) -> Result<ObjectId, Error
 }
 
 /// The parents of a commit, in order.
-pub fn parents_of(alloc: Global, text: &[u8], kind: Kind) -> Result<Vec<ObjectId>, AllocError>
+pub fn parents_of(alloc: Global, text: &[u8], kind: Kind) -> Result<Vec<ObjectId>, OutOfMemory>
     ensures { IfOk result (λ ids. (commit : CommitLines) → IsCommitText kind text.now commit → AllZip Spells commit.parents ids.items) }
 {
     ids_are_found();
-    CommitRefIter::from_bytes(alloc, text, kind)
+    let ids = CommitRefIter::from_bytes(alloc, text, kind)
         .parent_ids()
-        .collect(alloc)
+        .collect(alloc)?;
+    Ok(ids)
 }
 
 /// The message of a commit. Of a commit's text it is refused only for want of memory.
 pub fn message_of<'a>(alloc: Global, text: &'a [u8], kind: Kind) -> Result<BStr<'a>, Error>
     ensures message { IfOk result (λ message. (commit : CommitLines) → IsCommitText kind text.now commit → bstr_bytes message ≡ commit.message) }
-    ensures refusal { IfErr result (λ error. (commit : CommitLines) → IsCommitText kind text.now commit → error ≡ OutOfMemory) }
+    ensures refusal { IfErr result (λ error. (commit : CommitLines) → IsCommitText kind text.now commit → error ≡ decode.OutOfMemory) }
 {
     message_is_found();
     CommitRefIter::from_bytes(alloc, text, kind).message()

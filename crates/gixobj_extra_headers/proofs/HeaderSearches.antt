@@ -1,5 +1,5 @@
 -- Headers found by their names, among those that an iterator gives.
-use Rattle.std.proofs.Common.{◌≡◌, ◌≢◌, ℕ, List, [], ◌∷◌, ◌++◌, map, Option, Some, length, refl, sym, subst}
+use Rattle.std.proofs.Common.{◌≡◌, ◌≢◌, ℕ, List, [], ◌∷◌, ◌++◌, map, Option, Some, length, sym, subst}
 use Rattle.std.proofs.lemmas.List.Elements.{All-nil, All-push}
 use Rattle.std.proofs.lemmas.List.{map-append}
 use Rattle.std.specs.Iterator.{Yields}
@@ -19,4 +19,4 @@ module _ {S : Type 0} (steps : S → Option (BStr × BStr) → S → Type 0) (na
   pub place_given : (start from at to : S) (others : List (BStr × BStr)) (key value : BStr) (place : ℕ) → place ≡ length others → LacksHeader name (map pair_of others) → from ≡ start
       → Yields steps from others at → steps at (Some (key, value)) to → bstr_bytes key ≡ name → FindsPlace steps name start (Some place)
   place_given start from at to others key value place counted lacks same yielded step named =
-      (others, Some value, to, (lacks, (key, named, (at, subst (λ it. Yields steps it others at) same yielded, step))), (refl, counted))
+      (others, to, (value, (lacks, (key, named, (at, subst (λ it. Yields steps it others at) same yielded, step))), counted))

@@ -1,5 +1,5 @@
 -- Headers of commits, found by their names.
-use Rattle.std.specs.Prelude.{◌≡◌, ◌≢◌, ℕ, List, ◌∷◌, ◌++◌, All, Option, None, Some, IsSome, IsNone, MatchOption, codes, length, map}
+use Rattle.std.specs.Prelude.{◌≡◌, ◌≢◌, ℕ, List, ◌∷◌, ◌++◌, All, Option, None, Some, MatchOption, codes, length, map}
 use Rattle.std.specs.Iterator.{YieldsThen}
 use Rattle.std.specs.List.{filter}
 use Rattle.std.specs.Str.{bytes_eq}
@@ -44,27 +44,29 @@ header_at name value = record { name = name; value = bstr_bytes value }
 abbrev pub LacksHeader : List ℕ → List Header → Type 0
 LacksHeader name headers = All (λ it. it.name ≢ name) headers
 
+-- the first header of this name has this value, and stands behind these others and before this rest
+abbrev pub HasFirst : List ℕ → List Header → List Header → BStr → List Header → Type 0
+HasFirst name headers others value rest = LacksHeader name others × (headers ≡ others ++ header_at name value ∷ rest)
+
 -- the value of the first header of this name, or none where no header has it
 abbrev pub IsFirstValue : List ℕ → List Header → Option BStr → Type 0
-IsFirstValue name headers result = MatchOption result (LacksHeader name headers)
-    (λ value. (before after : List Header) × (headers ≡ before ++ header_at name value ∷ after) × LacksHeader name before)
+IsFirstValue name headers result = MatchOption result (LacksHeader name headers) (λ value. (others rest : List Header) × HasFirst name headers others value rest)
 
 -- the place from 0 of the first header of this name, or none where no header has it
 abbrev pub IsFirstPlace : List ℕ → List Header → Option ℕ → Type 0
 IsFirstPlace name headers result = MatchOption result (LacksHeader name headers)
-    (λ place. (before after : List Header) × (value : List ℕ) × (headers ≡ before ++ record { name = name; value = value } ∷ after) × LacksHeader name before
-    × (place ≡ length before))
+    (λ place. (others rest : List Header) × (value : BStr) × HasFirst name headers others value rest × (place ≡ length others))
 
 -- the values of all headers of this name, in order
 abbrev pub values_named : List ℕ → List Header → List (List ℕ)
 values_named name headers = map (λ it. it.value) (filter (λ it. bytes_eq it.name name) headers)
 
 module _ {S : Type 0} (steps : S → Option (BStr × BStr) → S → Type 0) (name : List ℕ) where
-  -- calls from one state to another gave headers of other names, and then a value of this name, or nothing more
+  -- calls from one state to another gave these headers of other names, and then a value of this name, or nothing more
   abbrev pub PassesOthers : S → List (BStr × BStr) → Option BStr → S → Type 0
-  PassesOthers from others result to = LacksHeader name (map pair_of others)
-      × MatchOption result (YieldsThen steps from others None to)
-      (λ value. (key : BStr) × (bstr_bytes key ≡ name) × YieldsThen steps from others (Some (key, value)) to)
+  PassesOthers from others value to = LacksHeader name (map pair_of others)
+      × MatchOption value (YieldsThen steps from others None to)
+      (λ it. (key : BStr) × (bstr_bytes key ≡ name) × YieldsThen steps from others (Some (key, it)) to)
 
   -- the next value of this name, or none where none comes
   abbrev pub GivesValue : S → Option BStr → S → Type 0
@@ -76,8 +78,8 @@ module _ {S : Type 0} (steps : S → Option (BStr × BStr) → S → Type 0) (na
 
   -- how many headers come before the first of this name, or none where none comes
   abbrev pub FindsPlace : S → Option ℕ → Type 0
-  FindsPlace from result = (others : List (BStr × BStr)) × (value : Option BStr) × (to : S) × PassesOthers from others value to
-      × MatchOption result (IsNone value) (λ place. IsSome value × (place ≡ length others))
+  FindsPlace from result = (others : List (BStr × BStr)) × (to : S) × MatchOption result (PassesOthers from others None to)
+      (λ place. (value : BStr) × PassesOthers from others (Some value) to × (place ≡ length others))
 
 -- one call of a search for all values of a name: the next of them, or none where none comes
 abbrev pub GivesAll : {S : Type 0} → (S → Option (BStr × BStr) → S → Type 0) → FindAll S → Option BStr → FindAll S → Type 0

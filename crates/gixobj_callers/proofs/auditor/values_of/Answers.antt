@@ -1,6 +1,6 @@
-use Rattle.std.proofs.Common.{◌≡◌, ap, ◌∙◌}
+use Rattle.std.proofs.Common.{◌≡◌, Ok, ap, ◌∙◌}
 use Rattle.std.proofs.lemmas.Iterator.Consumers.{map_from_collect}
-use Rattle.std.proofs.lemmas.Result.{IfOk-weaker}
+use Rattle.std.specs.declared.alloc.AllocError.{AllocError}
 use Rattle.gixobj_codec.specs.CommitViews.{commit_lines}
 use Rattle.gixobj_codec.specs.ExtraHeaders.{searched, sought, values_named}
 use Rattle.gixobj_codec.specs.HeadersLeft.{headers_left}
@@ -11,4 +11,4 @@ returns c =
     let found = c.find_all.result in
     let same : values_named (sought found) (headers_left (searched found)) ≡ values_named c.args.name.now (commit_lines c.args.commit.now).extra_headers =
     ap (λ name. values_named name (headers_left (searched found))) c.find_all.ensures.name ∙ ap (values_named c.args.name.now) (ap headers_left c.find_all.ensures.headers ∙ c.extra_headers.ensures.headers) in
-    IfOk-weaker c.collect.result _ _ (λ it is. is ∙ same) (map_from_collect c.collect.result c.collect.ensures.ran (c.borrowed_headers_are_found.ensures.values found))
+    map_from_collect {E = AllocError} (Ok c.in_ok-values.values) c.in_ok-values.ensures.ran (c.borrowed_headers_are_found.ensures.values found) ∙ same
