@@ -1,5 +1,5 @@
 -- What is found among the headers of a list, which an iterator gives in order.
-use Rattle.std.proofs.Common.{◌≡◌, ◌≢◌, ℕ, Bool, List, [], ◌∷◌, ◌++◌, map, Option, None, Some, length, true, false, cond, refl, sym, ap, subst, ◌∙◌}
+use Rattle.std.proofs.Common.{◌≡◌, ◌≢◌, ℕ, Bool, List, [], ◌∷◌, ◌++◌, map, Option, None, Some, append_assoc, arith, length, length-append, true, false, cond, refl, sym, ap, subst, ◌∙◌}
 use Rattle.std.proofs.lemmas.Iterator.{YieldsList}
 use Rattle.std.proofs.lemmas.Iterator.Consumers.{YieldsList-from_shown}
 use Rattle.std.proofs.lemmas.List.{append-nil, length-map}
@@ -11,7 +11,7 @@ use Rattle.std.specs.Str.{bytes_eq}
 use Rattle.bstr.specs.BStr.{bstr_bytes}
 use Rattle.bstr.specs.declared.bstr.BStr.{BStr}
 use Rattle.gixobj_fields.specs.HeaderText.{Header}
-use Rattle.gixobj_extra_headers.specs.ExtraHeaders.{FindsPlace, FindsValue, GivesAll, HasFirst, IsFirstPlace, IsFirstValue, LacksHeader, PassesOthers, header_at, pair_of, searched, sought, values_named}
+use Rattle.gixobj_extra_headers.specs.ExtraHeaders.{FindsPlace, FindsValue, Gave, GivesAll, HasFirst, IsFirstPlace, IsFirstValue, LacksHeader, header_at, pair_of, searched, sought, values_named}
 use Rattle.gixobj_extra_headers.specs.declared.extra_headers.FindAll.{FindAll}
 
 -- ---- values in a list of headers
@@ -40,23 +40,23 @@ module _ {S : Type 0} (rest : S → List Header) where
   came s t [] yielded = ap rest yielded
   came s t (pair ∷ pairs) (next, step, yielded) = step ∙ ap (λ it. pair_of pair ∷ it) (came next t pairs yielded)
 
-  all_came : (name : List ℕ) (s t : S) (others : List (BStr × BStr)) → PassesOthers (YieldsFirstBy pair_of rest) name s others None t → rest s ≡ map pair_of others
-  all_came name s t others (lacks, (last, yielded, step)) =
-      came s last others yielded ∙ ap (λ it. map pair_of others ++ it) step.0 ∙ append-nil (map pair_of others)
+  all_came : (name : List ℕ) (s t : S) (given : List (BStr × BStr)) → Gave (YieldsFirstBy pair_of rest) name s given None t → rest s ≡ map pair_of given
+  all_came name s t given ((last, yielded, step), lacks) =
+      came s last given yielded ∙ ap (λ it. map pair_of given ++ it) step.0 ∙ append-nil (map pair_of given)
 
-  first : (name : List ℕ) (s t : S) (others : List (BStr × BStr)) (value : BStr) → PassesOthers (YieldsFirstBy pair_of rest) name s others (Some value) t
-      → HasFirst name (rest s) (map pair_of others) value (rest t)
-  first name s t others value (lacks, (key, named, (last, yielded, step))) =
-      (lacks, came s last others yielded ∙ ap (λ it. map pair_of others ++ it) (step ∙ ap (λ it. header_at it value ∷ rest t) named))
+  first : (name : List ℕ) (s t : S) (given : List (BStr × BStr)) (value : BStr) → (gave : Gave (YieldsFirstBy pair_of rest) name s given (Some value) t) → HasFirst name (rest s) gave.1 value (rest t)
+  first name s t given value (yielded, others, (lacks, last)) =
+      (lacks, came s t given yielded ∙ ap (λ (it : List Header). it ++ rest t) last ∙ append_assoc others (header_at name value ∷ []) (rest t))
 
   pub first_value : (name : List ℕ) (s : S) (result : Option BStr) → FindsValue (YieldsFirstBy pair_of rest) name s result → IsFirstValue name (rest s) result
-  first_value name s None (to, (others, passes)) = subst (LacksHeader name) (sym (all_came name s to others passes)) passes.0
-  first_value name s (Some value) (to, (others, passes)) = (map pair_of others, rest to, first name s to others value passes)
+  first_value name s None (to, (given, gave)) = subst (LacksHeader name) (sym (all_came name s to given gave)) gave.1
+  first_value name s (Some value) (to, (given, gave)) = (gave.1, rest to, first name s to given value gave)
 
   pub first_place : (name : List ℕ) (s : S) (result : Option ℕ) → FindsPlace (YieldsFirstBy pair_of rest) name s result → IsFirstPlace name (rest s) result
-  first_place name s None (others, to, passes) = first_value name s None (to, (others, passes))
-  first_place name s (Some place) (others, to, (value, passes, counted)) =
-      (map pair_of others, rest to, value, first name s to others value passes, counted ∙ sym (length-map others pair_of))
+  first_place name s None (given, to, gave) = first_value name s None (to, (given, gave))
+  first_place name s (Some place) (given, to, (value, gave, counted)) =
+      let last = gave.2.1 in
+      (gave.1, rest to, value, first name s to given value gave, omega (arith, counted, length-map given pair_of, ap length last, length-append gave.1 (header_at name value ∷ [])))
 
   -- ---- all values
 
@@ -64,15 +64,15 @@ module _ {S : Type 0} (rest : S → List Header) where
   still_to_come s = values_named (sought s) (rest (searched s))
 
   none_to_come : (s t : FindAll S) → GivesAll (YieldsFirstBy pair_of rest) s None t → length (still_to_come s) ≡ 0
-  none_to_come s t (same, (others, passes)) =
-      let all = all_came s.name.now s.inner t.inner others passes ∙ sym (append-nil (map pair_of others)) in
-      ap (λ it. length (values_named s.name.now it)) all ∙ ap length (passed s.name.now (map pair_of others) [] passes.0)
+  none_to_come s t (same, (given, gave)) =
+      let all = all_came s.name.now s.inner t.inner given gave ∙ sym (append-nil (map pair_of given)) in
+      ap (λ it. length (values_named s.name.now it)) all ∙ ap length (passed s.name.now (map pair_of given) [] gave.1)
 
   one_came : (s : FindAll S) (value : BStr) (t : FindAll S) → GivesAll (YieldsFirstBy pair_of rest) s (Some value) t → still_to_come s ≡ bstr_bytes value ∷ still_to_come t
-  one_came s value t (same, (others, passes)) =
+  one_came s value t (same, (given, gave)) =
       let name = s.name.now in
-      let (lacks, all) = first name s.inner t.inner others value passes in
-      ap (values_named name) all ∙ passed name (map pair_of others) (header_at name value ∷ rest t.inner) lacks ∙ taken name value (rest t.inner)
+      let (lacks, all) = first name s.inner t.inner given value gave in
+      ap (values_named name) all ∙ passed name gave.1 (header_at name value ∷ rest t.inner) lacks ∙ taken name value (rest t.inner)
       ∙ ap (λ it. bstr_bytes value ∷ values_named it (rest t.inner)) (sym same)
 
   pub all_values : (s : FindAll S) → YieldsList (GivesAll (YieldsFirstBy pair_of rest)) bstr_bytes s (values_named (sought s) (rest (searched s)))

@@ -1,6 +1,6 @@
 -- Headers of commits, found by their names.
-use Rattle.std.specs.Prelude.{◌≡◌, ◌≢◌, ℕ, List, ◌∷◌, ◌++◌, All, Option, None, Some, MatchOption, codes, length, map}
-use Rattle.std.specs.Iterator.{YieldsThen}
+use Rattle.std.specs.Prelude.{◌≡◌, ◌≢◌, ℕ, suc, List, [], ◌∷◌, ◌++◌, All, Option, None, Some, MatchOption, codes, length, map}
+use Rattle.std.specs.Iterator.{Yields, YieldsThen}
 use Rattle.std.specs.List.{filter}
 use Rattle.std.specs.Str.{bytes_eq}
 use Rattle.bstr.specs.BStr.{bstr_bytes}
@@ -62,15 +62,14 @@ abbrev pub values_named : List ℕ → List Header → List (List ℕ)
 values_named name headers = map (λ it. it.value) (filter (λ it. bytes_eq it.name name) headers)
 
 module _ {S : Type 0} (steps : S → Option (BStr × BStr) → S → Type 0) (name : List ℕ) where
-  -- calls from one state to another gave these headers of other names, and then a value of this name, or nothing more
-  abbrev pub PassesOthers : S → List (BStr × BStr) → Option BStr → S → Type 0
-  PassesOthers from others value to = LacksHeader name (map pair_of others)
-      × MatchOption value (YieldsThen steps from others None to)
-      (λ it. (key : BStr) × (bstr_bytes key ≡ name) × YieldsThen steps from others (Some (key, it)) to)
+  -- calls from one state to another gave these headers, and no more: the last is the first of this name, or they are all and none has it
+  abbrev pub Gave : S → List (BStr × BStr) → Option BStr → S → Type 0
+  Gave from given None to = YieldsThen steps from given None to × LacksHeader name (map pair_of given)
+  Gave from given (Some value) to = Yields steps from given to × (others : List Header) × HasFirst name (map pair_of given) others value []
 
   -- the next value of this name, or none where none comes
   abbrev pub GivesValue : S → Option BStr → S → Type 0
-  GivesValue from result to = (others : List (BStr × BStr)) × PassesOthers from others result to
+  GivesValue from result to = (given : List (BStr × BStr)) × Gave from given result to
 
   -- the value of the first header of this name that comes, or none where none comes
   abbrev pub FindsValue : S → Option BStr → Type 0
@@ -78,8 +77,8 @@ module _ {S : Type 0} (steps : S → Option (BStr × BStr) → S → Type 0) (na
 
   -- how many headers come before the first of this name, or none where none comes
   abbrev pub FindsPlace : S → Option ℕ → Type 0
-  FindsPlace from result = (others : List (BStr × BStr)) × (to : S) × MatchOption result (PassesOthers from others None to)
-      (λ place. (value : BStr) × PassesOthers from others (Some value) to × (place ≡ length others))
+  FindsPlace from result = (given : List (BStr × BStr)) × (to : S) × MatchOption result (Gave from given None to)
+      (λ place. (value : BStr) × Gave from given (Some value) to × (length given ≡ suc place))
 
 -- one call of a search for all values of a name: the next of them, or none where none comes
 abbrev pub GivesAll : {S : Type 0} → (S → Option (BStr × BStr) → S → Type 0) → FindAll S → Option BStr → FindAll S → Type 0
