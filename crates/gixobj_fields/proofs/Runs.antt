@@ -4,32 +4,13 @@ use Rattle.std.proofs.lemmas.List.Elements.{All-head, All-tail}
 use Rattle.std.specs.List.{AllZip, concat}
 use Rattle.gixobj_fields.specs.Runs.{Ending, FindsFirst, HasNone, LacksAll, Passes, Tells, complete, tells_end, tells_error, tells_piece}
 
--- ---- the first piece of a sort
+-- ---- a piece of a sort
 
 module _ {P : Type 0} (Is : P → Type 0) where
-  -- the first such of one list is that of the other
-  pub first_same : (front back : List P) (x y : P) (more others : List P) → HasNone Is front → HasNone Is back → Is x → Is y → front ++ x ∷ more ≡ back ++ y ∷ others → x ≡ y
-  first_same [] [] x y more others none none' is is' same = cc
-  first_same [] (b ∷ back) x y more others none none' is is' same =
-      let heads : x ≡ b = cc in absurd (All-head (λ it. ¬ Is it) b back none' (subst Is heads is))
-  first_same (a ∷ front) [] x y more others none none' is is' same =
-      let heads : a ≡ y = cc in absurd (All-head (λ it. ¬ Is it) a front none (subst Is (sym heads) is'))
-  first_same (a ∷ front) (b ∷ back) x y more others none none' is is' same =
-      let tails : front ++ x ∷ more ≡ back ++ y ∷ others = cc in
-      first_same front back x y more others (All-tail (λ it. ¬ Is it) a front none) (All-tail (λ it. ¬ Is it) b back none') is is' tails
-
   -- a list with such a piece is not without one
   pub one_here : (front : List P) (x : P) (more : List P) → Is x → HasNone Is (front ++ x ∷ more) → ⊥
   one_here [] x more is none = All-head (λ it. ¬ Is it) x more none is
   one_here (a ∷ front) x more is none = one_here front x more is (All-tail (λ it. ¬ Is it) a (front ++ x ∷ more) none)
-
-  -- the piece is the first such of the list
-  pub record Stands (all : List P) (piece : P) : Type 0 where
-    pub front : List P
-    pub more : List P
-    pub joined : all ≡ front ++ piece ∷ more
-    pub none : HasNone Is front
-    pub is : Is piece
 
 module _ {S P : Type 0} (Has : S → List ℕ → P → S → List ℕ → Type 0) where
   -- ---- passing
@@ -102,16 +83,3 @@ module _ {S P : Type 0} (Has : S → List ℕ → P → S → List ℕ → Type 
         let first = behind_first before next input after piece all ending has tells in
         let further = behind_passed next behind after rest front first.others ending more first.told in
         record { others = further.others; joined = first.joined ∙ ap (λ (it : List P). piece ∷ it) further.joined; told = further.told }
-
-    -- what is found first is the first such piece of the run
-    pub finds_it : (Is : P → Type 0) (start : S) (input : List ℕ) (piece : P) (all : List P) (y : P) → FindsFirst Has Is start input piece → Is piece → Tells Has start input all complete → Stands Is all y → piece ≡ y
-    finds_it Is start input piece all y (before, behind, here, rest, (passed, passes, none), has) is told stands =
-        let at = behind_passed start before input here passed all complete passes told in
-        let first = behind_first before behind here rest piece at.others complete has at.told in
-        first_same Is passed stands.front piece y first.others stands.more none stands.none is stands.is (ap (λ (it : List P). passed ++ it) (sym first.joined) ∙ sym at.joined ∙ stands.joined)
-
-    -- a run with such a piece does not lack it
-    pub lacks_none : (Is : P → Type 0) (start : S) (input : List ℕ) (ending : Ending) (all : List P) (y : P) → LacksAll Has Is start input ending → Tells Has start input all complete → Stands Is all y → ⊥
-    lacks_none Is start input ending all y (pieces, run, none) told stands =
-        let same = (one_run start input pieces all ending complete run told).0 in
-        one_here Is stands.front y stands.more stands.is (subst (HasNone Is) (same ∙ stands.joined) none)

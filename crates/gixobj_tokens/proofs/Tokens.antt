@@ -12,7 +12,7 @@ use Rattle.gixobj_ids.specs.Hash.Hex.{spelled_id}
 use Rattle.gixobj_ids.specs.declared.hash.kind.Kind.{Kind}
 use Rattle.gixobj_lines.proofs.OneLine.{no_line_of_nothing, one_line}
 use Rattle.gixobj_lines.proofs.WholeCommits.{of_an_id}
-use Rattle.gixobj_lines.specs.Lines.{HasHex, HasLine, LineView, author_comes, committer_comes, encoding_comes, first_header_comes, first_message_comes, header_comes, message_comes, parent_comes, tree_comes}
+use Rattle.gixobj_lines.specs.Lines.{HasLine, LineView, author_comes, committer_comes, encoding_comes, first_header_comes, first_message_comes, header_comes, message_comes, parent_comes, tree_comes}
 use Rattle.gixobj_lines.specs.declared.lines.State.{State}
 use Rattle.gixobj_tokens.specs.CommitRuns.{Tells}
 use Rattle.gixobj_tokens.specs.CommitTokens.{HasToken, IsTokenText, TellsLine, TokenView, author_token, committer_token, encoding_token, header_token, message_token, parent_token, tells_author, tells_committer, tells_encoding, tells_header, tells_message, tells_parent, tells_tree, tree_token}
@@ -64,17 +64,6 @@ text_of_token kind before input token behind rest (line, has, tells) =
     let alone = text_of_line kind before input line behind rest has in (alone.0, alone.1, (before, behind, (line, alone.2, tells)))
 
 -- ---- lines are told as tokens
-
-pub hex_of_line : (kind : Kind) (before : State) (input : List ℕ) (line : LineView) (behind : State) (rest : List ℕ) → HasLine kind before input line behind rest → HasHex line
-hex_of_line kind before input line behind rest (tree_comes _ hex _ has) = of_an_id kind hex has.1
-hex_of_line kind before input line behind rest (parent_comes _ hex _ has) = of_an_id kind hex has.1
-hex_of_line kind before input line behind rest (author_comes _ actor _ has) = tt
-hex_of_line kind before input line behind rest (committer_comes _ actor _ has) = tt
-hex_of_line kind before input line behind rest (encoding_comes _ encoding _ has) = tt
-hex_of_line kind before input line behind rest (first_header_comes _ header _ has other) = tt
-hex_of_line kind before input line behind rest (header_comes _ header _ has) = tt
-hex_of_line kind before input line behind rest (first_message_comes _ message is) = tt
-hex_of_line kind before input line behind rest (message_comes _ message is) = tt
 
 token_of_line : (kind : Kind) (before : State) (input : List ℕ) (line : LineView) (behind : State) (rest : List ℕ) → HasLine kind before input line behind rest → (token : TokenView) × TellsLine line token
 token_of_line kind before input line behind rest (tree_comes _ hex _ has) = (tree_token (spelled_id hex), tells_tree hex (spelled_id hex) (spelled hex (of_an_id kind hex has.1)))

@@ -4,12 +4,10 @@ use Rattle.bstr.specs.BStr.{bstr_bytes}
 use Rattle.gixobj_actors.specs.Actor.{IsActor}
 use Rattle.gixobj_fields.specs.HeaderReading.{header_of}
 use Rattle.gixobj_fields.specs.HeaderText.{Header}
-use Rattle.gixobj_fields.specs.Runs.{Refuses}
 use Rattle.gixobj_ids.specs.Hash.{Spells}
-use Rattle.gixobj_ids.specs.declared.decode.Error.{Error}
 use Rattle.gixobj_ids.specs.declared.hash.kind.Kind.{Kind}
 use Rattle.gixobj_ids.specs.declared.hash.object_id.ObjectId.{ObjectId}
-use Rattle.gixobj_lines.specs.Lines.{HasLine, LineView, WantsMemory, author_line, committer_line, encoding_line, header_line, message_line, parent_line, tree_line}
+use Rattle.gixobj_lines.specs.Lines.{HasLine, LineView, author_line, committer_line, encoding_line, header_line, message_line, parent_line, tree_line}
 use Rattle.gixobj_lines.specs.declared.lines.State.{State}
 use Rattle.gixobj_tokens.specs.declared.ref_iter.Token.{Token}
 use Rattle.gixobj_tokens.specs.declared.ref_iter.Token.TheVariants as token
@@ -50,7 +48,3 @@ HasToken kind before input token behind rest = (line : LineView) × HasLine kind
 -- the text is the token: it begins with it, and ends behind it
 abbrev pub IsTokenText : Kind → TokenView → List ℕ → Type 0
 IsTokenText kind token text = (before : State) × (behind : State) × HasToken kind before text token behind []
-
--- why no token is read
-abbrev pub RefusesToken : Kind → State → List ℕ → Error → Type 0
-RefusesToken kind = Refuses (HasToken kind) WantsMemory
