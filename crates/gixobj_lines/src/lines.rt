@@ -53,7 +53,11 @@ pub enum Line<'a> {
     Message(BStr<'a>),
 }
 
-/// The line at the front of the input, the state behind it, and what follows it.
+/// The line at the front of the input where a reader stands in this state, the state behind it, and
+/// what follows it.
+///
+/// `Malformed` where the input begins with no line that may come here. A header of several lines takes
+/// memory, and `OutOfMemory` comes for no other line.
 pub fn read_line(
     alloc: Global,
     before: State,
@@ -74,6 +78,7 @@ pub fn read_line(
     }
 }
 
+/// The tree, at the front of the input.
 #[tactic(auto, using(crate::specs::Lines::tree_comes))]
 fn read_tree(kind: Kind, input: &[u8]) -> Result<(Line<'_>, State, &[u8]), Error>
     ensures found { IfOk result (λ it. HasLine kind state.Tree input.now (line_view it.0) it.1 it.2.now) }
@@ -86,6 +91,7 @@ fn read_tree(kind: Kind, input: &[u8]) -> Result<(Line<'_>, State, &[u8]), Error
     Ok((Line::Tree(hex), State::Parents, rest))
 }
 
+/// A parent or, where none comes, the author.
 #[tactic(auto, using(crate::specs::Lines::parent_comes, crate::specs::Lines::author_comes))]
 fn read_parent_or_author(kind: Kind, input: &[u8]) -> Result<(Line<'_>, State, &[u8]), Error>
     ensures found { IfOk result (λ it. HasLine kind state.Parents input.now (line_view it.0) it.1 it.2.now) }
@@ -101,6 +107,7 @@ fn read_parent_or_author(kind: Kind, input: &[u8]) -> Result<(Line<'_>, State, &
     Ok((Line::Author(line, actor), State::Committer, rest))
 }
 
+/// The committer.
 #[tactic(auto, using(crate::specs::Lines::committer_comes))]
 fn read_committer(input: &[u8]) -> Result<(Line<'_>, State, &[u8]), Error>
     ensures found { (kind : Kind) → IfOk result (λ it. HasLine kind state.Committer input.now (line_view it.0) it.1 it.2.now) }
@@ -113,6 +120,7 @@ fn read_committer(input: &[u8]) -> Result<(Line<'_>, State, &[u8]), Error>
     Ok((Line::Committer(line, actor), State::Encoding, rest))
 }
 
+/// The encoding or, where its name doesn't come, a header or the message.
 #[tactic(auto, using(crate::specs::Lines::encoding_comes))]
 fn read_encoding_or_header(alloc: Global, input: &[u8]) -> Result<(Line<'_>, State, &[u8]), Error>
     ensures found { (kind : Kind) → IfOk result (λ it. HasLine kind state.Encoding input.now (line_view it.0) it.1 it.2.now) }
@@ -132,6 +140,7 @@ fn read_encoding_or_header(alloc: Global, input: &[u8]) -> Result<(Line<'_>, Sta
     ))
 }
 
+/// A header or, behind an empty line, the message.
 #[tactic(auto, using(crate::specs::Lines::header_comes, crate::specs::Lines::message_comes, crate::proofs::LineRefusals::refuses_header))]
 fn read_header_or_message(alloc: Global, input: &[u8]) -> Result<(Line<'_>, State, &[u8]), Error>
     ensures found { (kind : Kind) → IfOk result (λ it. HasLine kind state.ExtraHeaders input.now (line_view it.0) it.1 it.2.now) }
