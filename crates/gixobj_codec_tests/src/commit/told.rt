@@ -2,6 +2,8 @@
 
 use super::writers::SHA256_LINES;
 use super::{FRONT, commit_of, commit_with};
+use bstr::BStr;
+use gixobj_base::actor::SignatureRef;
 use gixobj_base::decode;
 use gixobj_base::hash::{Kind, ObjectId};
 use gixobj_codec::CommitRefIter;
@@ -20,6 +22,15 @@ fn plain_commit_told(rt: HostRuntime) -> Result<(), Fail> {
     Ok(())
 }
 
+/// The actor of these parts.
+fn actor_of<'a>(name: &'a [u8], email: &'a [u8], time: &'a [u8]) -> SignatureRef<'a> {
+    SignatureRef {
+        name: BStr::new(name),
+        email: BStr::new(email),
+        time: BStr::new(time),
+    }
+}
+
 #[test]
 fn author_and_committer_told(rt: HostRuntime) -> Result<(), Fail> {
     let alloc = rt.alloc();
@@ -28,8 +39,8 @@ fn author_and_committer_told(rt: HostRuntime) -> Result<(), Fail> {
     assert!(rt; tokens.author()?.name.as_bytes() == b" B\t".as_slice());
     assert!(rt; tokens.committer()?.name.as_bytes() == b"A".as_slice());
     let mut actors = tokens.signatures();
-    assert!(rt; actors.next() == Some(tokens.author()?));
-    assert!(rt; actors.next() == Some(tokens.committer()?));
+    assert!(rt; actors.next() == Some(actor_of(b" B\t", b"b@b", b"7 +0000")));
+    assert!(rt; actors.next() == Some(actor_of(b"A", b"a@b", b"0 +0000")));
     assert!(rt; actors.next().is_none());
     Ok(())
 }
