@@ -1,5 +1,5 @@
 -- The steps of the walk over lines: no line starts within a line.
-use Rattle.std.proofs.Common.{◌≡◌, ◌≢◌, ◌≤◌, ◌<◌, ◌+◌, ◌-◌, ℕ, List, [], ◌∷◌, ◌++◌, append_assoc, ap, arith, drop, inl, inr, length, length-append, length-drop, refl, subst, sym, take, ◌∙◌}
+use Rattle.std.proofs.Common.{◌≡◌, ◌≢◌, ◌≤◌, ◌<◌, ◌+◌, ◌-◌, ℕ, List, [], ◌∷◌, ◌++◌, append_assoc, ap, arith, drop, inl, inr, length, length-append, length-drop, subst, sym, take, ◌∙◌}
 use Rattle.std.proofs.Math.Seq.{drop-append_seam}
 use Rattle.std.proofs.lemmas.List.{append-nil, take_rest}
 use Rattle.std.proofs.lemmas.List.Elements.{All-head, All-tail}
@@ -39,9 +39,6 @@ behind_line bytes start at_line =
 
 length-text_from : (bytes : List ℕ) (start : ℕ) → length (text_from bytes start) ≡ length bytes - start
 length-text_from bytes start = ap length (take_rest bytes start) ∙ length-drop start bytes
-
-pub first_line : (bytes : List ℕ) → IsAtLine bytes 0
-first_line bytes = record { front = []; rest = bytes; joined = refl; as_long = refl; starts = inl refl }
 
 pub line_within : (bytes : List ℕ) (start : ℕ) → IsAtLine bytes start → start ≤ length bytes
 line_within bytes start at_line = omega (arith, at_line.as_long, ap length at_line.joined, length-append at_line.front at_line.rest)
@@ -84,9 +81,6 @@ no_later_marker bytes start at_line free place format marks =
 
 le_from_not_lt : (a b : ℕ) → (a < b → ⊥) → b ≤ a
 le_from_not_lt a b no_less = grind (arith, no_less)
-
-pub none_before_first : (bytes : List ℕ) → IsLastBefore bytes 0 None
-none_before_first bytes = λ place format marks. omega arith
 
 -- what was found stays found where no marker stands between
 found_further : (bytes : List ℕ) (end further : ℕ) (found : Option (ℕ × Format)) → end ≤ further → ((place : ℕ) (format : Format) → MarksPlace bytes place format → place < further → place < end)

@@ -7,14 +7,14 @@ ghost use Rattle.gixobj_signing.specs.Markers.{HasNoMarker, IsMarkerPlace};
 use bstr::BStr;
 use gixobj_texts::parse::split_at_byte;
 
-/// How a signature was made.
+/// How a signature was made (gitformat-signature, "DESCRIPTION").
 #[derive(Clone, Copy, Debug, PartialEq, Eq, PartialOrd, Ord, Hash)]
 pub enum Format {
-    /// By OpenPGP.
+    /// By OpenPGP: it begins with `-----BEGIN PGP SIGNATURE-----` or `-----BEGIN PGP MESSAGE-----`.
     OpenPgp,
-    /// By a certificate of X.509.
+    /// By a certificate of X.509: it begins with `-----BEGIN SIGNED MESSAGE-----`.
     X509,
-    /// By a key of SSH.
+    /// By a key of SSH: it begins with `-----BEGIN SSH SIGNATURE-----`.
     Ssh,
 }
 
@@ -58,7 +58,7 @@ pub struct SignatureRef<'a> {
 /// The place of the last marker at the start of a line, and its format, or none where no line begins
 /// with a marker (gitformat-signature, "Tag signatures").
 ///
-/// It takes no memory.
+/// It walks once over the lines, from the front, and takes no memory.
 #[tactic(auto, using(crate::proofs::LineSteps::found_in_all, crate::proofs::LineSteps::line_within, crate::proofs::LineSteps::next_line, crate::proofs::LineSteps::none_in_all, crate::proofs::LineSteps::past_line))]
 pub fn find(bytes: &[u8]) -> Option<(usize, Format)>
     ensures found { IfSome result (λ it. IsMarkerPlace bytes.now it.0 it.1) }
