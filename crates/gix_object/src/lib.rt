@@ -1,7 +1,8 @@
 //! Git's objects as plain bytes, and an editor of trees.
 //!
-//! It hands on what `gixobj_base` and `gixobj_codec` have for users: ids, kinds, loose headers, actors
-//! and times, trees, blobs and commits, and how they are read and written. Its own is [`tree::editor`].
+//! It hands on what `gixobj_base`, `gixobj_text` and `gixobj_codec` have for users: ids, kinds, loose headers, actors
+//! and times, trees, blobs, commits and tags, and how they are read and written. Its own is
+//! [`tree::editor`].
 #![tactic(auto)]
 
 pub mod laws;
@@ -11,4 +12,7 @@ pub use gixobj_base::{
     Blob, BlobRef, Header, Kind, OutOfMemory, Tree, WriteTo, actor, compute_hash, date, decode,
     encode, hash, kind, streams,
 };
-pub use gixobj_codec::{Commit, CommitRef, CommitRefIter, Data, commit};
+pub use gixobj_codec::{
+    Commit, CommitRef, CommitRefIter, Data, Tag, TagRef, TagRefIter, commit, tag,
+};
+pub use gixobj_text::signature;

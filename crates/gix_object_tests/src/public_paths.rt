@@ -2,9 +2,9 @@
 
 mod root {
     pub use gix_object::{
-        Blob, BlobRef, Commit, CommitRef, CommitRefIter, Data, Header, Kind, OutOfMemory, Tree,
-        WriteTo, actor, commit, compute_hash, date, decode, encode, hash, kind, laws, streams,
-        tree,
+        Blob, BlobRef, Commit, CommitRef, CommitRefIter, Data, Header, Kind, OutOfMemory, Tag,
+        TagRef, TagRefIter, Tree, WriteTo, actor, commit, compute_hash, date, decode, encode, hash,
+        kind, laws, signature, streams, tag, tree,
     };
 }
 
@@ -15,8 +15,9 @@ mod of_actors {
 
 mod of_commit {
     pub use gix_object::commit::{
-        BorrowedHeaders, Commit, CommitRef, CommitRefIter, ExtraHeaders, FindAll, OwnedHeaders,
-        Parents, SIGNATURE_FIELD_NAME, SIGNATURE_FIELD_NAME_SHA256, ref_iter, signature_field_name,
+        BorrowedHeaders, Commit, CommitRef, CommitRefIter, ExtraHeaders, FindAll, Mergetags,
+        OwnedHeaders, Parents, SIGNATURE_FIELD_NAME, SIGNATURE_FIELD_NAME_SHA256, ref_iter,
+        signature_field_name,
     };
 }
 
@@ -45,6 +46,16 @@ mod of_kind {
 
 mod of_laws {
     pub use gix_object::laws::{a_root_alone_is_opened, every_list_makes_a_table};
+}
+
+mod of_signature {
+    pub use gix_object::signature::{Format, SignatureRef};
+}
+
+mod of_tag {
+    pub use gix_object::tag::ref_iter::Token;
+    pub use gix_object::tag::write::{Error, validated_name};
+    pub use gix_object::tag::{Tag, TagRef, TagRefIter, ref_iter, write};
 }
 
 mod of_tree {

@@ -1,5 +1,5 @@
 -- Why a caller is refused, by cases of the errors.
-use Rattle.std.proofs.Common.{◌≡◌, ℕ, List, Result, Ok, Err, refl, subst}
+use Rattle.std.proofs.Common.{◌≡◌, ℕ, List, Result, Ok, Err, Some, refl, subst}
 use Rattle.std.specs.Prelude.{IfErr, IfOk}
 use Rattle.gixobj_base.specs.Streams.{SinkView}
 use Rattle.gixobj_base.specs.Writing.{FailsAsSink}
@@ -62,3 +62,10 @@ pub tree_there : (kind : Kind) (text : List ℕ) (result : Result ObjectId Error
     → IfErr result (λ error. IsNoCommitText kind text)
 tree_there kind text (Ok id) found = tt
 tree_there kind text (Err error) found = λ commit is. let same = (found commit is).1 in cc same
+
+-- an id that was answered is one, and an error is none
+pub same_id : (a b : ObjectId) → ◌≡◌ {A = Result ObjectId Error} (Ok a) (Ok b) → Some a ≡ Some b
+same_id a b same = cc same
+
+pub no_error : (error : Error) (id : ObjectId) → ◌≡◌ {A = Result ObjectId Error} (Err error) (Ok id) → ⊥
+no_error error id same = cc same

@@ -1,13 +1,16 @@
 //! Each public path of `gixobj_codec`, as its users write it.
 
 mod root {
-    pub use gixobj_codec::{Commit, CommitRef, CommitRefIter, Data, commit, laws};
+    pub use gixobj_codec::{
+        Commit, CommitRef, CommitRefIter, Data, Tag, TagRef, TagRefIter, commit, laws, tag,
+    };
 }
 
 mod of_commit {
     pub use gixobj_codec::commit::{
-        BorrowedHeaders, Commit, CommitRef, CommitRefIter, ExtraHeaders, FindAll, OwnedHeaders,
-        Parents, SIGNATURE_FIELD_NAME, SIGNATURE_FIELD_NAME_SHA256, ref_iter, signature_field_name,
+        BorrowedHeaders, Commit, CommitRef, CommitRefIter, ExtraHeaders, FindAll, Mergetags,
+        OwnedHeaders, Parents, SIGNATURE_FIELD_NAME, SIGNATURE_FIELD_NAME_SHA256, ref_iter,
+        signature_field_name,
     };
 }
 
@@ -21,6 +24,20 @@ mod of_laws {
         commit_writes_back, header_reads_back, hex_spells_one_id, owned_forms_have_the_parts,
         owned_headers_are_found, readers, tokens,
     };
+}
+
+mod of_laws_of_tags {
+    pub use gixobj_codec::laws::{
+        owned_tags_have_the_parts, parts_of_tags_are_found, tag_has_one_reading,
+        tag_reads_and_writes, tag_readers_read_one_language, tag_tokens_have_one_reading,
+        tag_writes_back,
+    };
+}
+
+mod of_tag {
+    pub use gixobj_codec::tag::ref_iter::{TagRefIter, Token};
+    pub use gixobj_codec::tag::write::{Error, validated_name};
+    pub use gixobj_codec::tag::{Tag, TagRef, TagRefIter, ref_iter, write};
 }
 
 mod of_laws_by_topic {

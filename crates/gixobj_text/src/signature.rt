@@ -1,0 +1,3 @@
+//! Signatures (gitformat-signature).
+
+pub use gixobj_signing::signature::{Format, SignatureRef};
