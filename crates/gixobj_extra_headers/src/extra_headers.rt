@@ -99,10 +99,10 @@ impl<'a, I: Iterator<Item = (BStr<'a>, BStr<'a>)> + Drop> ExtraHeaders<I> {
         ensures name { sought (mergetag_values result) ≡ codes "mergetag" }
         ensures hash_kind { mergetag_kind result ≡ hash_kind_of self }
     {
-        let hash_kind = self.hash_kind;
+        let kind = self.hash_kind;
         Mergetags {
             values: self.find_all("mergetag"),
-            hash_kind,
+            hash_kind: kind,
         }
     }
 

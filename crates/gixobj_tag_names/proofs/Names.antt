@@ -1,4 +1,4 @@
--- What searches say of a name, and its parts.
+-- Names of tags: what searches tell of their faults, the first fault, and what a valid name is not.
 use Rattle.std.proofs.Common.{◌≡◌, ◌≢◌, ℕ, ◌+◌, Bool, true, false, List, [], ◌∷◌, ◌++◌, length, take, drop, refl, sym, ap, subst, ◌∙◌, arith, inl, inr, append_assoc, length-append}
 use Rattle.std.proofs.lemmas.Bool.{cases_eq, eqb-true, false≢true, true≢false}
 use Rattle.std.proofs.lemmas.Bool.Decides.{Decides-eqb}
@@ -20,11 +20,12 @@ use Rattle.gixobj_texts.specs.Parse.{IsFree}
 
 -- ---- searches
 
--- a test that is true where a fact holds
+-- a test that is true exactly where a fact holds tells it or its contrary
 told : (r : Bool) (P : Type 0) → (r ≡ true → P) → (P → r ≡ true) → MatchBool r P (¬ P)
 told true P found only = found refl
 told false P found only = λ holds. (let e : false ≡ true = only holds in cc)
 
+-- the tests and the search of the library, in the words of the rule
 pub begins_told : (text front : List ℕ) (r : Bool) → r ≡ starts_with nat_eq text front → MatchBool r (BeginsWith front text) (¬ BeginsWith front text)
 begins_told text front r is =
     let parts = starts_is Decides-eqb text front r is in
@@ -55,7 +56,7 @@ pub holds_told : (text inner : List ℕ) (r : Bool) → ((r ≡ true) ↔ Occurs
 holds_told text inner r tells =
     told r (Holds inner text) (λ passes. holds_from_place text inner (tells.0 passes)) (λ holds. tells.1 (place_from_holds text inner holds))
 
--- the first search finds the fact, or the next one does where the first failed
+-- a fault that either of two searches finds: where the first finds it, and where the next has to
 found_first : (r : Bool) (A F : Type 0) → r ≡ true → MatchBool r A (¬ A) → (A → F) → MatchBool r F (¬ F)
 found_first true A F passes first found = found first
 found_first false A F passes first found = absurd (false≢true passes)
@@ -74,7 +75,7 @@ Opens before = (before ≡ []) ⊎ EndsWith (slash ∷ []) before
 abbrev Closes : List ℕ → Type 0
 Closes behind = (behind ≡ []) ⊎ BeginsWith (slash ∷ []) behind
 
--- a text goes on without a slash up to one, or to its end
+-- the part with which a text begins
 part_ahead : (text : List ℕ) → (part behind : List ℕ) × (text ≡ part ++ behind) × Closes behind × IsFree slash part
 part_ahead [] = ([], [], refl, inl refl, All-nil (λ it. it ≢ slash))
 part_ahead (byte ∷ text) =
@@ -84,7 +85,7 @@ part_ahead (byte ∷ text) =
       | inr other ↦ (byte ∷ further.0, further.1, ap (λ (it : List ℕ). byte ∷ it) further.2, further.3, All-cons (λ it. it ≢ slash) byte further.0 other further.4)
     ]
 
--- a text stood without a slash from its last one, or from its start
+-- the part with which a text ends
 part_back : (text : List ℕ) → (before part : List ℕ) × (text ≡ before ++ part) × Opens before × IsFree slash part
 part_back [] = ([], [], refl, inl refl, All-nil (λ it. it ≢ slash))
 part_back (byte ∷ text) =
@@ -100,6 +101,7 @@ part_back (byte ∷ text) =
 
 -- ---- a dot at the start of a part
 
+-- behind an opening a dot starts a part
 dot_start : (name before rest : List ℕ) → name ≡ before ++ 46 ∷ rest → Opens before → HasFault fault.DotStart name
 dot_start name before rest joined opens =
     let further = part_ahead rest in (
@@ -137,6 +139,7 @@ dot_later name first r fails is tells =
 
 -- ---- `.lock` at the end of a part
 
+-- before a closing `.lock` ends a part
 lock_end : (name front behind : List ℕ) → name ≡ front ++ codes ".lock" ++ behind → Closes behind → HasFault fault.LockSuffix name
 lock_end name front behind joined closes =
     let further = part_back front in (
@@ -176,6 +179,7 @@ lock_earlier name first r fails is tells =
 
 -- ---- slashes
 
+-- a slash that is last, and the search for two in a row where none is first or last
 pub slash_last : (name : List ℕ) (r last : Bool) → r ≡ true → r ≡ last → last ≡ ends_with nat_eq name (codes "/") → MatchBool r (HasFault fault.BadSlash name) (¬ HasFault fault.BadSlash name)
 slash_last name r last passes same is = found_first r _ _ passes (ends_told name (codes "/") r (same ∙ is)) (λ ends. inr (inl ends))
 
@@ -237,6 +241,7 @@ one_in_order name (other ∷ p) x [] y a b same none_p none_q has_a has_b =
 one_in_order name (other ∷ p) x (another ∷ q) y a b same none_p none_q has_a has_b =
     one_in_order name p x q y a b (cc same) (All-tail (λ it. ¬ HasFault it name) other p none_p) (All-tail (λ it. ¬ HasFault it name) another q none_q) has_a has_b
 
+-- a name has one first fault at most
 pub one_first_fault : (name : List ℕ) (a b : RefNameFault) → IsFirstFault name a → IsFirstFault name b → a ≡ b
 one_first_fault name a b first second =
     one_in_order name first.before first.after second.before second.after a b (sym first.joined ∙ second.joined) first.none second.none first.here second.here
@@ -255,6 +260,7 @@ refused_not_valid name StartsWithDash refused valid = valid.1 refused.1
 
 -- ---- names of tags
 
+-- what a writer of tags rests on
 pub valid_not_empty : (name : List ℕ) → IsTagName name → name ≢ []
 valid_not_empty name valid = valid.0 fault.Empty
 

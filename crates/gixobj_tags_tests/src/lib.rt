@@ -1,0 +1,5 @@
+//! Tests of `gixobj_tags`.
+#![tactic(auto)]
+
+#[cfg(test)]
+mod names;
