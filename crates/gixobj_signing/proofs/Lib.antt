@@ -1,0 +1,3 @@
+mod LineSteps
+mod MarkersFound
+pub mod MarkerPlaces

@@ -1,0 +1,5 @@
+//! Tests of `gixobj_text`.
+#![tactic(auto)]
+
+#[cfg(test)]
+mod signature;
