@@ -13,6 +13,7 @@ use gixobj_base::hash::{Kind, ObjectId};
 use gixobj_base::{WriteTo, compute_hash, decode};
 use gixobj_codec::tag::ref_iter::Token;
 use gixobj_codec::{TagRef, TagRefIter};
+use gixobj_text::signature::Format;
 use odd::{
     EMPTY_NAME, LATE_TIME, NO_NAME, NO_OFFSET, NO_TAGGER, NO_TIME, ODD, PLAIN_TAGGER,
     TIME_AND_MORE, UPPER_CASE, ZERO_OFFSET,
@@ -224,6 +225,32 @@ fn without_signature(rt: HostRuntime) -> Result<(), Fail> {
 fn with_signature(rt: HostRuntime) -> Result<(), Fail> {
     for shape in &SIGNED {
         assert!(rt; agrees(rt.alloc(), shape)?, "{}", shape.name);
+    }
+    Ok(())
+}
+
+/// The formats in which the first of them were signed last.
+const FORMATS: [Format; 5] = [
+    Format::OpenPgp,
+    Format::OpenPgp,
+    Format::X509,
+    Format::Ssh,
+    Format::Ssh,
+];
+
+/// Whether a shape has a signature of this format, as it is read and as it is owned.
+fn is_signed_in(alloc: Global, shape: &Shape, format: Format) -> Result<bool, Fail> {
+    let tag = TagRef::from_bytes(shape.bytes, shape.hash)?;
+    let signature = tag.signature().ok_or("a signature")?;
+    let owned = tag.into_owned(alloc)?;
+    let is_same = owned.signature() == Some(signature);
+    Ok(is_same && signature.format == format && tag.signature == Some(signature.bytes))
+}
+
+#[test]
+fn formats(rt: HostRuntime) -> Result<(), Fail> {
+    for (shape, format) in SIGNED.iter().zip(FORMATS) {
+        assert!(rt; is_signed_in(rt.alloc(), shape, format)?, "{}", shape.name);
     }
     Ok(())
 }
