@@ -1,4 +1,5 @@
 pub mod ActorLines
 mod ActorTexts
+pub mod OwnedActors
 mod TimeTexts
 pub mod SignatureFields

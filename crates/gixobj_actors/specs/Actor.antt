@@ -2,9 +2,13 @@
 use Rattle.std.specs.Prelude.{◌≡◌, ◌≢◌, ◌⊎◌, ◌||◌, ◌==◌, ℕ, Bool, List, [], ◌∷◌, ◌++◌, IsFalse, pos, ⊤, codes}
 use Rattle.std.specs.Char.{is_ascii_digit, is_whitespace}
 use Rattle.std.specs.List.{AllPass}
+use Rattle.bstr.specs.BStr.{bstr_bytes}
+use Rattle.bstr.specs.Owned.{bstring_bytes}
 use Rattle.bstr.specs.Trim.{trim_end_by, trim_start_by}
 use Rattle.gixobj_actors.specs.Date.{IsNoTimeText, IsTimeText}
 use Rattle.gixobj_texts.specs.Parse.{IsFree}
+use Rattle.gixobj_actors.specs.declared.actor.Signature.{Signature}
+use Rattle.gixobj_actors.specs.declared.actor.SignatureRef.{SignatureRef}
 use Rattle.gixobj_actors.specs.declared.date.Time.{Time}
 use Rattle.gixobj_texts.specs.Bytes.{greater_than, less_than, minus, newline, plus, space, tab}
 
@@ -42,6 +46,10 @@ pub record IsActorLine (line name email time rest : List ℕ) : Type 0 where
 abbrev pub IsNoActorLine : List ℕ → Type 0
 IsNoActorLine line = (name email time rest : List ℕ) → ¬ IsActorLine line name email time rest
 
+-- the line begins with an actor; bytes may follow its time
+abbrev pub BeginsWithActor : List ℕ → Type 0
+BeginsWithActor line = (name email time rest : List ℕ) × IsActorLine line name email time rest
+
 -- the bytes without white space at either end
 abbrev pub trimmed : List ℕ → List ℕ
 trimmed text = trim_end_by is_whitespace (trim_start_by is_whitespace text)
@@ -65,3 +73,23 @@ IsActor line name email time = IsActorLine line name email time []
 -- the line is no actor
 abbrev pub IsNoActor : List ℕ → Type 0
 IsNoActor line = (name email time : List ℕ) → ¬ IsActor line name email time
+
+-- the line is an actor
+abbrev pub NamesActor : List ℕ → Type 0
+NamesActor text = (name email time : List ℕ) × IsActor text name email time
+
+-- the actor of the line, without white space at the ends of its parts
+pub record IsTrimmedActor (line : List ℕ) (actor : SignatureRef) : Type 0 where
+  pub name : List ℕ
+  pub email : List ℕ
+  pub time : List ℕ
+  pub read : IsActor line name email time
+  pub trimmed_name : bstr_bytes actor.name ≡ trimmed name
+  pub trimmed_email : bstr_bytes actor.email ≡ trimmed email
+  pub trimmed_time : bstr_bytes actor.time ≡ trimmed time
+
+-- the actor of the line, as it stands, with the time that it says
+pub record IsOwnedActor (line : List ℕ) (actor : Signature) : Type 0 where
+  pub time : List ℕ
+  pub read : IsActor line (bstring_bytes actor.name) (bstring_bytes actor.email) time
+  pub said : IsTimeOrDefault time actor.time

@@ -2,11 +2,12 @@
 use Rattle.std.specs.Prelude.{◌≡◌, ℕ, List, [], ◌∷◌, ◌++◌}
 use Rattle.bstr.specs.BStr.{bstr_bytes}
 use Rattle.bstr.specs.Owned.{bstring_bytes}
-use Rattle.gixobj_actors.specs.Actor.{IsWritable, actor_text}
+use Rattle.gixobj_actors.specs.Actor.{IsActor, IsTimeOrDefault, IsWritable, actor_text}
 use Rattle.gixobj_actors.specs.Date.{time_text}
 use Rattle.gixobj_fields.specs.Writing.{Refused, illegal_actor}
 use Rattle.gixobj_actors.specs.declared.actor.Signature.{Signature}
 use Rattle.gixobj_actors.specs.declared.actor.SignatureRef.{SignatureRef}
+use Rattle.gixobj_actors.specs.declared.date.Time.{Time}
 use Rattle.gixobj_fields.specs.declared.encode.Error.{Error}
 use Rattle.gixobj_fields.specs.declared.encode.Error.TheVariants.{IllegalActor, Writer}
 use Rattle.gixobj_texts.specs.Bytes.{space}
@@ -36,3 +37,17 @@ RefusesActor name email unchanged puts_front other = ⊥
 -- an actor is refused behind the name of its field and a space
 abbrev pub RefusesSignature : List ℕ → Signature → Refused → List ℕ → Type 0
 RefusesSignature name actor value parts = ¬ (IsLegal actor) × (value ≡ illegal_actor) × (parts ≡ name ++ space ∷ [])
+
+-- the actor of the line as it is written: its parts, and the text of its time, or of the default one
+pub record IsCanonical (line written : List ℕ) : Type 0 where
+  pub name : List ℕ
+  pub email : List ℕ
+  pub time : List ℕ
+  pub said : Time
+  pub read : IsActor line name email time
+  pub is_time : IsTimeOrDefault time said
+  pub text : written ≡ actor_text name email (time_text said.seconds said.offset)
+
+-- the line is an actor that no owned form writes
+abbrev pub IsUnwritable : List ℕ → Type 0
+IsUnwritable line = (name email time : List ℕ) × IsActor line name email time × ¬ (IsLegalActor name email)

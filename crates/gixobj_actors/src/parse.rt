@@ -1,9 +1,14 @@
-//! Actors that fill their line.
-ghost use Rattle.std.specs.Prelude.{IfNone, IfSome};
+//! Actors that fill their line, and what is made of them.
+ghost use Rattle.std.specs.Prelude.{◌≡◌, ℕ, List, IfErr, IfNone, IfOk, IfSome};
 ghost use Rattle.bstr.specs.BStr.{bstr_bytes};
-ghost use Rattle.gixobj_actors.specs.Actor.{IsActor, IsNoActor};
+ghost use Rattle.gixobj_actors.specs.Actor.{IsActor, IsNoActor, IsOwnedActor, IsTrimmedActor};
+ghost use Rattle.gixobj_ids.specs.declared.decode.Error.TheVariants.{Malformed};
 
-use crate::actor::SignatureRef;
+use crate::actor::{Signature, SignatureRef};
+use bstr::BStr;
+use gixobj_ids::OutOfMemory;
+use gixobj_ids::decode::Error;
+use std::alloc::Global;
 
 /// The actor of a line, or none where the line is none or bytes follow its time.
 pub fn signature(line: &[u8]) -> Option<SignatureRef<'_>>
@@ -15,4 +20,35 @@ pub fn signature(line: &[u8]) -> Option<SignatureRef<'_>>
         return None;
     };
     if rest.is_empty() { Some(actor) } else { None }
+}
+
+/// The actor of a line, as it stands.
+///
+/// `Malformed` where the line is none or bytes follow its time. It takes no memory.
+pub fn actor_of_line(line: BStr<'_>) -> Result<SignatureRef<'_>, Error>
+    ensures found { IfOk result (λ it. IsActor (bstr_bytes line.entry) (bstr_bytes it.name) (bstr_bytes it.email) (bstr_bytes it.time)) }
+    ensures refusal { IfErr result (λ e. (e ≡ Malformed) × IsNoActor (bstr_bytes line.entry)) }
+{
+    match signature(line.as_bytes()) {
+        Some(actor) => Ok(actor),
+        None => Err(Error::Malformed),
+    }
+}
+
+/// The actor of a line, without white space at the ends of name, email and time.
+///
+/// `Malformed` where the line is none or bytes follow its time. It takes no memory.
+pub fn trimmed_actor(line: BStr<'_>) -> Result<SignatureRef<'_>, Error>
+    ensures found { IfOk result (IsTrimmedActor (bstr_bytes line.entry)) }
+    ensures refusal { IfErr result (λ e. (e ≡ Malformed) × IsNoActor (bstr_bytes line.entry)) }
+{
+    let actor = actor_of_line(line)?;
+    Ok(actor.trim())
+}
+
+/// A copy of an actor, as it stands, with the time that it says.
+pub fn owned_actor(alloc: Global, actor: SignatureRef<'_>) -> Result<Signature, OutOfMemory>
+    ensures { IfOk result (λ it. (line : List ℕ) → IsActor line (bstr_bytes actor.entry.name) (bstr_bytes actor.entry.email) (bstr_bytes actor.entry.time) → IsOwnedActor line it) }
+{
+    actor.to_owned(alloc)
 }

@@ -3,7 +3,8 @@ use Rattle.std.specs.Prelude.{◌⊎◌, ⊤}
 use Rattle.gixobj_base.specs.fields.encode.Error.TheVariants as encode
 use Rattle.gixobj_base.specs.ids.decode.Error.TheVariants as decode
 use Rattle.gixobj_codec.specs.Commit.{CommitLines}
-use Rattle.gixobj_codec.specs.Rewriting.{HasEmptyEncoding, IsUnwritable}
+use Rattle.gixobj_codec.specs.ActorWriting.{IsUnwritable}
+use Rattle.gixobj_codec.specs.Rewriting.{HasEmptyEncoding}
 use Rattle.gixobj_callers.specs.declared.store.CopyError.{CopyError}
 use Rattle.gixobj_callers.specs.declared.store.CopyError.TheVariants.{Read, Write}
 

@@ -20,7 +20,8 @@ use Rattle.gixobj_ids.specs.declared.hash.object_id.ObjectId.{ObjectId}
 use Rattle.gixobj_ids.proofs.HexCase.{hex_in_lower_case}
 use Rattle.gixobj_fields.proofs.Steps.{IsInParts, in_parts}
 use Rattle.gixobj_lines.specs.Commit.{before_encoding, encoding_text, ids_text, parent_text}
-use Rattle.gixobj_commits.specs.CommitViews.{bytes_if_some, commit_lines, owned_bytes_if_some, owned_lines}
+use Rattle.gixobj_commits.specs.CommitViews.{commit_lines, owned_lines}
+use Rattle.gixobj_texts.specs.Optional.{bytes_if_some, owned_bytes_if_some}
 use Rattle.gixobj_commits.specs.CommitWriting.{RefusesEncoding, RefusesLines, RefusesOwned, commit_text, in_lower_case, RefusesEncodingLine}
 use Rattle.gixobj_fields.specs.FieldWriting.{header_text}
 use Rattle.gixobj_commits.specs.declared.commit.Commit.{Commit}

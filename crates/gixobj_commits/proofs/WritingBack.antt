@@ -5,7 +5,8 @@ use Rattle.std.specs.List.{AllZip}
 use Rattle.std.specs.Str.{str_to_ascii_lowercase}
 use Rattle.std.proofs.lemmas.List.Elements.{All-contains}
 use Rattle.bstr.specs.Owned.{bstring_bytes}
-use Rattle.gixobj_actors.specs.ActorWriting.{IsLegal, owned_text}
+use Rattle.gixobj_actors.proofs.OwnedActors.{canonical, unwritable}
+use Rattle.gixobj_actors.specs.ActorWriting.{IsUnwritable}
 use Rattle.gixobj_ids.specs.Hash.{Spells, hex_text}
 use Rattle.gixobj_fields.specs.HeaderText.{Header}
 use Rattle.gixobj_fields.specs.Streams.{SinkView}
@@ -18,10 +19,10 @@ use Rattle.gixobj_ids.specs.declared.hash.kind.Kind.{Kind}
 use Rattle.gixobj_ids.specs.declared.hash.object_id.ObjectId.{ObjectId}
 use Rattle.gixobj_ids.proofs.HexCase.{hex_in_lower_case}
 use Rattle.gixobj_lines.specs.Commit.{CommitLines, IsCommitText, IsEncoding}
-use Rattle.gixobj_commits.specs.CommitOwned.{IsOwnedActor, IsOwnedForm, RefusesOwning}
+use Rattle.gixobj_commits.specs.CommitOwned.{IsOwnedForm, RefusesOwning}
 use Rattle.gixobj_commits.specs.CommitViews.{owned_lines}
 use Rattle.gixobj_commits.specs.CommitWriting.{RefusesEncoding, RefusesOwned, commit_text}
-use Rattle.gixobj_commits.specs.Rewriting.{AreOwnParts, HasEmptyEncoding, IsCanonical, IsUnwritable, RefusesOwnForm}
+use Rattle.gixobj_commits.specs.Rewriting.{AreOwnParts, HasEmptyEncoding, RefusesOwnForm}
 use Rattle.gixobj_commits.specs.declared.commit.Commit.{Commit}
 
 -- ---- the owned form
@@ -31,9 +32,6 @@ ids_in_lower_case [] [] are = refl
 ids_in_lower_case [] (id ∷ ids) are = absurd are
 ids_in_lower_case (hex ∷ hexes) [] are = absurd are
 ids_in_lower_case (hex ∷ hexes) (id ∷ ids) are = let one = hex_in_lower_case hex id are.0 in let more = ids_in_lower_case hexes ids are.1 in cc (one, more)
-
-canonical : (line : List ℕ) (actor : Signature) → IsOwnedActor line actor → IsCanonical line (owned_text actor)
-canonical line actor is = record { name = bstring_bytes actor.name; email = bstring_bytes actor.email; time = is.time; said = actor.time; read = is.read; is_time = is.said; text = refl }
 
 pub own_parts : (lines : CommitLines) (commit : Commit) → IsOwnedForm lines commit → AreOwnParts lines (owned_lines commit)
 own_parts lines commit is =
@@ -54,9 +52,6 @@ encoding_refused : (encoding : Option (List ℕ)) (headers : List Header) (value
 encoding_refused None headers value is refused = absurd refused
 encoding_refused (Some encoding) headers value is (inl (none, is_empty)) = (is_empty, ap (λ (it : List ℕ). Some it) none)
 encoding_refused (Some encoding) headers value is (inr (has, is_newline)) = absurd (All-contains (λ (it : ℕ). it ≡ 10 → ⊥) encoding 10 is has refl)
-
-unwritable : (line : List ℕ) (actor : Signature) → IsOwnedActor line actor → ¬ (IsLegal actor) → IsUnwritable line
-unwritable line actor is illegal = (bstring_bytes actor.name, bstring_bytes actor.email, is.time, is.read, illegal)
 
 -- what is refused of the owned form of a commit that was read
 abbrev WhatIsRefused : CommitLines → Refused → Type 0

@@ -1,30 +1,16 @@
 -- Actors of commits taken apart, and commits with parts of their own.
 use Rattle.std.specs.Prelude.{◌≡◌, ◌⊎◌, ℕ, List, map}
 use Rattle.std.specs.List.{AllZip}
-use Rattle.bstr.specs.BStr.{bstr_bytes}
 use Rattle.bstr.specs.Owned.{bstring_bytes}
-use Rattle.gixobj_actors.specs.Actor.{IsActor, IsNoActor, IsTimeOrDefault, trimmed}
+use Rattle.gixobj_actors.specs.Actor.{IsActor, IsNoActor, IsOwnedActor, IsTimeOrDefault, NamesActor}
 use Rattle.gixobj_ids.specs.Hash.{Spells}
 use Rattle.gixobj_fields.specs.HeaderReading.{owned_header_of}
-use Rattle.gixobj_actors.specs.declared.actor.Signature.{Signature}
-use Rattle.gixobj_actors.specs.declared.actor.SignatureRef.{SignatureRef}
 use Rattle.gixobj_actors.specs.declared.date.Time.{Time}
 use Rattle.gixobj_ids.specs.declared.decode.Error.{Error}
 use Rattle.gixobj_ids.specs.declared.decode.Error.TheVariants.{Malformed, OutOfMemory}
 use Rattle.gixobj_lines.specs.Commit.{CommitLines}
-use Rattle.gixobj_lines.specs.Lines.{NamesActor}
-use Rattle.gixobj_commits.specs.CommitViews.{owned_bytes_if_some}
+use Rattle.gixobj_texts.specs.Optional.{owned_bytes_if_some}
 use Rattle.gixobj_commits.specs.declared.commit.Commit.{Commit}
-
--- the actor of the line, without white space at the ends of its parts
-pub record IsTrimmedActor (line : List ℕ) (actor : SignatureRef) : Type 0 where
-  pub name : List ℕ
-  pub email : List ℕ
-  pub time : List ℕ
-  pub read : IsActor line name email time
-  pub trimmed_name : bstr_bytes actor.name ≡ trimmed name
-  pub trimmed_email : bstr_bytes actor.email ≡ trimmed email
-  pub trimmed_time : bstr_bytes actor.time ≡ trimmed time
 
 -- the time of the line's actor, or the default one
 pub record IsTimeOfLine (line : List ℕ) (it : Time) : Type 0 where
@@ -33,12 +19,6 @@ pub record IsTimeOfLine (line : List ℕ) (it : Time) : Type 0 where
   pub time : List ℕ
   pub read : IsActor line name email time
   pub said : IsTimeOrDefault time it
-
--- the actor of the line, as it stands, with the time that it says
-pub record IsOwnedActor (line : List ℕ) (actor : Signature) : Type 0 where
-  pub time : List ℕ
-  pub read : IsActor line (bstring_bytes actor.name) (bstring_bytes actor.email) time
-  pub said : IsTimeOrDefault time actor.time
 
 -- the commit with these lines, with parts of its own
 pub record IsOwnedForm (lines : CommitLines) (commit : Commit) : Type 0 where

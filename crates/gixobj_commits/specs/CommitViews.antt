@@ -1,23 +1,14 @@
 -- Commits as their readers see them, wherever they lie.
-use Rattle.std.specs.Prelude.{ℕ, List, All, map, Option, Some, None}
+use Rattle.std.specs.Prelude.{ℕ, List, All, map}
 use Rattle.bstr.specs.BStr.{bstr_bytes}
 use Rattle.bstr.specs.Owned.{bstring_bytes}
-use Rattle.bstr.specs.declared.bstr.BStr.{BStr}
-use Rattle.bstr.specs.declared.bstring.BString.{BString}
 use Rattle.gixobj_actors.specs.ActorWriting.{owned_text}
 use Rattle.gixobj_ids.specs.Hash.{hex_text}
 use Rattle.gixobj_fields.specs.HeaderReading.{BorrowsOneLine, header_of, owned_header_of}
 use Rattle.gixobj_lines.specs.Commit.{CommitLines}
 use Rattle.gixobj_commits.specs.declared.commit.Commit.{Commit}
 use Rattle.gixobj_commits.specs.declared.commit.CommitRef.{CommitRef}
-
-abbrev pub bytes_if_some : Option BStr → Option (List ℕ)
-bytes_if_some None = None
-bytes_if_some (Some bytes) = Some (bstr_bytes bytes)
-
-abbrev pub owned_bytes_if_some : Option BString → Option (List ℕ)
-owned_bytes_if_some None = None
-owned_bytes_if_some (Some bytes) = Some (bstring_bytes bytes)
+use Rattle.gixobj_texts.specs.Optional.{bytes_if_some, owned_bytes_if_some}
 
 -- what a borrowed commit holds
 abbrev pub commit_lines : CommitRef → CommitLines

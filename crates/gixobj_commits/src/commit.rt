@@ -2,12 +2,12 @@
 ghost use Rattle.std.specs.Prelude.{◌≡◌, All, IfErr, IfOk, map};
 ghost use Rattle.std.specs.List.{AllZip};
 ghost use Rattle.bstr.specs.BStr.{bstr_bytes};
-ghost use Rattle.gixobj_actors.specs.Actor.{IsActor, IsNoActor};
+ghost use Rattle.gixobj_actors.specs.Actor.{IsActor, IsNoActor, IsTrimmedActor};
 ghost use Rattle.gixobj_ids.specs.Hash.{IsHexOfAnId, Spells, id_kind};
 ghost use Rattle.gixobj_fields.specs.HeaderReading.{owned_header_of};
 ghost use Rattle.gixobj_ids.specs.declared.decode.Error.TheVariants.{Malformed};
 ghost use Rattle.gixobj_extra_headers.specs.ParentsLeft.{parents_left};
-ghost use Rattle.gixobj_commits.specs.CommitOwned.{IsOwnedForm, IsTimeOfLine, IsTrimmedActor, RefusesOwning};
+ghost use Rattle.gixobj_commits.specs.CommitOwned.{IsOwnedForm, IsTimeOfLine, RefusesOwning};
 ghost use Rattle.gixobj_commits.specs.CommitViews.{commit_lines};
 ghost use Rattle.gixobj_commits.specs.CommitWriting.{HasIds};
 ghost use Rattle.gixobj_extra_headers.specs.ExtraHeaders.{hash_kind_of, iterator_of};
@@ -21,7 +21,7 @@ mod write;
 use bstr::{BStr, BString};
 use gixobj_actors::actor::{Signature, SignatureRef};
 use gixobj_actors::date::Time;
-use gixobj_actors::parse;
+use gixobj_actors::parse::{actor_of_line, trimmed_actor};
 pub use gixobj_extra_headers::{
     BorrowedHeaders, ExtraHeaders, FindAll, OwnedHeaders, Parents, SIGNATURE_FIELD_NAME,
     SIGNATURE_FIELD_NAME_SHA256, signature_field_name,
@@ -171,25 +171,5 @@ impl Commit {
         ensures hash_kind { hash_kind_of result ≡ id_kind self.now.tree }
     {
         ExtraHeaders::new(OwnedHeaders::new(&self.extra_headers), self.tree.kind())
-    }
-}
-
-/// The actor of a line, trimmed.
-fn trimmed_actor(line: BStr<'_>) -> Result<SignatureRef<'_>, Error>
-    ensures found { IfOk result (IsTrimmedActor (bstr_bytes line.entry)) }
-    ensures refusal { IfErr result (λ e. (e ≡ Malformed) × IsNoActor (bstr_bytes line.entry)) }
-{
-    let actor = actor_of_line(line)?;
-    Ok(actor.trim())
-}
-
-/// The actor of a line, as it stands.
-fn actor_of_line(line: BStr<'_>) -> Result<SignatureRef<'_>, Error>
-    ensures found { IfOk result (λ it. IsActor (bstr_bytes line.entry) (bstr_bytes it.name) (bstr_bytes it.email) (bstr_bytes it.time)) }
-    ensures refusal { IfErr result (λ e. (e ≡ Malformed) × IsNoActor (bstr_bytes line.entry)) }
-{
-    match parse::signature(line.as_bytes()) {
-        Some(actor) => Ok(actor),
-        None => Err(Error::Malformed),
     }
 }

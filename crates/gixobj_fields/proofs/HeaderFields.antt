@@ -2,19 +2,25 @@
 use Rattle.std.proofs.Common.{◌≡◌, ◌≢◌, ◌+◌, ◌<◌, ℕ, List, [], ◌∷◌, ◌++◌, All, length, arith, refl, sym, ap, subst, ◌∙◌, append_assoc, length-append, Contains, lit<}
 use Rattle.std.proofs.lemmas.List.{append_cancel_left, append-nil}
 use Rattle.std.proofs.lemmas.List.Concat.{flat_map-append}
-use Rattle.std.proofs.lemmas.List.Elements.{All-head, All-nil, All-push, All-tail, Contains-append_left, Contains-append_right}
+use Rattle.std.proofs.lemmas.List.Elements.{All-cons, All-head, All-nil, All-push, All-tail, Contains-append_left, Contains-append_right}
+use Rattle.std.proofs.lemmas.Bool.{true≢false}
 use Rattle.std.proofs.lemmas.Bool.Decides.{Decides-eqb}
 use Rattle.std.proofs.lemmas.Slice.Eq.{strip_prefix_is}
 use Rattle.std.specs.Borrow.{Bor}
 use Rattle.std.specs.Cmp.Lexicographic.{pointwise}
-use Rattle.std.specs.List.{flat_map}
+use Rattle.std.specs.List.{AllPass, flat_map}
 use Rattle.std.specs.Prelude.{true, false, MatchOption, Option, nat_eq, take, drop}
+use Rattle.hex.specs.Hex.{is_hex_digit}
 use Rattle.gixobj_texts.proofs.Splits.{free_of_cut, one_cut}
 use Rattle.gixobj_fields.specs.HeaderText.{BeginsSeveralLines, EndsHeader, HasField, HasHeader, HasNoField, HasNoHeader, Header, IsHeaderName, field_text, following_text, line_text, value_of_lines}
-use Rattle.gixobj_fields.specs.HeaderReading.{HasNoLines, IsUnfolded, RefusesHeaderField}
+use Rattle.gixobj_fields.specs.HeaderReading.{HasNoId, HasNoKind, HasNoLines, IsUnfolded, RefusesHeaderField}
 use Rattle.gixobj_texts.specs.Parse.{IsFree, SplitsAt}
+use Rattle.gixobj_ids.specs.Hash.Hex.{IsHexOf}
+use Rattle.gixobj_ids.specs.Kind.{IsNoKindWord, kind_word}
 use Rattle.gixobj_ids.specs.declared.decode.Error.{Error}
 use Rattle.gixobj_ids.specs.declared.decode.Error.TheVariants.{Malformed, OutOfMemory}
+use Rattle.gixobj_ids.specs.declared.hash.kind.Kind.{Kind}
+use Rattle.gixobj_ids.specs.declared.kind.Kind.TheVariants as object
 
 -- ---- fronts
 
@@ -53,6 +59,27 @@ no_field_without_newline name input line joined free value rest field =
 pub one_field : (name input a x b y : List ℕ) → HasField name input a x → HasField name input b y → (a ≡ b) × (x ≡ y)
 one_field name input a x b y first second =
     one_cut 10 a x b y first.one_line second.one_line (behind_name name input (a ++ 10 ∷ x) b y (first.joined ∙ flat_field name a x) second)
+
+hex_digit_is_no_newline : (byte : ℕ) → is_hex_digit byte ≡ true → byte ≢ 10
+hex_digit_is_no_newline byte digit same = true≢false (sym digit ∙ ap is_hex_digit same)
+
+pub digits_are_one_line : (text : List ℕ) → AllPass is_hex_digit text → IsFree 10 text
+digits_are_one_line [] digits = All-nil (λ it. it ≢ 10)
+digits_are_one_line (byte ∷ text) digits =
+    let P : ℕ → Type 0 = λ it. is_hex_digit it ≡ true in
+    All-cons (λ it. it ≢ 10) byte text (hex_digit_is_no_newline byte (All-head P byte text digits)) (digits_are_one_line text (All-tail P byte text digits))
+
+pub no_kind_of_field : (name input value rest : List ℕ) → HasField name input value rest → IsNoKindWord value → HasNoKind name input
+no_kind_of_field name input value rest field bad kind behind second = bad kind (one_field name input value rest (kind_word kind) behind field second).0
+
+pub no_kind_word : (word : List ℕ) → (word ≢ kind_word object.Tree) → (word ≢ kind_word object.Blob) → (word ≢ kind_word object.Commit) → (word ≢ kind_word object.Tag) → IsNoKindWord word
+no_kind_word word tree blob commit tag object.Tree = tree
+no_kind_word word tree blob commit tag object.Blob = blob
+no_kind_word word tree blob commit tag object.Commit = commit
+no_kind_word word tree blob commit tag object.Tag = tag
+
+pub no_id_of_field : (name : List ℕ) (kind : Kind) (input value rest : List ℕ) → HasField name input value rest → (IsHexOf kind value → ⊥) → HasNoId name kind input
+no_id_of_field name kind input value rest field bad hex behind (second, is) = bad (subst (IsHexOf kind) (sym (one_field name input value rest hex behind field second).0) is)
 
 -- ---- the lines that follow
 

@@ -1,5 +1,5 @@
 -- Readers that look for a piece: they pass over others, and find it, or end.
-use Rattle.std.proofs.Common.{◌≡◌, ◌≢◌, ◌<◌, ◌≤◌, ℕ, List, [], ◌∷◌, ◌++◌, arith, length, refl, subst, ◌∙◌}
+use Rattle.std.proofs.Common.{◌≡◌, ◌≢◌, ◌≤◌, ℕ, List, [], ◌∷◌, ◌++◌, arith, length, refl, subst, ◌∙◌}
 use Rattle.std.proofs.lemmas.List.Elements.{All-nil, All-push}
 use Rattle.std.specs.Prelude.{Some, None, Result, Ok, Err}
 use Rattle.gixobj_fields.proofs.Runs.{passes_one, tells_passed}
@@ -9,7 +9,7 @@ use Rattle.gixobj_ids.specs.declared.decode.Error.{Error}
 use Rattle.gixobj_ids.specs.declared.decode.Error.TheVariants.{Malformed, OutOfMemory}
 
 module _ {R K S P T : Type 0} (standing : R → Standing K S) (Has : K → S → List ℕ → P → S → List ℕ → Type 0) (Wants : K → S → List ℕ → Type 0) (view : T → P) (IsSuch : T → Type 0)
-    (shorter : (kind : K) (before : S) (input : List ℕ) (piece : P) (behind : S) (rest : List ℕ) → Has kind before input piece behind rest → length rest < length input) where
+    (no_longer : (kind : K) (before : S) (input : List ℕ) (piece : P) (behind : S) (rest : List ℕ) → Has kind before input piece behind rest → length rest ≤ length input) where
   -- the reader came from that one past pieces that are none such
   pub record Seeks (Is : P → Type 0) (reader at : R) : Type 0 where
     pub passes : PassesNone standing Has Is reader (standing at).state (standing at).bytes
@@ -30,7 +30,7 @@ module _ {R K S P T : Type 0} (standing : R → Standing K S) (Has : K → S →
   seeks_on Is reader at after item piece seeks gives ok other =
       let passed = seeks.passes in
       let there = piece_there Is reader at after item piece seeks gives ok in
-      let less = shorter (standing reader).kind (standing at).state (standing at).bytes (view piece) (standing after).state (standing after).bytes there.0 in
+      let less = no_longer (standing reader).kind (standing at).state (standing at).bytes (view piece) (standing after).state (standing after).bytes there.0 in
       record {
         passes = (
           passed.0 ++ view piece ∷ [],

@@ -9,11 +9,26 @@ use Rattle.bstr.specs.BStr.{bstr_bytes}
 use Rattle.bstr.specs.Owned.{bstring_bytes}
 use Rattle.bstr.specs.declared.bstr.BStr.{BStr}
 use Rattle.bstr.specs.declared.bstring.BString.{BString}
-use Rattle.gixobj_fields.specs.HeaderText.{BeginsSeveralLines, EndsHeader, HasNoHeader, Header, following_text, line_text}
+use Rattle.gixobj_fields.specs.HeaderText.{BeginsSeveralLines, EndsHeader, HasField, HasNoHeader, Header, following_text, line_text}
 use Rattle.gixobj_texts.specs.Parse.{IsFree}
+use Rattle.gixobj_ids.specs.Hash.Hex.{IsHexOf}
 use Rattle.gixobj_ids.specs.declared.decode.Error.{Error}
 use Rattle.gixobj_ids.specs.declared.decode.Error.TheVariants.{Malformed, OutOfMemory}
+use Rattle.gixobj_ids.specs.Kind.{kind_word}
+use Rattle.gixobj_ids.specs.declared.hash.kind.Kind.{Kind}
+use Rattle.gixobj_ids.specs.declared.kind.Kind as object
 use Rattle.gixobj_texts.specs.Bytes.{newline}
+
+-- the input begins with a field whose value is the hex text of an id
+abbrev pub HasId : List ℕ → Kind → List ℕ → List ℕ → List ℕ → Type 0
+HasId name kind input hex rest = HasField name input hex rest × IsHexOf kind hex
+
+abbrev pub HasNoId : List ℕ → Kind → List ℕ → Type 0
+HasNoId name kind input = (hex rest : List ℕ) → ¬ HasId name kind input hex rest
+
+-- the input begins with no field whose value is the word of a kind of objects
+abbrev pub HasNoKind : List ℕ → List ℕ → Type 0
+HasNoKind name input = (kind : object.Kind) (rest : List ℕ) → ¬ HasField name input (kind_word kind) rest
 
 -- a header as it was read
 abbrev pub header_of : BStr × CowSlice ℕ Global → Header

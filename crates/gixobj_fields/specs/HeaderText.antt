@@ -25,6 +25,10 @@ pub record HasField (name input value rest : List ℕ) : Type 0 where
 abbrev pub HasNoField : List ℕ → List ℕ → Type 0
 HasNoField name input = (value rest : List ℕ) → ¬ HasField name input value rest
 
+-- the input does not begin with this name and a space
+abbrev pub LacksName : List ℕ → List ℕ → Type 0
+LacksName name input = (rest : List ℕ) → input ≢ name ++ space ∷ rest
+
 -- a header: a name and a value, which may have several lines
 pub record Header : Type 0 where
   pub name : List ℕ

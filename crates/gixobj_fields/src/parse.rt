@@ -1,13 +1,18 @@
 //! Header fields, read (gitdatamodel, "commits"; gitformat-signature, "Commit signatures").
-ghost use Rattle.std.specs.Prelude.{◌≡◌, ◌≢◌, ◌++◌, ◌∷◌, [], ℕ, List, IfErr, IfOk, IfSome, IfNone, MatchBool, MatchOption};
-ghost use Rattle.gixobj_fields.specs.HeaderReading.{BorrowsOneLine, HasNoLines, IsUnfolded, RefusesHeaderField, header_of};
-ghost use Rattle.gixobj_fields.specs.HeaderText.{EndsHeader, HasField, HasHeader, HasNoField, IsHeaderName};
+ghost use Rattle.std.specs.Prelude.{◌≡◌, ◌≢◌, ◌↔◌, ◌++◌, ◌∷◌, [], ℕ, List, IfErr, IfOk, IfSome, IfNone, IsTrue, MatchBool, MatchOption};
+ghost use Rattle.bstr.specs.BStr.{bstr_bytes};
+ghost use Rattle.gixobj_fields.specs.HeaderReading.{BorrowsOneLine, HasId, HasNoId, HasNoKind, HasNoLines, IsUnfolded, RefusesHeaderField, header_of};
+ghost use Rattle.gixobj_fields.specs.HeaderText.{EndsHeader, HasField, HasHeader, HasNoField, IsHeaderName, LacksName};
 ghost use Rattle.gixobj_texts.specs.Parse.{IsFree};
 ghost use Rattle.gixobj_ids.specs.declared.decode.Error.TheVariants.{Malformed};
+ghost use Rattle.gixobj_ids.specs.Kind.{IsNoKindWord, kind_word};
 ghost use Rattle.gixobj_texts.specs.Bytes.{newline, space};
 
 use bstr::BStr;
+use gixobj_ids::Kind as ObjectKind;
 use gixobj_ids::decode::Error;
+use gixobj_ids::hash::Kind;
+use gixobj_ids::parse::hex_hash;
 use gixobj_texts::parse::{has_byte, split_at_byte};
 use std::alloc::Global;
 use std::borrow::CowSlice;
@@ -28,10 +33,65 @@ pub fn header_field<'a>(input: &'a [u8], name: &[u8]) -> Option<(&'a [u8], &'a [
     Some((value, rest))
 }
 
+/// The hex text of an id of this kind that the header field of this name has, and what follows its
+/// line, or none where the input does not begin with such a field.
+pub fn header_id<'a>(input: &'a [u8], name: &[u8], kind: Kind) -> Option<(BStr<'a>, &'a [u8])>
+    ensures found { IfSome result (λ it. HasId name.now kind input.now (bstr_bytes it.0) it.1.now) }
+    ensures none { IfNone result (HasNoId name.now kind input.now) }
+{
+    let Some((value, rest)) = header_field(input, name) else {
+        return None;
+    };
+    let Some(hex) = hex_hash(value, kind) else {
+        return None;
+    };
+    Some((hex, rest))
+}
+
+/// The kind of objects whose word the header field of this name has, and what follows its line, or none
+/// where the input does not begin with such a field. It takes no memory.
+pub fn header_kind<'a>(input: &'a [u8], name: &[u8]) -> Option<(ObjectKind, &'a [u8])>
+    ensures found { IfSome result (λ it. HasField name.now input.now (kind_word it.0) it.1.now) }
+    ensures none { IfNone result (HasNoKind name.now input.now) }
+{
+    let Some((word, rest)) = header_field(input, name) else {
+        return None;
+    };
+    let Some(kind) = kind_of_word(word) else {
+        return None;
+    };
+    Some((kind, rest))
+}
+
+/// The kind of objects that the word names, or none.
+#[tactic(auto, using(crate::proofs::HeaderFields::no_kind_word))]
+fn kind_of_word(word: &[u8]) -> Option<ObjectKind>
+    ensures { MatchOption result (IsNoKindWord word.now) (λ kind. word.now ≡ kind_word kind) }
+{
+    if is_word(word, ObjectKind::Tree) {
+        Some(ObjectKind::Tree)
+    } else if is_word(word, ObjectKind::Blob) {
+        Some(ObjectKind::Blob)
+    } else if is_word(word, ObjectKind::Commit) {
+        Some(ObjectKind::Commit)
+    } else if is_word(word, ObjectKind::Tag) {
+        Some(ObjectKind::Tag)
+    } else {
+        None
+    }
+}
+
+/// Whether the word names this kind of objects.
+fn is_word(word: &[u8], kind: ObjectKind) -> bool
+    ensures { IsTrue result ↔ (word.now ≡ kind_word kind) }
+{
+    word == kind.as_bytes()
+}
+
 /// What stands after the name and a space at the front of the input.
 pub fn after_name<'a>(input: &'a [u8], name: &[u8]) -> Option<&'a [u8]>
     ensures found { IfSome result (λ rest. input.now ≡ name.now ++ space ∷ rest.now) }
-    ensures none { IfNone result ((rest : List ℕ) → input.now ≢ name.now ++ space ∷ rest) }
+    ensures none { IfNone result (LacksName name.now input.now) }
 {
     let Some(behind) = after_front(input, name) else {
         return None;
@@ -40,6 +100,16 @@ pub fn after_name<'a>(input: &'a [u8], name: &[u8]) -> Option<&'a [u8]>
         return None;
     };
     Some(rest)
+}
+
+/// What stands behind a newline at the front of the input. It takes no memory.
+pub fn after_newline(input: &[u8]) -> Option<&[u8]>
+    ensures { MatchOption result ((rest : List ℕ) → input.now ≢ newline ∷ rest) (λ rest. input.now ≡ newline ∷ rest.now) }
+{
+    match input {
+        [b'\n', rest @ ..] => Some(rest),
+        _ => None,
+    }
 }
 
 /// The header at the front of the input, of one line or of several, and what follows it.

@@ -1,5 +1,5 @@
 mod EmptyObjects
-mod Headers
+pub mod Headers
 pub mod HexCase
 mod HexDigits
 pub mod HexIds

@@ -3,7 +3,7 @@ use Rattle.std.proofs.Common.{◌≡◌, ◌≢◌, ℕ, List, ◌∷◌, ◌++�
 use Rattle.std.specs.Prelude.{codes}
 use Rattle.gixobj_actors.specs.Actor.{IsActor, IsNoActor}
 use Rattle.gixobj_fields.proofs.HeaderFields.{one_field}
-use Rattle.gixobj_fields.specs.HeaderReading.{RefusesHeaderField}
+use Rattle.gixobj_fields.specs.HeaderReading.{HasNoId, RefusesHeaderField}
 use Rattle.gixobj_fields.specs.HeaderText.{HasField, HasNoField, HasNoHeader}
 use Rattle.gixobj_fields.specs.Runs.{HasNoPiece}
 use Rattle.gixobj_ids.specs.Hash.Hex.{IsHexOf}
@@ -11,14 +11,11 @@ use Rattle.gixobj_ids.specs.declared.decode.Error.{Error}
 use Rattle.gixobj_ids.specs.declared.decode.Error.TheVariants.{Malformed, OutOfMemory}
 use Rattle.gixobj_ids.specs.declared.hash.kind.Kind.{Kind}
 use Rattle.gixobj_lines.proofs.OneLine.{begins, behind_name, first_bytes, free_encoding, named_after}
-use Rattle.gixobj_lines.specs.Lines.{HasLine, HasNoActor, HasNoId, LineView, RefusesLine, encoding_comes, first_header_comes, first_message_comes, header_comes, message_comes}
+use Rattle.gixobj_lines.specs.Lines.{HasLine, HasNoActor, LineView, RefusesLine, encoding_comes, first_header_comes, first_message_comes, header_comes, message_comes}
 use Rattle.gixobj_lines.specs.declared.lines.State.{State}
 use Rattle.gixobj_lines.specs.declared.lines.State.TheVariants as state
 
 -- ---- parts
-
-pub no_id_of_field : (name : List ℕ) (kind : Kind) (input value rest : List ℕ) → HasField name input value rest → (IsHexOf kind value → ⊥) → HasNoId name kind input
-no_id_of_field name kind input value rest field bad hex behind (second, is) = bad (subst (IsHexOf kind) (sym (one_field name input value rest hex behind field second).0) is)
 
 pub no_actor_of_field : (name input text rest : List ℕ) → HasField name input text rest → IsNoActor text → HasNoActor name input
 no_actor_of_field name input text rest field bad other behind (second, (actor, email, time, is)) =

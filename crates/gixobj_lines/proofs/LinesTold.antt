@@ -1,31 +1,20 @@
 -- The text of a commit is told as its lines.
 use Rattle.std.proofs.Common.{◌≡◌, ◌≢◌, ℕ, List, [], ◌∷◌, ◌++◌, All, Option, Some, None, arith, refl, sym, ap, subst, ◌∙◌, append_assoc}
 use Rattle.std.proofs.lemmas.List.Elements.{All-head, All-tail}
-use Rattle.std.specs.List.{AllPass, flat_map}
+use Rattle.std.specs.List.{flat_map}
 use Rattle.std.specs.Prelude.{codes, map}
+use Rattle.gixobj_fields.proofs.HeaderFields.{digits_are_one_line}
 use Rattle.gixobj_fields.specs.HeaderText.{EndsHeader, HasField, HasHeader, Header, IsHeaderText, field_text, following_text}
 use Rattle.gixobj_fields.specs.Runs.{Tells, complete, tells_end, tells_piece}
 use Rattle.gixobj_ids.specs.Hash.Hex.{IsHexOf}
 use Rattle.gixobj_ids.specs.declared.hash.kind.Kind.{Kind}
 use Rattle.gixobj_lines.specs.Commit.{AreHeaderTexts, CommitLines, IsCommitText, IsEncoding, encoding_lines, encoding_text, lines_of, parent_text}
-use Rattle.gixobj_lines.specs.Lines.{HasLine, LineView, NamesActor, author_comes, author_line, committer_comes, committer_line, encoding_comes, encoding_line, first_header_comes, first_message_comes, header_comes, header_line, message_comes, message_line, parent_comes, parent_line, tree_comes, tree_line}
+use Rattle.gixobj_lines.specs.Lines.{HasLine, LineView, author_comes, author_line, committer_comes, committer_line, encoding_comes, encoding_line, first_header_comes, first_message_comes, header_comes, header_line, message_comes, message_line, parent_comes, parent_line, tree_comes, tree_line}
+use Rattle.gixobj_actors.specs.Actor.{NamesActor}
 use Rattle.gixobj_lines.specs.declared.lines.State.TheVariants as state
 use Rattle.gixobj_texts.specs.Parse.{IsFree}
-use Rattle.hex.specs.Hex.{is_hex_digit}
-use Rattle.std.proofs.lemmas.Bool.{true≢false}
-use Rattle.std.proofs.lemmas.List.Elements.{All-cons, All-nil}
-use Rattle.std.proofs.Common.{true}
 
 -- ---- fields
-
-hex_digit_is_no_newline : (byte : ℕ) → is_hex_digit byte ≡ true → byte ≢ 10
-hex_digit_is_no_newline byte digit same = true≢false (sym digit ∙ ap is_hex_digit same)
-
-digits_are_one_line : (text : List ℕ) → AllPass is_hex_digit text → IsFree 10 text
-digits_are_one_line [] digits = All-nil (λ it. it ≢ 10)
-digits_are_one_line (byte ∷ text) digits =
-    let P : ℕ → Type 0 = λ it. is_hex_digit it ≡ true in
-    All-cons (λ it. it ≢ 10) byte text (hex_digit_is_no_newline byte (All-head P byte text digits)) (digits_are_one_line text (All-tail P byte text digits))
 
 pub field_there : (name value rest : List ℕ) → IsFree 10 value → HasField name (field_text name value ++ rest) value rest
 field_there name value rest free = record { joined = refl; one_line = free }

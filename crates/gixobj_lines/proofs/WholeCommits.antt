@@ -5,7 +5,7 @@ use Rattle.std.proofs.lemmas.List.Elements.{All-cons, All-head, All-nil, All-tai
 use Rattle.std.specs.List.{flat_map}
 use Rattle.std.specs.Prelude.{codes, map}
 use Rattle.gixobj_fields.proofs.Runs.{behind_passed, one_run, passes_one}
-use Rattle.gixobj_fields.specs.HeaderText.{BeginsSeveralLines, Header, IsHeaderText, field_text}
+use Rattle.gixobj_fields.specs.HeaderText.{BeginsSeveralLines, Header, IsHeaderText, LacksName, field_text}
 use Rattle.gixobj_fields.specs.Runs.{HasNoPiece, Passes, Tells, complete, tells_end, tells_piece}
 use Rattle.gixobj_ids.specs.Hash.{IsHexOfAnId}
 use Rattle.gixobj_ids.specs.Hash.Hex.{IsHexOf}
@@ -18,7 +18,7 @@ use Rattle.gixobj_lines.proofs.LinesTold.{text_told}
 use Rattle.gixobj_lines.proofs.OneLine.{no_line_of_nothing, one_line}
 use Rattle.gixobj_lines.specs.Commit.{CommitLines, IsCommitText, IsNoCommitText, ReachesHeader, ReachesSecondParent, RefusesCommit, encoding_lines, lines_of, parent_text}
 use Rattle.gixobj_lines.specs.Gathering.{Gathers, TakesMemory, gather, gathered, nothing}
-use Rattle.gixobj_lines.specs.Lines.{HasLine, LacksName, LineView, MayFold, RefusesLine, author_comes, author_line, committer_comes, committer_line, encoding_comes, first_header_comes, first_message_comes, header_comes, header_line, message_comes, message_line, parent_comes, parent_line, tree_comes, tree_line}
+use Rattle.gixobj_lines.specs.Lines.{HasLine, LineView, MayFold, RefusesLine, author_comes, author_line, committer_comes, committer_line, encoding_comes, first_header_comes, first_message_comes, header_comes, header_line, message_comes, message_line, parent_comes, parent_line, tree_comes, tree_line}
 use Rattle.gixobj_texts.specs.Parse.{IsFree}
 use Rattle.gixobj_lines.specs.declared.lines.State.{State}
 use Rattle.gixobj_lines.specs.declared.lines.State.TheVariants as state

@@ -6,7 +6,8 @@ use Rattle.gixobj_ids.specs.Hash.Hex.{IsHexOf}
 use Rattle.gixobj_ids.specs.declared.decode.Error.{Error}
 use Rattle.gixobj_ids.specs.declared.decode.Error.TheVariants.{Malformed, OutOfMemory}
 use Rattle.gixobj_ids.specs.declared.hash.kind.Kind.{Kind}
-use Rattle.gixobj_lines.specs.Lines.{LineView, NamesActor, author_line, committer_line, encoding_line, header_line, message_line, parent_line, tree_line}
+use Rattle.gixobj_lines.specs.Lines.{LineView, author_line, committer_line, encoding_line, header_line, message_line, parent_line, tree_line}
+use Rattle.gixobj_actors.specs.Actor.{NamesActor}
 use Rattle.gixobj_texts.specs.Bytes.{newline}
 use Rattle.gixobj_texts.specs.Parse.{IsFree}
 

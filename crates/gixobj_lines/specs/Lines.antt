@@ -1,19 +1,18 @@
 -- The lines of a commit, and which comes where (gitdatamodel, "commits").
 use Rattle.std.specs.Prelude.{◌≡◌, ◌≢◌, ℕ, List, [], ◌∷◌, ◌++◌, codes, ⊤}
 use Rattle.bstr.specs.BStr.{bstr_bytes}
-use Rattle.gixobj_actors.specs.Actor.{IsActor}
-use Rattle.gixobj_fields.specs.HeaderReading.{BorrowsOneLine, header_of}
-use Rattle.gixobj_fields.specs.HeaderText.{BeginsSeveralLines, HasField, HasHeader, Header}
+use Rattle.gixobj_actors.specs.Actor.{IsActor, NamesActor}
+use Rattle.gixobj_fields.specs.HeaderReading.{BorrowsOneLine, HasId, header_of}
+use Rattle.gixobj_fields.specs.HeaderText.{BeginsSeveralLines, HasField, HasHeader, Header, LacksName}
 use Rattle.gixobj_fields.specs.Runs.{Refuses}
 use Rattle.gixobj_ids.specs.Hash.{IsHexOfAnId}
-use Rattle.gixobj_ids.specs.Hash.Hex.{IsHexOf}
 use Rattle.gixobj_ids.specs.declared.decode.Error.{Error}
 use Rattle.gixobj_ids.specs.declared.hash.kind.Kind.{Kind}
 use Rattle.gixobj_lines.specs.declared.lines.Line.{Line}
 use Rattle.gixobj_lines.specs.declared.lines.Line.TheVariants as line
 use Rattle.gixobj_lines.specs.declared.lines.State.{State}
 use Rattle.gixobj_lines.specs.declared.lines.State.TheVariants as state
-use Rattle.gixobj_texts.specs.Bytes.{newline, space}
+use Rattle.gixobj_texts.specs.Bytes.{newline}
 
 -- a line, or a header of several, wherever it lies: hex texts of ids, lines of actors, an encoding, a header, the message
 pub data LineView : Type 0 where
@@ -47,17 +46,6 @@ HasHex (tree_line hex) = IsHexOfAnId hex
 HasHex (parent_line hex) = IsHexOfAnId hex
 HasHex _ = ⊤
 
--- the line is an actor
-abbrev pub NamesActor : List ℕ → Type 0
-NamesActor text = (name email time : List ℕ) × IsActor text name email time
-
--- the input begins with a field whose value is the hex text of an id
-abbrev pub HasId : List ℕ → Kind → List ℕ → List ℕ → List ℕ → Type 0
-HasId name kind input hex rest = HasField name input hex rest × IsHexOf kind hex
-
-abbrev pub HasNoId : List ℕ → Kind → List ℕ → Type 0
-HasNoId name kind input = (hex rest : List ℕ) → ¬ HasId name kind input hex rest
-
 -- the input begins with a field whose value is an actor
 abbrev pub HasActor : List ℕ → List ℕ → List ℕ → List ℕ → Type 0
 HasActor name input text rest = HasField name input text rest × NamesActor text
@@ -76,10 +64,6 @@ pub data HasLine (kind : Kind) : State → List ℕ → LineView → State → L
   header_comes : (input : List ℕ) (header : Header) (rest : List ℕ) → HasHeader input header rest → HasLine kind state.ExtraHeaders input (header_line header) state.ExtraHeaders rest
   first_message_comes : (input message : List ℕ) → input ≡ newline ∷ message → HasLine kind state.Encoding input (message_line message) state.End []
   message_comes : (input message : List ℕ) → input ≡ newline ∷ message → HasLine kind state.ExtraHeaders input (message_line message) state.End []
-
--- the input does not begin with this name and a space
-abbrev pub LacksName : List ℕ → List ℕ → Type 0
-LacksName name input = (rest : List ℕ) → input ≢ name ++ space ∷ rest
 
 -- a header of several lines may come here: directly behind the committer one that is not the encoding, which has one line
 abbrev pub MayFold : State → List ℕ → Type 0

@@ -3,17 +3,16 @@ ghost use Rattle.std.specs.Prelude.{◌≡◌, ◌≢◌, ◌∷◌, ℕ, List, 
 ghost use Rattle.bstr.specs.BStr.{bstr_bytes};
 ghost use Rattle.gixobj_actors.specs.Actor.{IsActor};
 ghost use Rattle.gixobj_ids.specs.declared.hash.kind.Kind.{Kind};
-ghost use Rattle.gixobj_lines.specs.Lines.{HasActor, HasId, HasLine, HasNoActor, HasNoId, IsParsed, RefusesLine, line_view};
+ghost use Rattle.gixobj_lines.specs.Lines.{HasActor, HasLine, HasNoActor, IsParsed, RefusesLine, line_view};
 ghost use Rattle.gixobj_lines.specs.declared.lines.State.TheVariants as state;
 ghost use Rattle.gixobj_texts.specs.Bytes.{newline};
 
 use bstr::BStr;
 use gixobj_actors::actor::SignatureRef;
 use gixobj_actors::parse::signature;
-use gixobj_fields::parse::{after_name, any_header_field, header_field};
+use gixobj_fields::parse::{after_name, after_newline, any_header_field, header_field, header_id};
 use gixobj_ids::decode::Error;
 use gixobj_ids::hash::Kind;
-use gixobj_ids::parse::hex_hash;
 use std::alloc::Global;
 use std::borrow::CowSlice;
 
@@ -85,7 +84,7 @@ fn read_tree(kind: Kind, input: &[u8]) -> Result<(Line<'_>, State, &[u8]), Error
     ensures parsed { IfOk result (λ it. IsParsed it.0) }
     ensures refusal { IfErr result (RefusesLine kind state.Tree input.now) }
 {
-    let Some((hex, rest)) = id_line(input, b"tree", kind) else {
+    let Some((hex, rest)) = header_id(input, b"tree", kind) else {
         return Err(Error::Malformed);
     };
     Ok((Line::Tree(hex), State::Parents, rest))
@@ -98,7 +97,7 @@ fn read_parent_or_author(kind: Kind, input: &[u8]) -> Result<(Line<'_>, State, &
     ensures parsed { IfOk result (λ it. IsParsed it.0) }
     ensures refusal { IfErr result (RefusesLine kind state.Parents input.now) }
 {
-    if let Some((hex, rest)) = id_line(input, b"parent", kind) {
+    if let Some((hex, rest)) = header_id(input, b"parent", kind) {
         return Ok((Line::Parent(hex), State::Parents, rest));
     }
     let Some((line, actor, rest)) = actor_line(input, b"author") else {
@@ -152,30 +151,6 @@ fn read_header_or_message(alloc: Global, input: &[u8]) -> Result<(Line<'_>, Stat
     }
     let (header, rest) = any_header_field(alloc, input)?;
     Ok((Line::ExtraHeader(header), State::ExtraHeaders, rest))
-}
-
-/// What stands behind a newline at the front of the input.
-fn after_newline(input: &[u8]) -> Option<&[u8]>
-    ensures { MatchOption result ((rest : List ℕ) → input.now ≢ newline ∷ rest) (λ rest. input.now ≡ newline ∷ rest.now) }
-{
-    match input {
-        [b'\n', rest @ ..] => Some(rest),
-        _ => None,
-    }
-}
-
-/// The id of the field of this name at the front, in hex, and what follows its line.
-fn id_line<'a>(input: &'a [u8], name: &[u8], kind: Kind) -> Option<(BStr<'a>, &'a [u8])>
-    ensures found { IfSome result (λ it. HasId name.now kind input.now (bstr_bytes it.0) it.1.now) }
-    ensures none { IfNone result (HasNoId name.now kind input.now) }
-{
-    let Some((value, rest)) = header_field(input, name) else {
-        return None;
-    };
-    let Some(hex) = hex_hash(value, kind) else {
-        return None;
-    };
-    Some((hex, rest))
 }
 
 /// The line of the actor in the field of this name at the front, the actor, and what follows it.

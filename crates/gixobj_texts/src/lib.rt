@@ -1,4 +1,5 @@
-//! Texts cut at a byte, and numbers in digits.
+//! Texts cut at a byte, texts that may be missing, and numbers in digits.
 #![tactic(auto)]
 
+pub mod optional;
 pub mod parse;

@@ -1,5 +1,5 @@
 -- Runs of tokens, and readers that look for a token.
-use Rattle.std.proofs.Common.{◌≡◌, ◌<◌, ℕ, List, length}
+use Rattle.std.proofs.Common.{◌≡◌, ◌<◌, ◌≤◌, ℕ, List, arith, length}
 use Rattle.std.specs.Prelude.{Some, None, Result, Ok, Err}
 use Rattle.gixobj_fields.proofs.Readers as readers
 use Rattle.gixobj_fields.proofs.Runs as runs
@@ -29,35 +29,38 @@ texts_of_run kind = runs.texts_of_run (HasToken kind) (IsTokenText kind) (text_o
 pub shorter : (kind : Kind) (before : State) (input : List ℕ) (token : TokenView) (behind : State) (rest : List ℕ) → HasToken kind before input token behind rest → length rest < length input
 shorter kind before input token behind rest (line, has, tells) = line_shortens kind before input line behind rest has
 
+pub no_longer : (kind : Kind) (before : State) (input : List ℕ) (token : TokenView) (behind : State) (rest : List ℕ) → HasToken kind before input token behind rest → length rest ≤ length input
+no_longer kind before input token behind rest has = let less = shorter kind before input token behind rest has in omega (arith, less)
+
 -- the reader came from that one past tokens that are none such
 abbrev pub Seeks : (TokenView → Type 0) → CommitRefIter → CommitRefIter → Type 0
-Seeks = readers.Seeks standing HasToken (λ kind. WantsMemory) token_view BorrowsValue shorter
+Seeks = readers.Seeks standing HasToken (λ kind. WantsMemory) token_view BorrowsValue no_longer
 
 pub seeks_start : (Is : TokenView → Type 0) (reader : CommitRefIter) → Seeks Is reader reader
-seeks_start = readers.seeks_start standing HasToken (λ kind. WantsMemory) token_view BorrowsValue shorter
+seeks_start = readers.seeks_start standing HasToken (λ kind. WantsMemory) token_view BorrowsValue no_longer
 
 pub seeks_on : (Is : TokenView → Type 0) (reader at after : CommitRefIter) (item : Result Token Error) (token : Token) → Seeks Is reader at → GivesToken at (Some item) after → item ≡ Ok token
     → ¬ Is (token_view token) → Seeks Is reader after
-seeks_on = readers.seeks_on standing HasToken (λ kind. WantsMemory) token_view BorrowsValue shorter
+seeks_on = readers.seeks_on standing HasToken (λ kind. WantsMemory) token_view BorrowsValue no_longer
 
 pub seeks_first : (Is : TokenView → Type 0) (reader at after : CommitRefIter) (item : Result Token Error) (token : Token) → Seeks Is reader at → GivesToken at (Some item) after → item ≡ Ok token → FindsFirst Is reader (token_view token)
-seeks_first = readers.seeks_first standing HasToken (λ kind. WantsMemory) token_view BorrowsValue shorter
+seeks_first = readers.seeks_first standing HasToken (λ kind. WantsMemory) token_view BorrowsValue no_longer
 
 pub seeks_fault : (Is : TokenView → Type 0) (reader at after : CommitRefIter) (item : Result Token Error) (given error : Error) → given ≡ error → Seeks Is reader at → GivesToken at (Some item) after → item ≡ Err error → FindsFault Is reader given
-seeks_fault = readers.seeks_fault standing HasToken (λ kind. WantsMemory) token_view BorrowsValue shorter
+seeks_fault = readers.seeks_fault standing HasToken (λ kind. WantsMemory) token_view BorrowsValue no_longer
 
 pub seeks_error : (Is : TokenView → Type 0) (reader at after : CommitRefIter) (item : Result Token Error) (given error : Error) → given ≡ error → Seeks Is reader at → GivesToken at (Some item) after → item ≡ Err error → FindsNone Is reader given
-seeks_error = readers.seeks_error standing HasToken (λ kind. WantsMemory) token_view BorrowsValue shorter
+seeks_error = readers.seeks_error standing HasToken (λ kind. WantsMemory) token_view BorrowsValue no_longer
 
 pub seeks_end : (Is : TokenView → Type 0) (reader at after : CommitRefIter) → Seeks Is reader at → GivesToken at None after → LacksAll Is reader complete
-seeks_end = readers.seeks_end standing HasToken (λ kind. WantsMemory) token_view BorrowsValue shorter
+seeks_end = readers.seeks_end standing HasToken (λ kind. WantsMemory) token_view BorrowsValue no_longer
 
 pub reads_first : (Is This : TokenView → Type 0) (reader at after : CommitRefIter) (item : Result Token Error) (token : Token) → Seeks Is reader at → GivesToken at (Some item) after → item ≡ Ok token → This (token_view token)
     → ReadsFirst Is This reader after
-reads_first = readers.reads_first standing HasToken (λ kind. WantsMemory) token_view BorrowsValue shorter
+reads_first = readers.reads_first standing HasToken (λ kind. WantsMemory) token_view BorrowsValue no_longer
 
 pub reads_error : (Is : TokenView → Type 0) (reader at after : CommitRefIter) (item : Result Token Error) (error : Error) → Seeks Is reader at → GivesToken at (Some item) after → item ≡ Err error → ReadsNone Is reader after
-reads_error = readers.reads_error standing HasToken (λ kind. WantsMemory) token_view BorrowsValue shorter
+reads_error = readers.reads_error standing HasToken (λ kind. WantsMemory) token_view BorrowsValue no_longer
 
 pub reads_end : (Is : TokenView → Type 0) (reader at after : CommitRefIter) → Seeks Is reader at → GivesToken at None after → ReadsNone Is reader after
-reads_end = readers.reads_end standing HasToken (λ kind. WantsMemory) token_view BorrowsValue shorter
+reads_end = readers.reads_end standing HasToken (λ kind. WantsMemory) token_view BorrowsValue no_longer

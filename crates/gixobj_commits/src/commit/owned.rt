@@ -1,20 +1,23 @@
 //! Commits with parts of their own, copied from borrowed ones.
 ghost use Rattle.std.specs.Prelude.{◌≡◌, ℕ, All, IfOk, List, map};
 ghost use Rattle.bstr.specs.BStr.{bstr_bytes};
-ghost use Rattle.gixobj_actors.specs.Actor.{IsActor};
+ghost use Rattle.gixobj_actors.specs.Actor.{IsActor, IsOwnedActor};
 ghost use Rattle.std.specs.List.{AllZip};
 ghost use Rattle.gixobj_ids.specs.Hash.{IsHexOfAnId, Spells};
 ghost use Rattle.gixobj_fields.specs.HeaderReading.{header_of, owned_header_of};
-ghost use Rattle.gixobj_commits.specs.CommitOwned.{IsOwnedActor, IsOwnedForm};
-ghost use Rattle.gixobj_commits.specs.CommitViews.{bytes_if_some, commit_lines, owned_bytes_if_some};
+ghost use Rattle.gixobj_commits.specs.CommitOwned.{IsOwnedForm};
+ghost use Rattle.gixobj_commits.specs.CommitViews.{commit_lines};
+ghost use Rattle.gixobj_texts.specs.Optional.{bytes_if_some, owned_bytes_if_some};
 ghost use Rattle.gixobj_commits.specs.CommitWriting.{HasIds};
 
 use super::{Commit, CommitRef};
 use bstr::{BStr, BString};
-use gixobj_actors::actor::{Signature, SignatureRef};
+use gixobj_actors::actor::SignatureRef;
+use gixobj_actors::parse::owned_actor;
 use gixobj_ids::OutOfMemory;
 use gixobj_ids::hash::ObjectId;
 use gixobj_ids::parse::id_of_hex;
+use gixobj_texts::optional::copied;
 use smallvec::SmallVec;
 use std::alloc::Global;
 use std::borrow::CowSlice;
@@ -35,19 +38,12 @@ pub(super) fn commit(
     Ok(Commit {
         tree: commit.tree(),
         parents: ids(alloc, commit.parents.as_slice())?,
-        author: actor(alloc, author)?,
-        committer: actor(alloc, committer)?,
-        encoding: encoding(alloc, commit.encoding)?,
+        author: owned_actor(alloc, author)?,
+        committer: owned_actor(alloc, committer)?,
+        encoding: copied(alloc, commit.encoding)?,
         message: BString::from_slice(alloc, commit.message.as_bytes())?,
         extra_headers: headers(alloc, &commit.extra_headers)?,
     })
-}
-
-/// A copy of an actor, as it stands, with the time that it says.
-fn actor(alloc: Global, actor: SignatureRef<'_>) -> Result<Signature, OutOfMemory>
-    ensures { IfOk result (λ it. (line : List ℕ) → IsActor line (bstr_bytes actor.entry.name) (bstr_bytes actor.entry.email) (bstr_bytes actor.entry.time) → IsOwnedActor line it) }
-{
-    actor.to_owned(alloc)
 }
 
 /// The ids that hex texts spell.
@@ -60,16 +56,6 @@ fn ids(alloc: Global, hexes: &[BStr<'_>]) -> Result<SmallVec<ObjectId, 1>, OutOf
         ids.push(id_of_hex(*hex))?;
     }
     Ok(ids)
-}
-
-/// A copy of an encoding.
-fn encoding(alloc: Global, encoding: Option<BStr<'_>>) -> Result<Option<BString>, OutOfMemory>
-    ensures { IfOk result (λ it. owned_bytes_if_some it ≡ bytes_if_some encoding.entry) }
-{
-    match encoding {
-        Some(name) => Ok(Some(BString::from_slice(alloc, name.as_bytes())?)),
-        None => Ok(None),
-    }
 }
 
 /// Copies of headers.

@@ -7,7 +7,7 @@ ghost use Rattle.gixobj_fields.specs.HeaderText.{field_text};
 ghost use Rattle.gixobj_fields.specs.Streams.{Puts, PutsOrFails};
 ghost use Rattle.gixobj_fields.specs.Writing.{AddsSize, IsSize, RefusesNothing, SaysWhy};
 ghost use Rattle.gixobj_lines.specs.Commit.{encoding_text};
-ghost use Rattle.gixobj_commits.specs.CommitViews.{bytes_if_some};
+ghost use Rattle.gixobj_texts.specs.Optional.{bytes_if_some};
 ghost use Rattle.gixobj_commits.specs.CommitWriting.{RefusesEncodingLine};
 ghost use Rattle.gixobj_texts.specs.Bytes.{newline};
 

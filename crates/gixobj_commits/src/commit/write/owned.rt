@@ -1,15 +1,13 @@
 //! Owned commits, written (gitdatamodel, "commits").
-ghost use Rattle.std.specs.Prelude.{◌≡◌};
-ghost use Rattle.gixobj_commits.specs.CommitViews.{bytes_if_some, owned_bytes_if_some};
 
 use super::super::Commit;
 use super::{ids_size, put_ids, put_rest, size_with_rest};
-use bstr::{BStr, BString};
 use gixobj_actors::encode::{size_with_signature, trusted_header_signature};
 use gixobj_fields::WriteTo;
 use gixobj_fields::encode::Error;
 use gixobj_fields::streams::Sink;
 use gixobj_ids::Kind;
+use gixobj_texts::optional::borrowed;
 use std::alloc::Global;
 
 /// A commit is written with its actors and their times as these are written.
@@ -50,15 +48,5 @@ impl WriteTo for Commit {
         let lines = size_with_signature(with_author, b"committer", &self.committer)?;
         let all = size_with_rest(lines, encoding, headers, message)?;
         Some(all)
-    }
-}
-
-/// The encoding, borrowed.
-fn borrowed(encoding: &Option<BString>) -> Option<BStr<'_>>
-    ensures { bytes_if_some result ≡ owned_bytes_if_some encoding.now }
-{
-    match encoding {
-        Some(encoding) => Some(encoding.as_bstr()),
-        None => None,
     }
 }

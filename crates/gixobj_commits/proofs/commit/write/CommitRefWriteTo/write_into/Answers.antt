@@ -5,7 +5,8 @@ use Rattle.gixobj_fields.proofs.Refusals.{says_why_behind}
 use Rattle.gixobj_ids.specs.Hash.{IsHexOfAnId}
 use Rattle.gixobj_commits.proofs.CommitWrites.{borrowed_as_put, borrowed_refused, each_mapped}
 use Rattle.gixobj_fields.proofs.Steps.{all_put, first_front, fourth_front, second_front, third_front, three_put}
-use Rattle.gixobj_commits.specs.CommitViews.{bytes_if_some, commit_lines}
+use Rattle.gixobj_commits.specs.CommitViews.{commit_lines}
+use Rattle.gixobj_texts.specs.Optional.{bytes_if_some}
 use Rattle.gixobj_commits.specs.CommitWriting.{RefusesLines, in_lower_case, RefusesEncodingLine}
 use Rattle.gixobj_commits.proofs.commit.write.CommitRefWriteTo.write_into.Goals as goal
 

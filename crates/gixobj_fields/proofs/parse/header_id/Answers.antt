@@ -1,7 +1,7 @@
 use Rattle.std.proofs.lemmas.Bool.{true≢false}
 use Rattle.std.proofs.Common.{sym}
-use Rattle.gixobj_lines.proofs.LineRefusals.{no_id_of_field}
-use Rattle.gixobj_lines.proofs.lines.id_line.Goals as goal
+use Rattle.gixobj_fields.proofs.HeaderFields.{no_id_of_field}
+use Rattle.gixobj_fields.proofs.parse.header_id.Goals as goal
 
 pub returns-in_default-hex_hash-clause-none : goal.returns-in_default-hex_hash-clause-none
 returns-in_default-hex_hash-clause-none c =
