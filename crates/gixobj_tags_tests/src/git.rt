@@ -129,11 +129,12 @@ impl<'a> Told<'a> {
 
     /// Whether this is what is read of a tag, its tagger aside.
     fn is_read_in(&self, tag: &TagRef<'_>) -> bool {
-        self.kind == Some(tag.target_kind)
-            && self.name == Some(tag.name)
-            && self.tagger.is_some() == tag.tagger.is_some()
-            && self.message == tag.message
-            && self.signature == tag.signature
+        let same_kind = self.kind == Some(tag.target_kind);
+        let same_name = self.name == Some(tag.name);
+        let same_tagger = self.tagger.is_some() == tag.tagger.is_some();
+        let same_message = self.message == tag.message;
+        let same_signature = self.signature == tag.signature;
+        same_kind && same_name && same_tagger && same_message && same_signature
     }
 }
 

@@ -74,8 +74,8 @@ fn tags_that_are_equal(rt: HostRuntime) -> Result<(), Fail> {
     Ok(())
 }
 
-/// The same row, owned, but for the last tag.
-fn owned_tags_in_a_row(alloc: Global, first: &Tag) -> Result<Vec<Tag>, Fail> {
+/// The same, owned, where each but the first has one field that is greater.
+fn owned_tags_in_a_row(alloc: Global, first: Tag) -> Result<Vec<Tag>, Fail> {
     let mut signed = first.clone()?;
     signed.signature = Some(BString::from_slice(alloc, b"")?);
     let mut told = first.clone()?;
@@ -89,7 +89,7 @@ fn owned_tags_in_a_row(alloc: Global, first: &Tag) -> Result<Vec<Tag>, Fail> {
     let mut of_other = first.clone()?;
     of_other.target = ObjectId::empty_blob(hash::Kind::Sha1);
     let mut tags = Vec::new(alloc);
-    for tag in [signed, told, tagged, named, of_blob, of_other] {
+    for tag in [first, signed, told, tagged, named, of_blob, of_other] {
         tags.push(tag)?;
     }
     Ok(tags)
@@ -108,14 +108,28 @@ fn actor() -> SignatureRef<'static> {
 fn owned_tags_in_order(rt: HostRuntime) -> Result<(), Fail> {
     let alloc = rt.alloc();
     let first = TagRef::from_bytes(BARE, hash::Kind::Sha1)?.into_owned(alloc)?;
-    let tags = owned_tags_in_a_row(alloc, &first)?;
-    let mut before = &first;
+    let tags = owned_tags_in_a_row(alloc, first)?;
+    assert_eq!(rt; tags.len(), 7);
+    for (first, second) in tags.iter().zip(tags.iter().skip(1)) {
+        assert!(rt; *first < *second);
+        assert!(rt; hash_of(first) != hash_of(second));
+    }
+    Ok(())
+}
+
+/// Whether a copy of a tag is equal to it.
+fn is_equal_to_its_copy(tag: &Tag) -> Result<bool, Fail> {
+    let same = tag.clone()?;
+    Ok(same == *tag && hash_of(&same) == hash_of(tag))
+}
+
+#[test]
+fn owned_tags_and_their_copies(rt: HostRuntime) -> Result<(), Fail> {
+    let alloc = rt.alloc();
+    let first = TagRef::from_bytes(BARE, hash::Kind::Sha1)?.into_owned(alloc)?;
+    let tags = owned_tags_in_a_row(alloc, first)?;
     for tag in tags.iter() {
-        assert!(rt; before < tag);
-        assert!(rt; hash_of(before) != hash_of(tag));
-        assert!(rt; tag.clone()? == *tag);
-        assert!(rt; hash_of(&tag.clone()?) == hash_of(tag));
-        before = tag;
+        assert!(rt; is_equal_to_its_copy(tag)?);
     }
     Ok(())
 }
