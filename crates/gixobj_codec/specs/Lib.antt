@@ -2,9 +2,6 @@ pub use Rattle.gixobj_actors.specs.Actor
 pub use Rattle.gixobj_actors.specs.ActorWriting
 pub use Rattle.gixobj_actors.specs.Date
 pub use Rattle.gixobj_actors.specs.declared as actors
-pub use Rattle.gixobj_lines.specs.Commit
-pub use Rattle.gixobj_lines.specs.Lines
-pub use Rattle.gixobj_lines.specs.declared as lines
 pub use Rattle.gixobj_commits.specs.CommitOwned
 pub use Rattle.gixobj_commits.specs.CommitViews
 pub use Rattle.gixobj_commits.specs.CommitWriting
@@ -13,6 +10,7 @@ pub use Rattle.gixobj_commits.specs.declared as commits
 pub use Rattle.gixobj_data.specs.declared as unread
 pub use Rattle.gixobj_extra_headers.specs.ExtraHeaders
 pub use Rattle.gixobj_extra_headers.specs.HeadersLeft
+pub use Rattle.gixobj_extra_headers.specs.Mergetags
 pub use Rattle.gixobj_extra_headers.specs.ParentsLeft
 pub use Rattle.gixobj_extra_headers.specs.declared as extra_headers
 pub use Rattle.gixobj_fields.specs.FieldWriting
@@ -26,9 +24,28 @@ pub use Rattle.gixobj_ids.specs.Decode
 pub use Rattle.gixobj_ids.specs.Encode
 pub use Rattle.gixobj_ids.specs.Hash
 pub use Rattle.gixobj_ids.specs.Kind
-pub use Rattle.gixobj_texts.specs.Bytes
-pub use Rattle.gixobj_texts.specs.Parse
 pub use Rattle.gixobj_ids.specs.declared as ids
+pub use Rattle.gixobj_lines.specs.Commit
+pub use Rattle.gixobj_lines.specs.Lines
+pub use Rattle.gixobj_lines.specs.declared as lines
+pub use Rattle.gixobj_signing.specs.Markers
+pub use Rattle.gixobj_signing.specs.declared as signing
+pub use Rattle.gixobj_tag_names.specs.NameRule
+pub use Rattle.gixobj_tag_names.specs.declared as tag_names
+pub use Rattle.gixobj_tags.specs.LineReading
+pub use Rattle.gixobj_tags.specs.Readers as TagReaders
+pub use Rattle.gixobj_tags.specs.Rewriting as TagRewriting
+pub use Rattle.gixobj_tags.specs.Signed
+pub use Rattle.gixobj_tags.specs.TagOwned
+pub use Rattle.gixobj_tags.specs.TagText
+pub use Rattle.gixobj_tags.specs.TagTokens
+pub use Rattle.gixobj_tags.specs.TagViews
+pub use Rattle.gixobj_tags.specs.TagWriting
+pub use Rattle.gixobj_tags.specs.TokenGiving as TagTokenGiving
+pub use Rattle.gixobj_tags.specs.declared as tags
+pub use Rattle.gixobj_texts.specs.Bytes
+pub use Rattle.gixobj_texts.specs.Optional
+pub use Rattle.gixobj_texts.specs.Parse
 pub use Rattle.gixobj_tokens.specs.CommitRuns
 pub use Rattle.gixobj_tokens.specs.CommitTokens
 pub use Rattle.gixobj_tokens.specs.Readers

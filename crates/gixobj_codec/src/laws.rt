@@ -1,4 +1,4 @@
-//! Laws of commits: most functions here do nothing, and their contract is the law.
+//! Laws of commits and tags: most functions here do nothing, and their contract is the law.
 
 pub use gixobj_commits::laws::{
     commit_has_one_reading, commit_reads_and_writes, commit_writes_back, owned_forms_have_the_parts,
@@ -6,4 +6,8 @@ pub use gixobj_commits::laws::{
 pub use gixobj_extra_headers::laws::{borrowed_headers_are_found, owned_headers_are_found};
 pub use gixobj_fields::laws::header_reads_back;
 pub use gixobj_ids::laws::hex_spells_one_id;
+pub use gixobj_tags::laws::{
+    owned_tags_have_the_parts, parts_of_tags_are_found, tag_has_one_reading, tag_reads_and_writes,
+    tag_readers_read_one_language, tag_tokens_have_one_reading, tag_writes_back,
+};
 pub use gixobj_tokens::laws::{readers, tokens};

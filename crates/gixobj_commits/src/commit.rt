@@ -23,7 +23,7 @@ use gixobj_actors::actor::{Signature, SignatureRef};
 use gixobj_actors::date::Time;
 use gixobj_actors::parse::{actor_of_line, trimmed_actor};
 pub use gixobj_extra_headers::{
-    BorrowedHeaders, ExtraHeaders, FindAll, OwnedHeaders, Parents, SIGNATURE_FIELD_NAME,
+    BorrowedHeaders, ExtraHeaders, FindAll, Mergetags, OwnedHeaders, Parents, SIGNATURE_FIELD_NAME,
     SIGNATURE_FIELD_NAME_SHA256, signature_field_name,
 };
 use gixobj_ids::decode::Error;

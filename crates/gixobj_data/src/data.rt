@@ -1,9 +1,11 @@
 //! Objects whose content is not yet read.
 ghost use Rattle.std.specs.Prelude.{◌≡◌, ◌↔◌, IfSome, IsSome};
 ghost use Rattle.gixobj_ids.specs.declared.kind.Kind.TheVariants as object;
+ghost use Rattle.gixobj_tags.specs.TokenGiving.{IsAtStart as IsAtStartOfTag};
 ghost use Rattle.gixobj_tokens.specs.TokenGiving.{IsAtStart};
 
 use gixobj_ids::{Kind, hash};
+use gixobj_tags::TagRefIter;
 use gixobj_tokens::CommitRefIter;
 use std::alloc::Global;
 
@@ -44,6 +46,18 @@ impl<'a> Data<'a> {
     {
         match self.kind {
             Kind::Commit => Some(CommitRefIter::from_bytes(alloc, self.bytes, self.object_hash)),
+            _ => None,
+        }
+    }
+
+    /// A reader that tells the tag token by token, or none where the object is of another kind.
+    /// It takes no memory.
+    pub fn try_into_tag_iter(self) -> Option<TagRefIter<'a>>
+        ensures accepts { IsSome result ↔ (self.entry.kind ≡ object.Tag) }
+        ensures reader { IfSome result (IsAtStartOfTag self.entry.object_hash self.entry.bytes.now) }
+    {
+        match self.kind {
+            Kind::Tag => Some(TagRefIter::from_bytes(self.bytes, self.object_hash)),
             _ => None,
         }
     }

@@ -1,13 +1,16 @@
 //! The headers of commits behind those that each has.
-ghost use Rattle.std.specs.Prelude.{◌≡◌, ◌↔◌, ◌<◌, ◌^◌, IsTrue, map};
+ghost use Rattle.std.specs.Prelude.{◌≡◌, ◌↔◌, ◌<◌, ◌^◌, IsTrue, codes, map};
 ghost use Rattle.bstr.specs.BStr.{bstr_bytes};
 ghost use Rattle.std.specs.Iterator.{IsFinite, MakesProgress, size};
 ghost use Rattle.gixobj_fields.specs.HeaderReading.{header_of, owned_header_of};
 ghost use Rattle.gixobj_extra_headers.specs.ExtraHeaders.{FindsPlace, FindsValue, GivesValue, hash_kind_of, iterator_of, searched, signature_field, sought};
 ghost use Rattle.gixobj_extra_headers.specs.HeadersLeft.{headers_left, owned_headers_left};
+ghost use Rattle.gixobj_extra_headers.specs.Mergetags.{IsTagOf, mergetag_kind, mergetag_values};
 
 use bstr::{BStr, BString};
+use gixobj_ids::decode::Error;
 use gixobj_ids::hash::Kind;
+use gixobj_tags::TagRef;
 use std::borrow::CowSlice;
 
 /// The name of the header with the signature of a commit whose ids are of SHA-1.
@@ -89,6 +92,20 @@ impl<'a, I: Iterator<Item = (BStr<'a>, BStr<'a>)> + Drop> ExtraHeaders<I> {
         }
     }
 
+    /// The tags that were merged: of each header `mergetag`, in order, the tag that its value is, or why it
+    /// is none (git-merge, "MERGING TAG"). Making it reads nothing. It takes no memory.
+    pub fn mergetags(self) -> Mergetags<'a, I>
+        ensures headers { searched (mergetag_values result) ≡ iterator_of self }
+        ensures name { sought (mergetag_values result) ≡ codes "mergetag" }
+        ensures hash_kind { mergetag_kind result ≡ hash_kind_of self }
+    {
+        let hash_kind = self.hash_kind;
+        Mergetags {
+            values: self.find_all("mergetag"),
+            hash_kind,
+        }
+    }
+
     /// The signature of the commit: the value of the first header that is named as
     /// [`signature_field_name`] says for the kind of its ids, or none. It takes no memory.
     pub fn pgp_signature(self) -> Option<BStr<'a>>
@@ -123,6 +140,45 @@ impl<'a, I: Iterator<Item = (BStr<'a>, BStr<'a>)> + Drop> Iterator for FindAll<'
 
     fn next(&mut self) -> Option<BStr<'a>> {
         next_value(&mut self.inner, self.name)
+    }
+}
+
+/// The tags in headers of a commit, in order, each read whole.
+#[derive(Drop)]
+pub struct Mergetags<'a, I> {
+    values: FindAll<'a, I>,
+    hash_kind: Kind,
+}
+
+/// `Malformed` where the value of a header is no tag's text. It takes no memory.
+impl<'a, I: Iterator<Item = (BStr<'a>, BStr<'a>)> + Drop> Iterator for Mergetags<'a, I> {
+    ghost use Rattle.std.specs.Iterator.{IsFinite};
+    ghost use Rattle.gixobj_extra_headers.specs.ExtraHeaders.{searched};
+    ghost use Rattle.gixobj_extra_headers.specs.Mergetags.{GivesMergetag, mergetag_values};
+
+    type Item = Result<TagRef<'a>, Error>;
+
+    ghost can_next = { λ s. I.can_next (searched (mergetag_values s)) × IsFinite (I.remaining (searched (mergetag_values s))) };
+
+    ghost next_gives = { GivesMergetag I.next_gives };
+
+    ghost remaining = { λ s. I.remaining (searched (mergetag_values s)) };
+
+    fn next(&mut self) -> Option<Result<TagRef<'a>, Error>> {
+        match self.values.next() {
+            Some(value) => Some(read_tag(value, self.hash_kind)),
+            None => None,
+        }
+    }
+}
+
+/// The tag that the value is.
+fn read_tag(value: BStr<'_>, hash_kind: Kind) -> Result<TagRef<'_>, Error>
+    ensures { IsTagOf hash_kind value.entry result }
+{
+    match TagRef::from_bytes(value.as_bytes(), hash_kind) {
+        Ok(tag) => Ok(tag),
+        Err(error) => Err(error),
     }
 }
 

@@ -7,7 +7,7 @@ pub mod laws;
 mod parents;
 
 pub use extra_headers::{
-    BorrowedHeaders, ExtraHeaders, FindAll, OwnedHeaders, SIGNATURE_FIELD_NAME,
+    BorrowedHeaders, ExtraHeaders, FindAll, Mergetags, OwnedHeaders, SIGNATURE_FIELD_NAME,
     SIGNATURE_FIELD_NAME_SHA256, signature_field_name,
 };
 pub use parents::Parents;

@@ -1,6 +1,5 @@
 pub mod Bodies
 pub mod Lines
-pub mod Names
 mod TagWrites
 mod OneLanguage
 mod TagsFound

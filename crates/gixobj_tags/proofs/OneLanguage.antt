@@ -1,7 +1,7 @@
 -- The two readers of tags read one language.
-use Rattle.std.proofs.Common.{◌≡◌, ◌≢◌, ℕ, List, [], ◌∷◌, ◌++◌, Option, Some, None, ap, inl, inr, refl, subst, sym, ◌∙◌}
+use Rattle.std.proofs.Common.{◌≡◌, ◌≢◌, ℕ, List, [], ◌∷◌, ◌++◌, Option, Some, None, ap, inl, inr, refl, subst, sym}
 use Rattle.std.specs.Prelude.{codes}
-use Rattle.gixobj_actors.specs.Actor.{BeginsWithActor, IsActorLine}
+use Rattle.gixobj_actors.specs.Actor.{IsActorLine}
 use Rattle.gixobj_fields.specs.HeaderReading.{HasId}
 use Rattle.gixobj_fields.specs.HeaderText.{HasField}
 use Rattle.gixobj_fields.specs.Runs.{complete, tells_end, tells_piece}
@@ -14,12 +14,11 @@ use Rattle.gixobj_ids.specs.declared.hash.kind.Kind.TheVariants as of_hash
 use Rattle.gixobj_ids.specs.declared.hash.object_id.ObjectId.{ObjectId}
 use Rattle.gixobj_ids.specs.declared.kind.Kind.{Kind}
 use Rattle.gixobj_tags.proofs.Bodies.{one_body}
-use Rattle.gixobj_tags.proofs.TokenRuns.{one_run}
 use Rattle.gixobj_tags.proofs.WholeTags.{Reads, put_together, take_apart}
 use Rattle.gixobj_tags.specs.LineReading.{HasName, HasTagger}
-use Rattle.gixobj_tags.specs.Readers.{AreTokensOf, MayMiss, NameCame, TellsAll, TellsTagger, misses_body, misses_nothing, misses_tagger_and_body, tells_no_tagger, tells_tagger}
+use Rattle.gixobj_tags.specs.Readers.{AreTokensOf, MayMiss, NameCame, TellsTagger, misses_body, misses_nothing, misses_tagger_and_body, tells_no_tagger, tells_tagger}
 use Rattle.gixobj_tags.specs.TagText.{IsBody, IsTagText, TagLines, newlines_alone}
-use Rattle.gixobj_tags.specs.TagTokens.{HasToken, TokenView, body_comes, body_token, kind_comes, kind_token, name_comes, name_token, no_tagger_comes, no_tagger_token, tagger_comes, tagger_token, target_comes, target_token}
+use Rattle.gixobj_tags.specs.TagTokens.{TokenView, body_comes, body_token, kind_comes, kind_token, name_comes, name_token, no_tagger_comes, no_tagger_token, tagger_comes, tagger_token, target_comes, target_token}
 use Rattle.gixobj_tags.specs.TokenGiving.{Tells}
 use Rattle.gixobj_tags.specs.declared.tag.ref_iter.State.{State}
 use Rattle.gixobj_tags.specs.declared.tag.ref_iter.State.TheVariants as state

@@ -1,5 +1,5 @@
 -- Tags, written step by step: what a step refuses, the whole refuses.
-use Rattle.std.proofs.Common.{◌≡◌, ℕ, List, [], ◌∷◌, ◌++◌, ap, inl, inr, refl, ◌∙◌}
+use Rattle.std.proofs.Common.{ℕ, List, [], ◌++◌, ap, inl, inr, refl, ◌∙◌}
 use Rattle.std.proofs.lemmas.List.{append-nil}
 use Rattle.std.specs.Prelude.{codes}
 use Rattle.gixobj_fields.proofs.Puts.{puts_nothing}
@@ -8,7 +8,7 @@ use Rattle.gixobj_fields.specs.HeaderText.{field_text}
 use Rattle.gixobj_fields.specs.Streams.{SinkView}
 use Rattle.gixobj_fields.specs.Writing.{Refused, SaysWhy}
 use Rattle.gixobj_fields.specs.declared.encode.Error.{Error}
-use Rattle.gixobj_tags.specs.NameRule.{IsTagName}
+use Rattle.gixobj_tag_names.specs.NameRule.{IsTagName}
 use Rattle.gixobj_tags.specs.TagText.{TagLines, target_text}
 use Rattle.gixobj_tags.specs.TagWriting.{RefusesLines, RefusesNameLine, RefusesParts}
 

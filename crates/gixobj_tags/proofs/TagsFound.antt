@@ -1,7 +1,7 @@
 -- What a reader of tokens finds in the text of a tag, and that a text is that of one tag.
 use Rattle.std.proofs.Common.{◌≡◌, ◌≢◌, ℕ, List, [], ◌∷◌, ◌++◌, Option, Some, None, Result, Ok, Err, append_assoc, ap, refl, subst, sym, ◌∙◌}
 use Rattle.std.proofs.lemmas.List.{append-nil}
-use Rattle.std.specs.Prelude.{codes, ⊤}
+use Rattle.std.specs.Prelude.{codes}
 use Rattle.gixobj_actors.specs.declared.actor.SignatureRef.{SignatureRef}
 use Rattle.gixobj_fields.proofs.HeaderFields.{one_field}
 use Rattle.gixobj_fields.proofs.Runs.{behind_first, behind_passed, one_here}
@@ -25,7 +25,7 @@ use Rattle.gixobj_tags.proofs.WholeTags.{behind_name, take_apart}
 use Rattle.gixobj_tags.specs.LineReading.{HasTagger}
 use Rattle.gixobj_tags.specs.Readers.{AreTokensOf, EndsBehindItsName, MayMiss, NameCame, TellsAll, TellsTagger, misses_body, misses_nothing, misses_tagger_and_body, tells_no_tagger, tells_tagger}
 use Rattle.gixobj_tags.specs.TagText.{IsBody, IsTagText, TagLines}
-use Rattle.gixobj_tags.specs.TagTokens.{HasToken, TokenView, body_token, kind_token, name_token, no_tagger_token, tagger_token, target_token, token_view}
+use Rattle.gixobj_tags.specs.TagTokens.{HasToken, TokenView, body_token, kind_token, name_token, no_tagger_token, target_token, token_view}
 use Rattle.gixobj_tags.specs.TokenGiving.{FindsTagger, GivesId, GivesToken, IsAtStart, IsTaggerToken, LacksTagger, Tells, answered_id, id_or_malformed, standing, told_tagger, token_id}
 use Rattle.gixobj_tags.specs.declared.tag.ref_iter.State.{State}
 use Rattle.gixobj_tags.specs.declared.tag.ref_iter.State.TheVariants as state

@@ -1,5 +1,5 @@
 -- Runs of tokens of a tag, and readers that look for a token.
-use Rattle.std.proofs.Common.{◌≡◌, ◌≤◌, ℕ, List, length, refl}
+use Rattle.std.proofs.Common.{◌≡◌, ℕ, List, refl}
 use Rattle.std.specs.Prelude.{Option, Some, None, Result, Ok, Err, ⊤}
 use Rattle.gixobj_fields.proofs.Readers as readers
 use Rattle.gixobj_fields.proofs.Runs as runs
@@ -10,7 +10,7 @@ use Rattle.gixobj_ids.specs.declared.decode.Error.TheVariants.{Malformed, OutOfM
 use Rattle.gixobj_ids.specs.declared.hash.kind.Kind.{Kind}
 use Rattle.gixobj_tags.proofs.Tokens.{no_longer, no_token_of_nothing, one_token, text_of_token}
 use Rattle.gixobj_tags.specs.TagTokens.{HasToken, IsTokenText, TokenView, token_view}
-use Rattle.gixobj_tags.specs.TokenGiving.{AreTokenTexts, GivesToken, LacksTagger, IsTaggerToken, Tells, WantsNothing, standing}
+use Rattle.gixobj_tags.specs.TokenGiving.{AreTokenTexts, GivesToken, IsTaggerToken, Tells, WantsNothing, standing}
 use Rattle.gixobj_tags.specs.declared.tag.ref_iter.State.{State}
 use Rattle.gixobj_tags.specs.declared.tag.ref_iter.TagRefIter.{TagRefIter}
 use Rattle.gixobj_tags.specs.declared.tag.ref_iter.Token.{Token}

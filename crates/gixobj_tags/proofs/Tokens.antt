@@ -1,15 +1,15 @@
 -- Tokens of tags: what comes, one at most, and that none is without bytes.
-use Rattle.std.proofs.Common.{◌≡◌, ◌≢◌, ◌≤◌, ◌<◌, ◌+◌, ℕ, List, [], ◌∷◌, ◌++◌, Option, Some, None, append_assoc, ap, arith, length, length-append, refl, subst, sym, ◌∙◌}
+use Rattle.std.proofs.Common.{◌≡◌, ◌≢◌, ◌≤◌, ◌<◌, ◌+◌, ℕ, List, [], ◌∷◌, ◌++◌, Option, Some, None, ap, arith, length, length-append, refl, subst, sym, ◌∙◌}
 use Rattle.std.proofs.lemmas.List.{append-nil}
 use Rattle.std.specs.Prelude.{codes}
 use Rattle.bstr.specs.BStr.{bstr_bytes}
 use Rattle.bstr.specs.declared.bstr.BStr.{BStr}
 use Rattle.gixobj_actors.proofs.ActorLines.{one_actor}
-use Rattle.gixobj_actors.specs.Actor.{BeginsWithActor, IsActorLine}
+use Rattle.gixobj_actors.specs.Actor.{IsActorLine}
 use Rattle.gixobj_actors.specs.declared.actor.SignatureRef.{SignatureRef}
 use Rattle.gixobj_fields.proofs.HeaderFields.{one_field}
-use Rattle.gixobj_fields.specs.HeaderReading.{HasId, HasNoId, HasNoKind}
-use Rattle.gixobj_fields.specs.HeaderText.{HasField, LacksName, field_text}
+use Rattle.gixobj_fields.specs.HeaderReading.{HasId}
+use Rattle.gixobj_fields.specs.HeaderText.{HasField, field_text}
 use Rattle.gixobj_fields.specs.Runs.{HasNoPiece}
 use Rattle.gixobj_ids.proofs.Headers.{one_kind}
 use Rattle.gixobj_ids.proofs.HexIds.{one_id}
@@ -17,14 +17,12 @@ use Rattle.gixobj_ids.specs.Hash.{Spells}
 use Rattle.gixobj_ids.specs.Kind.{kind_word}
 use Rattle.gixobj_ids.specs.declared.hash.kind.Kind as hash
 use Rattle.gixobj_ids.specs.declared.hash.object_id.ObjectId.{ObjectId}
-use Rattle.gixobj_ids.specs.declared.kind.Kind.{Kind}
 use Rattle.gixobj_tags.proofs.Bodies.{one_body}
 use Rattle.gixobj_tags.proofs.Lines.{begins_field}
-use Rattle.gixobj_tags.specs.LineReading.{HasName, HasNoName, HasNoTagger, HasTagger}
+use Rattle.gixobj_tags.specs.LineReading.{HasNoTagger, HasTagger}
 use Rattle.gixobj_tags.specs.LineViews.{IsParsed, line_if_some}
 use Rattle.gixobj_tags.specs.Readers.{TellsTagger, tells_no_tagger, tells_tagger}
-use Rattle.gixobj_tags.specs.TagText.{HasNoBody, IsBody}
-use Rattle.gixobj_tags.specs.TagTokens.{HasToken, IsTokenText, TokenView, body_comes, body_token, kind_comes, kind_token, name_comes, name_token, no_tagger_comes, no_tagger_token, tagger_comes, tagger_token, target_comes, target_token}
+use Rattle.gixobj_tags.specs.TagTokens.{HasToken, IsTokenText, TokenView, body_comes, kind_comes, kind_token, name_comes, name_token, no_tagger_comes, tagger_comes, tagger_token, target_comes, target_token}
 use Rattle.gixobj_tags.specs.TokenGiving.{states_left}
 use Rattle.gixobj_tags.specs.declared.tag.ref_iter.State.{State}
 use Rattle.gixobj_tags.specs.declared.tag.ref_iter.State.TheVariants as state

@@ -1,20 +1,17 @@
 -- A tag put together of its parts, and taken apart: its lines one after the other, and its body.
-use Rattle.std.proofs.Common.{◌≡◌, ◌≢◌, ℕ, List, [], ◌∷◌, ◌++◌, IsTrue, Option, Some, None, append_assoc, ap, arith, refl, subst, sym, ◌∙◌}
+use Rattle.std.proofs.Common.{◌≡◌, ℕ, List, ◌∷◌, ◌++◌, IsTrue, Option, Some, None, append_assoc, arith, refl, subst, sym, ◌∙◌}
 use Rattle.std.proofs.lemmas.Bool.{true≢false}
 use Rattle.std.specs.Prelude.{codes}
-use Rattle.gixobj_actors.specs.Actor.{BeginsWithActor}
 use Rattle.gixobj_fields.proofs.HeaderFields.{digits_are_one_line, one_field}
 use Rattle.gixobj_fields.specs.HeaderReading.{HasId, HasNoId, HasNoKind}
 use Rattle.gixobj_fields.specs.HeaderText.{HasField, LacksName, field_text}
-use Rattle.gixobj_ids.specs.Hash.Hex.{IsHexOf}
 use Rattle.gixobj_ids.specs.Kind.{kind_word}
 use Rattle.gixobj_ids.specs.declared.hash.kind.Kind as hash
 use Rattle.gixobj_ids.specs.declared.kind.Kind.{Kind}
 use Rattle.gixobj_ids.specs.declared.kind.Kind.TheVariants as object
-use Rattle.gixobj_tags.proofs.Bodies.{one_body}
 use Rattle.gixobj_tags.proofs.Lines.{one_tagger}
 use Rattle.gixobj_tags.specs.LineReading.{HasName, HasNoName, HasNoTagger, HasTagger}
-use Rattle.gixobj_tags.specs.TagText.{HasNoBody, IsBody, IsLineName, IsNoTagText, IsTagText, IsTaggerLine, TagLines, are_newlines, behind_newline, newlines_alone, tagger_text}
+use Rattle.gixobj_tags.specs.TagText.{HasNoBody, IsBody, IsNoTagText, IsTagText, IsTaggerLine, TagLines, are_newlines, behind_newline, newlines_alone, tagger_text}
 use Rattle.gixobj_texts.proofs.Splits.{free_by_test}
 use Rattle.gixobj_texts.specs.Parse.{IsFree}
 

@@ -1,5 +1,5 @@
 -- What was read of a tag is written back as it was.
-use Rattle.std.proofs.Common.{◌≡◌, ◌≢◌, ◌⊎◌, ℕ, List, [], ◌∷◌, ◌++◌, IsFalse, IsTrue, Option, Some, None, append_assoc, ap, inl, inr, refl, subst, sym, ◌∙◌}
+use Rattle.std.proofs.Common.{◌≡◌, ◌≢◌, ◌⊎◌, ℕ, List, ◌∷◌, ◌++◌, IsFalse, IsTrue, Option, Some, None, ap, inl, inr, refl, subst, sym, ◌∙◌}
 use Rattle.std.proofs.lemmas.Bool.{true≢false}
 use Rattle.std.proofs.lemmas.List.{append-nil}
 use Rattle.bstr.specs.Owned.{bstring_bytes}
@@ -12,12 +12,12 @@ use Rattle.gixobj_fields.specs.declared.encode.Error.TheVariants as encode
 use Rattle.gixobj_fields.specs.declared.encode.RefNameFault.{RefNameFault}
 use Rattle.gixobj_ids.proofs.HexCase.{hex_in_lower_case}
 use Rattle.gixobj_ids.specs.declared.hash.kind.Kind.{Kind}
-use Rattle.gixobj_tags.specs.NameRule.{BeginsWithDash, HasNoFault, IsFirstFault, IsTagName}
+use Rattle.gixobj_tag_names.specs.NameRule.{BeginsWithDash, HasNoFault, IsFirstFault, IsTagName}
 use Rattle.gixobj_tags.specs.Rewriting.{AreOwnParts, HasUnwritableTagger, IsCanonicalTagger, KeepsBody, RefusesOwnForm, canonical_tagger, no_tagger}
 use Rattle.gixobj_tags.specs.TagOwned.{IsOwnedForm, IsOwnedTagger}
 use Rattle.gixobj_tags.specs.TagText.{IsBody, IsParted, IsTagText, TagLines, are_newlines, behind_newline, lines_text, newlines_alone, signed, signed_at_once, unsigned}
 use Rattle.gixobj_tags.specs.TagViews.{owned_lines, owned_tagger}
-use Rattle.gixobj_tags.specs.TagWriting.{RefusesLines, RefusesOwned, RefusesTagName, RefusesTagger, body_text, message_text, signature_text, tag_text}
+use Rattle.gixobj_tags.specs.TagWriting.{RefusesLines, RefusesOwned, RefusesTagName, RefusesTagger, body_text, message_text, tag_text}
 use Rattle.gixobj_tags.specs.declared.tag.Tag.{Tag}
 
 -- ---- bodies

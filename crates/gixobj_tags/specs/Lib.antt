@@ -1,6 +1,5 @@
 pub mod LineReading
 pub mod LineViews
-pub mod NameRule
 pub mod Readers
 pub mod Rewriting
 pub mod Signed

@@ -5,7 +5,7 @@ use Rattle.gixobj_actors.specs.ActorWriting.{IsCanonical, IsUnwritable}
 use Rattle.gixobj_fields.specs.Streams.{PutsFront, SinkView}
 use Rattle.gixobj_fields.specs.declared.encode.Error.{Error}
 use Rattle.gixobj_fields.specs.declared.encode.Error.TheVariants as error
-use Rattle.gixobj_tags.specs.NameRule.{BeginsWithDash, HasNoFault, IsFirstFault}
+use Rattle.gixobj_tag_names.specs.NameRule.{BeginsWithDash, HasNoFault, IsFirstFault}
 use Rattle.gixobj_tags.specs.TagText.{TagLines, are_newlines}
 
 -- the tag is written as it was read: it is unsigned, or its message is more than newlines

@@ -10,7 +10,7 @@ ghost use Rattle.gixobj_ids.specs.Hash.{Spells};
 ghost use Rattle.gixobj_ids.specs.declared.decode.Error as decode;
 ghost use Rattle.gixobj_ids.specs.declared.hash.kind.Kind.{Kind};
 ghost use Rattle.gixobj_ids.specs.declared.hash.object_id.ObjectId.{ObjectId};
-ghost use Rattle.gixobj_tags.specs.NameRule.{IsTagName};
+ghost use Rattle.gixobj_tag_names.specs.NameRule.{IsTagName};
 ghost use Rattle.gixobj_tags.specs.Readers.{AreTokensOf, EndsBehindItsName, NameCame, TellsTagger};
 ghost use Rattle.gixobj_tags.specs.Rewriting.{AreOwnParts, KeepsBody, RefusesOwnForm};
 ghost use Rattle.gixobj_tags.specs.TagOwned.{IsOwnedForm};

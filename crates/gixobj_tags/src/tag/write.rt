@@ -6,11 +6,9 @@ ghost use Rattle.gixobj_fields.specs.HeaderText.{field_text};
 ghost use Rattle.gixobj_fields.specs.Streams.{Puts, PutsOrFails};
 ghost use Rattle.gixobj_fields.specs.Writing.{AddsSize, IsSize, RefusesNothing, SaysWhy};
 ghost use Rattle.gixobj_ids.specs.Kind.{kind_word};
-ghost use Rattle.gixobj_tags.specs.NameRule.{IsTagName, RefusesName};
+ghost use Rattle.gixobj_tag_names.specs.NameRule.{IsTagName, RefusesName};
 ghost use Rattle.gixobj_tags.specs.TagWriting.{RefusesNameLine, RefusesParts, body_text, message_text, signature_text};
 ghost use Rattle.gixobj_texts.specs.Optional.{bytes_if_some};
-
-mod names;
 
 use super::decode::are_newlines;
 use super::{Tag, TagRef};
@@ -19,39 +17,15 @@ use gixobj_actors::actor::Signature;
 use gixobj_actors::encode::{size_with_signature, trusted_header_signature};
 use gixobj_fields::WriteTo;
 use gixobj_fields::encode::{
-    self, RefNameFault, size_with_field, size_with_id, trusted_header_field, trusted_header_id,
+    self, size_with_field, size_with_id, trusted_header_field, trusted_header_id,
 };
 use gixobj_fields::streams::{Sink, put_parts};
 use gixobj_ids::Kind;
 use gixobj_ids::hash::ObjectId;
+pub use gixobj_tag_names::name::{Error, validated_name};
 use gixobj_texts::optional::borrowed;
-use names::first_fault;
 use std::alloc::Global;
 use std::io;
-
-/// The refusal of [`validated_name`].
-#[derive(Clone, Copy, Debug, PartialEq, Eq, thiserror::Error)]
-pub enum Error {
-    /// The name begins with `-`.
-    #[error("the name of a tag begins with `-`")]
-    StartsWithDash,
-    /// The name can't be that of a reference.
-    #[error("the name of a tag: {0}")]
-    InvalidRefName(RefNameFault),
-}
-
-impl From<Error> for encode::Error {
-    ghost use Rattle.gixobj_tags.specs.NameRule.{writer_error};
-
-    ghost from_gives = { λ refusal error. error ≡ writer_error refusal };
-
-    fn from(refusal: Error) -> encode::Error {
-        match refusal {
-            Error::StartsWithDash => encode::Error::StartsWithDash,
-            Error::InvalidRefName(fault) => encode::Error::InvalidRefName(fault),
-        }
-    }
-}
 
 /// A tag is written with its target's hex and the line of its tagger as they stand.
 ///
@@ -141,26 +115,6 @@ impl WriteTo for Tag {
             borrowed(&self.signature),
         )
     }
-}
-
-/// The name, where a tag may have it (git-check-ref-format, "DESCRIPTION"; git-tag, "<tagname>").
-///
-/// `InvalidRefName` has the first fault of the name, in the order of [`RefNameFault`]. A name without
-/// a fault is refused by `StartsWithDash` where its first byte is `-`: a command takes it for an
-/// option. It takes no memory.
-pub fn validated_name(name: BStr<'_>) -> Result<BStr<'_>, Error>
-    ensures accepted { IsOk result ↔ IsTagName (bstr_bytes name.entry) }
-    ensures same { IfOk result (λ it. bstr_bytes it ≡ bstr_bytes name.entry) }
-    ensures refusal { IfErr result (RefusesName (bstr_bytes name.entry)) }
-{
-    let bytes = name.as_bytes();
-    if let Some(fault) = first_fault(bytes) {
-        return Err(Error::InvalidRefName(fault));
-    }
-    if bytes.starts_with(b"-") {
-        return Err(Error::StartsWithDash);
-    }
-    Ok(name)
 }
 
 /// Puts a tag: the lines of the target, its kind and the name, the line of the tagger, and the body.

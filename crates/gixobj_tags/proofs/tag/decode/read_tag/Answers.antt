@@ -1,7 +1,4 @@
-use Rattle.gixobj_ids.specs.Kind.{kind_word}
-use Rattle.bstr.specs.BStr.{bstr_bytes}
 use Rattle.gixobj_tags.proofs.WholeTags.{no_body, no_kind, no_name, no_tagger, put_together}
-use Rattle.gixobj_tags.specs.LineViews.{line_if_some}
 use Rattle.gixobj_tags.proofs.tag.decode.read_tag.Goals as goal
 
 pub returns-in_err-target_kind-clause-none : goal.returns-in_err-target_kind-clause-none

@@ -1,6 +1,4 @@
 use Rattle.std.proofs.Common.{inl}
-use Rattle.gixobj_tags.proofs.TagWrites.{lines_say_why}
-use Rattle.gixobj_tags.specs.TagViews.{tag_lines}
 use Rattle.gixobj_tags.proofs.tag.write.TagRefWriteTo.write_into.Goals as goal
 
 pub returns-in-Ok-clause-nothing_refused : goal.returns-in-Ok-clause-nothing_refused

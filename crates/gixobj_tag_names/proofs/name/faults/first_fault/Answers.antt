@@ -1,7 +1,7 @@
 use Rattle.std.proofs.Common.{rules}
 use Rattle.gixobj_fields.specs.declared.encode.RefNameFault.TheVariants as fault
-use Rattle.gixobj_tags.proofs.Names.{empty_so, first_so}
-use Rattle.gixobj_tags.proofs.tag.write.names.first_fault.Goals as goal
+use Rattle.gixobj_tag_names.proofs.Names.{empty_so, first_so}
+use Rattle.gixobj_tag_names.proofs.name.faults.first_fault.Goals as goal
 
 pub returns-then-is_empty : goal.returns-then-is_empty
 returns-then-is_empty c = first_so c.args.name.now fault.Empty tt (empty_so c.args.name.now c.is_empty.result c.if-is_empty.true c.is_empty.ensures)

@@ -5,8 +5,8 @@ use Rattle.gixobj_fields.specs.declared.encode.Error.{Error as WriterError}
 use Rattle.gixobj_fields.specs.declared.encode.Error.TheVariants as writer
 use Rattle.gixobj_fields.specs.declared.encode.RefNameFault.{RefNameFault}
 use Rattle.gixobj_fields.specs.declared.encode.RefNameFault.TheVariants as fault
-use Rattle.gixobj_tags.specs.declared.tag.write.Error.{Error}
-use Rattle.gixobj_tags.specs.declared.tag.write.Error.TheVariants.{InvalidRefName, StartsWithDash}
+use Rattle.gixobj_tag_names.specs.declared.name.Error.{Error}
+use Rattle.gixobj_tag_names.specs.declared.name.Error.TheVariants.{InvalidRefName, StartsWithDash}
 use Rattle.gixobj_texts.specs.Bytes.{slash}
 use Rattle.gixobj_texts.specs.Parse.{IsFree}
 

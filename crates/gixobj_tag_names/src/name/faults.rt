@@ -1,7 +1,7 @@
 //! The faults of a name (git-check-ref-format, "DESCRIPTION"). No test takes memory.
 ghost use Rattle.std.specs.Prelude.{MatchBool, MatchOption};
 ghost use Rattle.gixobj_fields.specs.declared.encode.RefNameFault.TheVariants as fault;
-ghost use Rattle.gixobj_tags.specs.NameRule.{HasFault, HasNoFault, IsFirstFault, IsForbidden};
+ghost use Rattle.gixobj_tag_names.specs.NameRule.{HasFault, HasNoFault, IsFirstFault, IsForbidden};
 
 use bstr::ByteSlice;
 use gixobj_fields::encode::RefNameFault;

@@ -1,5 +1,5 @@
 -- What searches say of a name, and its parts.
-use Rattle.std.proofs.Common.{◌≡◌, ◌≢◌, ℕ, ◌+◌, ◌<◌, Bool, true, false, List, [], ◌∷◌, ◌++◌, length, take, drop, refl, sym, ap, subst, ◌∙◌, arith, inl, inr, append_assoc, length-append}
+use Rattle.std.proofs.Common.{◌≡◌, ◌≢◌, ℕ, ◌+◌, Bool, true, false, List, [], ◌∷◌, ◌++◌, length, take, drop, refl, sym, ap, subst, ◌∙◌, arith, inl, inr, append_assoc, length-append}
 use Rattle.std.proofs.lemmas.Bool.{cases_eq, eqb-true, false≢true, true≢false}
 use Rattle.std.proofs.lemmas.Bool.Decides.{Decides-eqb}
 use Rattle.std.proofs.lemmas.List.{append-nil, drop_at, get_or_default, nil_from_length, take-append-drop}
@@ -8,13 +8,12 @@ use Rattle.std.proofs.lemmas.List.Prefix.{at_from_reads, at_reads}
 use Rattle.std.proofs.lemmas.Slice.Eq.{ends_is, starts_is}
 use Rattle.std.specs.List.{AllByRecursion, ends_with, starts_with}
 use Rattle.std.specs.Prelude.{◌↔◌, ◌⊎◌, ◌==◌, All, MatchBool, codes, nat_eq}
-use Rattle.bstr.specs.Find.{OccursAt}
 use Rattle.bstr.specs.Text.{Contains as Occurs}
 use Rattle.gixobj_fields.specs.declared.encode.RefNameFault.{RefNameFault}
 use Rattle.gixobj_fields.specs.declared.encode.RefNameFault.TheVariants as fault
-use Rattle.gixobj_tags.specs.NameRule.{BeginsWith, EndsWith, HasFault, Holds, IsFirstFault, IsForbidden, IsPart, IsTagName, RefusesName, faults}
-use Rattle.gixobj_tags.specs.declared.tag.write.Error.{Error}
-use Rattle.gixobj_tags.specs.declared.tag.write.Error.TheVariants.{InvalidRefName, StartsWithDash}
+use Rattle.gixobj_tag_names.specs.NameRule.{BeginsWith, EndsWith, HasFault, Holds, IsFirstFault, IsForbidden, IsTagName, RefusesName, faults}
+use Rattle.gixobj_tag_names.specs.declared.name.Error.{Error}
+use Rattle.gixobj_tag_names.specs.declared.name.Error.TheVariants.{InvalidRefName, StartsWithDash}
 use Rattle.gixobj_texts.proofs.Splits.{free_by_test}
 use Rattle.gixobj_texts.specs.Bytes.{newline, slash}
 use Rattle.gixobj_texts.specs.Parse.{IsFree}

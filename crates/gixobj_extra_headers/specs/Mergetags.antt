@@ -1,0 +1,37 @@
+-- Tags in the headers of a commit (git-merge, "MERGING TAG").
+use Rattle.std.specs.Prelude.{◌≡◌, Option, None, Some, Result, Ok, Err}
+use Rattle.bstr.specs.BStr.{bstr_bytes}
+use Rattle.bstr.specs.declared.bstr.BStr.{BStr}
+use Rattle.gixobj_extra_headers.specs.ExtraHeaders.{GivesAll}
+use Rattle.gixobj_extra_headers.specs.declared.extra_headers.FindAll.{FindAll}
+use Rattle.gixobj_extra_headers.specs.declared.extra_headers.Mergetags.{Mergetags}
+use Rattle.gixobj_ids.specs.declared.decode.Error.{Error}
+use Rattle.gixobj_ids.specs.declared.decode.Error.TheVariants.{Malformed}
+use Rattle.gixobj_ids.specs.declared.hash.kind.Kind.{Kind}
+use Rattle.gixobj_tags.specs.TagText.{IsNoTagText, IsTagText}
+use Rattle.gixobj_tags.specs.TagViews.{tag_lines}
+use Rattle.gixobj_tags.specs.declared.tag.TagRef.{TagRef}
+
+-- the values that are read as tags
+abbrev pub mergetag_values : {I : Type 0} → Mergetags I → FindAll I
+mergetag_values tags = tags.values
+
+-- the kind of the ids of their targets
+abbrev pub mergetag_kind : {I : Type 0} → Mergetags I → Kind
+mergetag_kind tags = tags.hash_kind
+
+-- the tag that these bytes are, or that they are none
+abbrev pub IsTagOf : Kind → BStr → Result TagRef Error → Type 0
+IsTagOf kind value (Ok tag) = IsTagText kind (bstr_bytes value) (tag_lines tag)
+IsTagOf kind value (Err error) = (error ≡ Malformed) × IsNoTagText kind (bstr_bytes value)
+
+-- what comes of the next value: its tag, or that it is none; nothing where there is none
+abbrev pub ReadsValue : Kind → Option BStr → Option (Result TagRef Error) → Type 0
+ReadsValue kind (Some value) (Some tag) = IsTagOf kind value tag
+ReadsValue kind (Some value) None = ⊥
+ReadsValue kind None result = result ≡ None
+
+-- one call: the next value of a header `mergetag`, read as a tag
+abbrev pub GivesMergetag : {S : Type 0} → (S → Option (BStr × BStr) → S → Type 0) → Mergetags S → Option (Result TagRef Error) → Mergetags S → Type 0
+GivesMergetag steps before result after = (value : Option BStr) × GivesAll steps (mergetag_values before) value (mergetag_values after) × ReadsValue (mergetag_kind before) value result
+    × (mergetag_kind after ≡ mergetag_kind before)

@@ -1,0 +1,4 @@
+//! The names that tags may have (git-check-ref-format, "DESCRIPTION").
+#![tactic(auto)]
+
+pub mod name;
