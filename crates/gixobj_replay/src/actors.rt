@@ -1,6 +1,6 @@
 //! Answers about actors, as the recorded ones are written.
 
-use crate::texts::{bytes_of, hex_of, size_text, text_of, time_text, written_text};
+use crate::texts::{bytes_of, fault, hex_of, size_text, text_of, time_text, written_text};
 use gixobj_base::actor::{Signature, SignatureRef};
 use gixobj_base::decode;
 use std::alloc::{AllocError, Global};
@@ -11,8 +11,7 @@ pub(crate) fn actor_answer(alloc: Global, question: &[u8]) -> Result<Vec<u8>, Al
     let mut rest = bytes.as_slice();
     match SignatureRef::from_bytes_consuming(&mut rest) {
         Ok(actor) => columns(alloc, actor, rest),
-        Err(decode::Error::Malformed) => text_of(alloc, "err"),
-        Err(decode::Error::OutOfMemory) => text_of(alloc, "err OutOfMemory"),
+        Err(error) => text_of(alloc, fault(&error)),
     }
 }
 
@@ -54,6 +53,27 @@ pub(crate) fn borrowed_text(alloc: Global, actor: SignatureRef<'_>) -> Result<St
     let text = hex_of(alloc, actor.time.as_bytes())?;
     let time = time_text(alloc, actor.time())?;
     format!(in alloc; "{name} {email} {text} {time}")
+}
+
+/// An actor, or the fault of its line.
+pub(crate) fn actor_text(
+    alloc: Global,
+    actor: Result<SignatureRef<'_>, decode::Error>,
+) -> Result<String, AllocError> {
+    match actor {
+        Ok(actor) => actor_after(alloc, "ok", actor),
+        Err(error) => String::from_str(alloc, fault(&error)),
+    }
+}
+
+/// A word and an actor.
+pub(crate) fn actor_after(
+    alloc: Global,
+    word: &str,
+    actor: SignatureRef<'_>,
+) -> Result<String, AllocError> {
+    let actor = borrowed_text(alloc, actor)?;
+    format!(in alloc; "{word} {actor}")
 }
 
 /// What is written of a borrowed actor.

@@ -4,13 +4,11 @@ ghost use Rattle.gixobj_codec.specs.CommitWriting.{HasIds};
 
 mod told;
 
-use crate::actors::{borrowed_text, owned_text};
-use crate::texts::{Columns, bytes_of, hex_of, size_text, text_of, time_text, written_text};
-use bstr::BStr;
-use gixobj_base::actor::SignatureRef;
+use crate::actors::{actor_text, owned_text};
+use crate::objects::{id_text, put_sizes, written_of};
+use crate::texts::{Columns, bytes_of, fault, hex_if_some, hex_of, text_of, time_text};
 use gixobj_base::hash::Kind::Sha1;
-use gixobj_base::hash::ObjectId;
-use gixobj_base::{Kind, WriteTo, compute_hash, decode};
+use gixobj_base::{Kind, compute_hash, decode};
 use gixobj_codec::{Commit, CommitRef};
 use std::alloc::{AllocError, Global};
 pub(crate) use told::token_answer;
@@ -57,12 +55,6 @@ fn put_parents(
         columns.put("parent", id_text(alloc, *hex, id)?.as_str())?;
     }
     Ok(())
-}
-
-/// An id, in hex as it stands in a commit and as it is written.
-fn id_text(alloc: Global, hex: BStr<'_>, id: ObjectId) -> Result<String, AllocError> {
-    let hex = hex_of(alloc, hex.as_bytes())?;
-    format!(in alloc; "{hex} {id}")
 }
 
 /// The columns of the actors, as they stand and trimmed, and of the time.
@@ -150,21 +142,7 @@ pub(crate) fn size_answer(alloc: Global, question: &[u8]) -> Result<Vec<u8>, All
     text_of(alloc, columns.as_str())
 }
 
-/// The columns of an object's size and of its loose header, under these words.
-fn put_sizes<T: WriteTo>(
-    alloc: Global,
-    object: &T,
-    size: &str,
-    loose: &str,
-    columns: &mut Columns,
-) -> Result<(), AllocError>
-    requires { T.can_write object.now }
-{
-    columns.put(size, size_text(alloc, object.size())?.as_str())?;
-    columns.put(loose, loose_of(alloc, object)?.as_str())
-}
-
-/// The same of an owned commit, or why there is none.
+/// The columns of an owned commit's size and of its loose header, or why there is none.
 fn put_owned_sizes(
     alloc: Global,
     owned: Result<Commit, decode::Error>,
@@ -173,54 +151,5 @@ fn put_owned_sizes(
     match owned {
         Ok(commit) => put_sizes(alloc, &commit, "owned-size", "owned-loose", columns),
         Err(error) => columns.put("owned", fault(&error)),
-    }
-}
-
-/// What is written of a commit, borrowed or owned.
-fn written_of<T: WriteTo>(alloc: Global, commit: &T) -> Result<String, AllocError>
-    requires { T.can_write commit.now }
-{
-    let mut out = Vec::new(alloc);
-    let outcome = commit.write_to(alloc, &mut out);
-    written_text(alloc, outcome, out.as_slice())
-}
-
-/// The loose header of a commit, borrowed or owned.
-fn loose_of<T: WriteTo>(alloc: Global, commit: &T) -> Result<String, AllocError>
-    requires { T.can_write commit.now }
-{
-    match commit.loose_header(alloc) {
-        Some(header) => hex_of(alloc, header.as_slice()),
-        None => String::from_str(alloc, "-"),
-    }
-}
-
-/// An actor, or the fault of its line.
-fn actor_text(
-    alloc: Global,
-    actor: Result<SignatureRef<'_>, decode::Error>,
-) -> Result<String, AllocError> {
-    match actor {
-        Ok(actor) => {
-            let actor = borrowed_text(alloc, actor)?;
-            format!(in alloc; "ok {actor}")
-        }
-        Err(error) => String::from_str(alloc, fault(&error)),
-    }
-}
-
-/// Why nothing is read.
-fn fault(error: &decode::Error) -> &'static str {
-    match error {
-        decode::Error::Malformed => "err",
-        decode::Error::OutOfMemory => "err OutOfMemory",
-    }
-}
-
-/// The bytes in hex digits, or `-`.
-fn hex_if_some(alloc: Global, bytes: Option<BStr<'_>>) -> Result<String, AllocError> {
-    match bytes {
-        Some(bytes) => hex_of(alloc, bytes.as_bytes()),
-        None => String::from_str(alloc, "-"),
     }
 }

@@ -5,7 +5,9 @@
 mod actors;
 mod answers;
 mod commits;
+mod objects;
 mod tables;
+mod tags;
 mod texts;
 
 use std::io::{ErrorKind, Write};
@@ -34,11 +36,12 @@ fn replay_all(rt: &HostRuntime) -> io::Result<bool> {
 }
 
 fn replay_one(rt: &HostRuntime, table: Table) -> io::Result<bool> {
-    let text = fs::read(rt, table.path())?;
+    let (word, path) = table.names();
+    let text = fs::read(rt, path)?;
     let mut out = rt.stdout();
     let Ok(Count { same, all }) = replay(rt.alloc(), table, text.as_slice(), &mut out) else {
         return Err(io::Error::from(ErrorKind::OutOfMemory));
     };
-    writeln!(out, "{} {same} of {all}", table.word())?;
+    writeln!(out, "{word} {same} of {all}")?;
     Ok(same == all)
 }

@@ -4,6 +4,7 @@ ghost use Rattle.std.specs.Prelude.{◌≡◌, ◌++◌, ◌∷◌, IfSome};
 use crate::actors::actor_answer;
 use crate::answers::{header_answer, mode_answer, number_answer, order_answer};
 use crate::commits::{commit_answer, size_answer, token_answer};
+use crate::tags::{name_answer, tag_answer, tag_token_answer};
 use gixobj_base::parse::{split_at_byte, split_at_last_byte};
 use std::alloc::{AllocError, Global};
 use std::io::Write;
@@ -27,10 +28,16 @@ pub(crate) enum Table {
     CommitSizes,
     /// Commits told token by token.
     CommitTokens,
+    /// Tags read whole and written.
+    Tags,
+    /// Tags told token by token.
+    TagTokens,
+    /// Names of tags judged.
+    TagNames,
 }
 
 /// All of them.
-pub(crate) const TABLES: [Table; 8] = [
+pub(crate) const TABLES: [Table; 11] = [
     Table::Modes,
     Table::ModeNumbers,
     Table::NameOrder,
@@ -39,34 +46,26 @@ pub(crate) const TABLES: [Table; 8] = [
     Table::Commits,
     Table::CommitSizes,
     Table::CommitTokens,
+    Table::Tags,
+    Table::TagTokens,
+    Table::TagNames,
 ];
 
 impl Table {
-    /// The name that is printed.
-    pub(crate) fn word(self) -> &'static str {
+    /// The name that is printed, and that of the file.
+    pub(crate) fn names(self) -> (&'static str, &'static str) {
         match self {
-            Table::Modes => "modes",
-            Table::ModeNumbers => "mode numbers",
-            Table::NameOrder => "name order",
-            Table::LooseHeaders => "loose headers",
-            Table::Actors => "actors",
-            Table::Commits => "commits",
-            Table::CommitSizes => "commit sizes",
-            Table::CommitTokens => "commit tokens",
-        }
-    }
-
-    /// The file.
-    pub(crate) fn path(self) -> &'static str {
-        match self {
-            Table::Modes => "modes.tsv",
-            Table::ModeNumbers => "mode-numbers.tsv",
-            Table::NameOrder => "name-order.tsv",
-            Table::LooseHeaders => "loose-headers.tsv",
-            Table::Actors => "actors.tsv",
-            Table::Commits => "commits.tsv",
-            Table::CommitSizes => "commit-sizes.tsv",
-            Table::CommitTokens => "commit-tokens.tsv",
+            Table::Modes => ("modes", "modes.tsv"),
+            Table::ModeNumbers => ("mode numbers", "mode-numbers.tsv"),
+            Table::NameOrder => ("name order", "name-order.tsv"),
+            Table::LooseHeaders => ("loose headers", "loose-headers.tsv"),
+            Table::Actors => ("actors", "actors.tsv"),
+            Table::Commits => ("commits", "commits.tsv"),
+            Table::CommitSizes => ("commit sizes", "commit-sizes.tsv"),
+            Table::CommitTokens => ("commit tokens", "commit-tokens.tsv"),
+            Table::Tags => ("tags", "tags.tsv"),
+            Table::TagTokens => ("tag tokens", "tag-tokens.tsv"),
+            Table::TagNames => ("tag names", "tag-names.tsv"),
         }
     }
 
@@ -81,6 +80,9 @@ impl Table {
             Table::Commits => commit_answer(alloc, question),
             Table::CommitSizes => size_answer(alloc, question),
             Table::CommitTokens => token_answer(alloc, question),
+            Table::Tags => tag_answer(alloc, question),
+            Table::TagTokens => tag_token_answer(alloc, question),
+            Table::TagNames => name_answer(alloc, question),
         }
     }
 

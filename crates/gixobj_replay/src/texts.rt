@@ -3,8 +3,10 @@ ghost use Rattle.std.specs.Prelude.{◌≡◌, ◌∷◌, IfOk};
 ghost use Rattle.std.specs.String.{string_bytes};
 ghost use Rattle.hex.specs.Hex.{encode_lower};
 
+use bstr::BStr;
 use gixobj_base::date::Time;
-use gixobj_base::encode;
+use gixobj_base::encode::RefNameFault;
+use gixobj_base::{decode, encode};
 use std::alloc::{AllocError, Global};
 
 /// The bytes of `x` and hex digits; none for another text.
@@ -34,6 +36,20 @@ pub(crate) fn hex_of(alloc: Global, bytes: &[u8]) -> Result<String, AllocError>
     Ok(text)
 }
 
+/// The bytes in hex digits, or `-`.
+pub(crate) fn hex_if_some(alloc: Global, bytes: Option<BStr<'_>>) -> Result<String, AllocError> {
+    match bytes {
+        Some(bytes) => hex_of(alloc, bytes.as_bytes()),
+        None => String::from_str(alloc, "-"),
+    }
+}
+
+/// A word, and bytes in hex digits.
+pub(crate) fn hex_after(alloc: Global, word: &str, bytes: &[u8]) -> Result<String, AllocError> {
+    let hex = hex_of(alloc, bytes)?;
+    format!(in alloc; "{word} {hex}")
+}
+
 /// Seconds and offset.
 pub(crate) fn time_text(alloc: Global, time: Option<Time>) -> Result<String, AllocError> {
     match time {
@@ -61,9 +77,34 @@ pub(crate) fn written_text(
         Ok(()) => "ok",
         Err(encode::Error::IllegalActor) => "err IllegalActor",
         Err(encode::Error::EmptyValue) => "err EmptyValue",
+        Err(encode::Error::StartsWithDash) => "err StartsWithDash",
+        Err(encode::Error::InvalidRefName(fault)) => name_fault(fault),
         Err(_) => "err another",
     };
     format!(in alloc; "{word} {bytes}")
+}
+
+/// What is wrong with the name of a tag.
+pub(crate) fn name_fault(fault: RefNameFault) -> &'static str {
+    match fault {
+        RefNameFault::Empty => "err InvalidRefName Empty",
+        RefNameFault::DotStart => "err InvalidRefName DotStart",
+        RefNameFault::LockSuffix => "err InvalidRefName LockSuffix",
+        RefNameFault::DoubleDot => "err InvalidRefName DoubleDot",
+        RefNameFault::AtBrace => "err InvalidRefName AtBrace",
+        RefNameFault::Backslash => "err InvalidRefName Backslash",
+        RefNameFault::InvalidByte => "err InvalidRefName InvalidByte",
+        RefNameFault::BadSlash => "err InvalidRefName BadSlash",
+        RefNameFault::DotEnd => "err InvalidRefName DotEnd",
+    }
+}
+
+/// Why nothing is read.
+pub(crate) fn fault(error: &decode::Error) -> &'static str {
+    match error {
+        decode::Error::Malformed => "err",
+        decode::Error::OutOfMemory => "err OutOfMemory",
+    }
 }
 
 /// The columns of an answer, apart by tabs.

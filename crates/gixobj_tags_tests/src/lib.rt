@@ -1,5 +1,23 @@
-//! Tests of `gixobj_tags`.
+//! Tests of tags: read, told, written, and their names.
 #![tactic(auto)]
 
 #[cfg(test)]
+mod bare_tag;
+#[cfg(test)]
+mod beginnings;
+#[cfg(test)]
+mod changes;
+#[cfg(test)]
+mod data;
+#[cfg(test)]
+mod git;
+#[cfg(test)]
 mod names;
+#[cfg(test)]
+mod orders;
+#[cfg(test)]
+mod tags;
+#[cfg(test)]
+mod told;
+#[cfg(test)]
+mod writers;

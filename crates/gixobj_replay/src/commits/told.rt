@@ -1,12 +1,9 @@
 //! Answers about commits that are told token by token, as the recorded ones are written.
 
-use super::{actor_text, fault};
-use crate::actors::borrowed_text;
-use crate::texts::{Columns, bytes_of, hex_of, text_of};
-use gixobj_base::actor::SignatureRef;
-use gixobj_base::decode;
+use crate::actors::{actor_after, actor_text, borrowed_text};
+use crate::objects::told_id;
+use crate::texts::{Columns, bytes_of, fault, hex_after, hex_of, text_of};
 use gixobj_base::hash::Kind::Sha1;
-use gixobj_base::hash::ObjectId;
 use gixobj_codec::CommitRefIter;
 use gixobj_codec::commit::ref_iter::Token;
 use std::alloc::{AllocError, Global};
@@ -18,8 +15,8 @@ pub(crate) fn token_answer(alloc: Global, question: &[u8]) -> Result<Vec<u8>, Al
     let mut columns = Columns::new(alloc);
     put_tokens(alloc, tokens, &mut columns)?;
     let mut first = tokens;
-    columns.put("iter-tree-id", id_text(alloc, first.tree_id())?.as_str())?;
-    columns.put("iter-tree-id", id_text(alloc, first.tree_id())?.as_str())?;
+    columns.put("iter-tree-id", told_id(alloc, first.tree_id())?.as_str())?;
+    columns.put("iter-tree-id", told_id(alloc, first.tree_id())?.as_str())?;
     put_parents_and_actors(alloc, tokens, &mut columns)?;
     put_found(alloc, tokens, &mut columns)?;
     text_of(alloc, columns.as_str())
@@ -85,29 +82,5 @@ fn token_text(alloc: Global, token: Token<'_>) -> Result<String, AllocError> {
             hex_after(alloc, name.as_str(), value.as_slice())
         }
         Token::Message(message) => hex_after(alloc, "message", message.as_bytes()),
-    }
-}
-
-/// A word and an actor.
-fn actor_after(
-    alloc: Global,
-    word: &str,
-    signature: SignatureRef<'_>,
-) -> Result<String, AllocError> {
-    let actor = borrowed_text(alloc, signature)?;
-    format!(in alloc; "{word} {actor}")
-}
-
-/// A word, and bytes in hex digits.
-fn hex_after(alloc: Global, word: &str, bytes: &[u8]) -> Result<String, AllocError> {
-    let hex = hex_of(alloc, bytes)?;
-    format!(in alloc; "{word} {hex}")
-}
-
-/// An id, or why there is none.
-fn id_text(alloc: Global, id: Result<ObjectId, decode::Error>) -> Result<String, AllocError> {
-    match id {
-        Ok(id) => format!(in alloc; "{id}"),
-        Err(error) => String::from_str(alloc, fault(&error)),
     }
 }

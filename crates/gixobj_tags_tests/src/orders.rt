@@ -1,0 +1,179 @@
+//! Orders and hashes of tags and tokens.
+
+use crate::tags::{BARE, tag_with};
+use bstr::{BStr, BString};
+use gixobj_base::actor::SignatureRef;
+use gixobj_base::hash::ObjectId;
+use gixobj_base::{Kind, hash};
+use gixobj_codec::tag::ref_iter::Token;
+use gixobj_codec::{Tag, TagRef};
+use std::alloc::Global;
+use std::hash::{DefaultHasher, Hash, Hasher};
+use std::test::Fail;
+
+fn hash_of<T: Hash>(value: &T) -> u64 {
+    let mut state = DefaultHasher::new();
+    value.hash(&mut state);
+    state.finish()
+}
+
+/// A tag, and others that are greater one after the other: each in a further field, and less in those
+/// behind it.
+fn tags_in_a_row(first: TagRef<'_>) -> [TagRef<'_>; 7] {
+    let none = BStr::new(b"");
+    let signed = TagRef {
+        signature: Some(none),
+        ..first
+    };
+    let told = TagRef {
+        message: BStr::new(b"a"),
+        signature: None,
+        ..signed
+    };
+    let tagged = TagRef {
+        tagger: Some(none),
+        message: none,
+        ..told
+    };
+    let named = TagRef {
+        name: BStr::new(b"v2"),
+        tagger: None,
+        ..tagged
+    };
+    let of_blob = TagRef {
+        target_kind: Kind::Blob,
+        name: none,
+        ..named
+    };
+    let of_other = TagRef {
+        target: BStr::new(b"5"),
+        target_kind: Kind::Tree,
+        ..of_blob
+    };
+    [first, signed, told, tagged, named, of_blob, of_other]
+}
+
+#[test]
+fn tags_in_order(rt: HostRuntime) -> Result<(), Fail> {
+    let tags = tags_in_a_row(TagRef::from_bytes(BARE, hash::Kind::Sha1)?);
+    for (first, second) in tags.iter().zip(tags.iter().skip(1)) {
+        assert!(rt; first < second);
+        assert!(rt; hash_of(first) != hash_of(second));
+    }
+    Ok(())
+}
+
+/// Parts are their bytes, wherever they lie.
+#[test]
+fn tags_that_are_equal(rt: HostRuntime) -> Result<(), Fail> {
+    let text = tag_with(rt.alloc(), b"")?;
+    let tag = TagRef::from_bytes(&text, hash::Kind::Sha1)?;
+    let same = TagRef::from_bytes(BARE, hash::Kind::Sha1)?;
+    assert!(rt; same == tag);
+    assert!(rt; hash_of(&same) == hash_of(&tag));
+    Ok(())
+}
+
+/// The same, owned, where each but the first has one field that is greater.
+fn owned_tags_in_a_row(alloc: Global, first: Tag) -> Result<Vec<Tag>, Fail> {
+    let mut signed = first.clone()?;
+    signed.signature = Some(BString::from_slice(alloc, b"")?);
+    let mut told = first.clone()?;
+    told.message = BString::from_slice(alloc, b"a")?;
+    let mut tagged = first.clone()?;
+    tagged.tagger = Some(actor().to_owned(alloc)?);
+    let mut named = first.clone()?;
+    named.name = BString::from_slice(alloc, b"v2")?;
+    let mut of_blob = first.clone()?;
+    of_blob.target_kind = Kind::Blob;
+    let mut of_other = first.clone()?;
+    of_other.target = ObjectId::empty_blob(hash::Kind::Sha1);
+    let mut tags = Vec::new(alloc);
+    for tag in [first, signed, told, tagged, named, of_blob, of_other] {
+        tags.push(tag)?;
+    }
+    Ok(tags)
+}
+
+/// An actor of some tag.
+fn actor() -> SignatureRef<'static> {
+    SignatureRef {
+        name: BStr::new(b"A"),
+        email: BStr::new(b"a@b"),
+        time: BStr::new(b"0 +0000"),
+    }
+}
+
+#[test]
+fn owned_tags_in_order(rt: HostRuntime) -> Result<(), Fail> {
+    let alloc = rt.alloc();
+    let first = TagRef::from_bytes(BARE, hash::Kind::Sha1)?.into_owned(alloc)?;
+    let tags = owned_tags_in_a_row(alloc, first)?;
+    assert_eq!(rt; tags.len(), 7);
+    for (first, second) in tags.iter().zip(tags.iter().skip(1)) {
+        assert!(rt; *first < *second);
+        assert!(rt; hash_of(first) != hash_of(second));
+    }
+    Ok(())
+}
+
+/// Whether a copy of a tag is equal to it.
+fn is_equal_to_its_copy(tag: &Tag) -> Result<bool, Fail> {
+    let same = tag.clone()?;
+    Ok(same == *tag && hash_of(&same) == hash_of(tag))
+}
+
+#[test]
+fn owned_tags_and_their_copies(rt: HostRuntime) -> Result<(), Fail> {
+    let alloc = rt.alloc();
+    let first = TagRef::from_bytes(BARE, hash::Kind::Sha1)?.into_owned(alloc)?;
+    let tags = owned_tags_in_a_row(alloc, first)?;
+    for tag in tags.iter() {
+        assert!(rt; is_equal_to_its_copy(tag)?);
+    }
+    Ok(())
+}
+
+/// Tokens in order.
+fn tokens_in_a_row() -> [Token<'static>; 9] {
+    let none = BStr::new(b"");
+    let body = |message, signature| Token::Body { message, signature };
+    [
+        Token::Target {
+            id: ObjectId::null(hash::Kind::Sha1),
+        },
+        Token::Target {
+            id: ObjectId::empty_tree(hash::Kind::Sha1),
+        },
+        Token::TargetKind(Kind::Tree),
+        Token::TargetKind(Kind::Tag),
+        Token::Name(none),
+        Token::Tagger(None),
+        Token::Tagger(Some(actor())),
+        body(none, Some(none)),
+        body(BStr::new(b"a"), None),
+    ]
+}
+
+#[test]
+fn tokens_in_order(rt: HostRuntime) {
+    let tokens = tokens_in_a_row();
+    for (first, second) in tokens.iter().zip(tokens.iter().skip(1)) {
+        assert!(rt; *first < *second);
+        assert!(rt; hash_of(first) != hash_of(second));
+    }
+}
+
+/// Whether a copy of a token is equal to it.
+fn is_like_its_copy(token: &Token<'_>) -> Result<bool, Fail> {
+    let same = token.clone()?;
+    Ok(same == *token && hash_of(&same) == hash_of(token))
+}
+
+#[test]
+fn tokens_and_their_copies(rt: HostRuntime) -> Result<(), Fail> {
+    for token in &tokens_in_a_row() {
+        assert!(rt; is_like_its_copy(token)?);
+    }
+    Ok(())
+}
