@@ -1,6 +1,7 @@
 //! Tags, read whole, and their parts (gitdatamodel, "tag objects").
 ghost use Rattle.std.specs.Prelude.{◌≡◌, ◌∷◌, IfErr, IfNone, IfOk, IfSome, IsFalse, MatchOption};
 ghost use Rattle.bstr.specs.BStr.{bstr_bytes};
+ghost use Rattle.gixobj_ids.specs.Hash.{IsHexOfAnId};
 ghost use Rattle.gixobj_ids.specs.declared.decode.Error.TheVariants.{Malformed};
 ghost use Rattle.gixobj_tags.specs.LineReading.{HasName, HasNoName, HasNoTagger, HasTagger};
 ghost use Rattle.gixobj_tags.specs.LineViews.{IsParsed, line_if_some};
@@ -24,6 +25,7 @@ impl<'a> TagRef<'a> {
     /// then [`TagRef::tagger`] refuses it. It takes no memory.
     pub fn from_bytes(bytes: &'a [u8], hash_kind: Kind) -> Result<TagRef<'a>, Error>
         ensures found { IfOk result (λ tag. IsTagText hash_kind bytes.now (tag_lines tag)) }
+        ensures has_id { IfOk result (λ tag. IsHexOfAnId (tag_lines tag).target) }
         ensures refusal { IfErr result (λ e. (e ≡ Malformed) × IsNoTagText hash_kind bytes.now) }
     {
         match read_tag(bytes, hash_kind) {
@@ -36,6 +38,7 @@ impl<'a> TagRef<'a> {
 /// The tag that the bytes are, or none.
 fn read_tag(bytes: &[u8], hash_kind: Kind) -> Option<TagRef<'_>>
     ensures found { IfSome result (λ tag. IsTagText hash_kind bytes.now (tag_lines tag)) }
+    ensures has_id { IfSome result (λ tag. IsHexOfAnId (tag_lines tag).target) }
     ensures none { IfNone result (IsNoTagText hash_kind bytes.now) }
 {
     let (target, rest) = header_id(bytes, b"object", hash_kind)?;
