@@ -1,5 +1,5 @@
 -- Header fields, cut from the left: made of their parts, and read in one way.
-use Rattle.std.proofs.Common.{◌≡◌, ◌≢◌, ◌+◌, ◌<◌, ℕ, List, [], ◌∷◌, ◌++◌, All, length, arith, refl, sym, ap, subst, ◌∙◌, append_assoc, length-append, Contains, lit<}
+use Rattle.std.proofs.Common.{◌≡◌, ◌≢◌, ◌+◌, ◌<◌, ℕ, List, [], ◌∷◌, ◌++◌, All, length, arith, inl, inr, refl, sym, ap, subst, ◌∙◌, append_assoc, length-append, Contains, lit<}
 use Rattle.std.proofs.lemmas.List.{append_cancel_left, append-nil}
 use Rattle.std.proofs.lemmas.List.Concat.{flat_map-append}
 use Rattle.std.proofs.lemmas.List.Elements.{All-cons, All-head, All-nil, All-push, All-tail, Contains-append_left, Contains-append_right}
@@ -15,11 +15,13 @@ use Rattle.gixobj_texts.proofs.Splits.{free_of_cut, one_cut}
 use Rattle.gixobj_fields.specs.HeaderText.{BeginsSeveralLines, EndsHeader, HasField, HasHeader, HasNoField, HasNoHeader, Header, IsHeaderName, field_text, following_text, line_text, value_of_lines}
 use Rattle.gixobj_fields.specs.HeaderReading.{HasNoId, HasNoKind, HasNoLines, IsUnfolded, RefusesHeaderField}
 use Rattle.gixobj_texts.specs.Parse.{IsFree, SplitsAt}
+use Rattle.gixobj_ids.specs.Hash.{IsHexOfAnId}
 use Rattle.gixobj_ids.specs.Hash.Hex.{IsHexOf}
 use Rattle.gixobj_ids.specs.Kind.{IsNoKindWord, kind_word}
 use Rattle.gixobj_ids.specs.declared.decode.Error.{Error}
 use Rattle.gixobj_ids.specs.declared.decode.Error.TheVariants.{Malformed, OutOfMemory}
 use Rattle.gixobj_ids.specs.declared.hash.kind.Kind.{Kind}
+use Rattle.gixobj_ids.specs.declared.hash.kind.Kind.TheVariants as hash
 use Rattle.gixobj_ids.specs.declared.kind.Kind.TheVariants as object
 
 -- ---- fronts
@@ -59,6 +61,18 @@ no_field_without_newline name input line joined free value rest field =
 pub one_field : (name input a x b y : List ℕ) → HasField name input a x → HasField name input b y → (a ≡ b) × (x ≡ y)
 one_field name input a x b y first second =
     one_cut 10 a x b y first.one_line second.one_line (behind_name name input (a ++ 10 ∷ x) b y (first.joined ∙ flat_field name a x) second)
+
+-- a text of a field alone is that field
+pub field_alone : (name input value rest : List ℕ) → HasField name input value rest → HasField name (field_text name value) value []
+field_alone name input value rest has = record { joined = sym (append-nil (field_text name value)); one_line = has.one_line }
+
+pub first_bytes : (a b : ℕ) (x y : List ℕ) → a ∷ x ≡ b ∷ y → a ≡ b
+first_bytes a b x y same = cc same
+
+-- the hex text of an id of some kind is that of an id
+pub of_an_id : (kind : Kind) (hex : List ℕ) → IsHexOf kind hex → IsHexOfAnId hex
+of_an_id hash.Sha1 hex (is, digits) = (inl is, digits)
+of_an_id hash.Sha256 hex (is, digits) = (inr is, digits)
 
 hex_digit_is_no_newline : (byte : ℕ) → is_hex_digit byte ≡ true → byte ≢ 10
 hex_digit_is_no_newline byte digit same = true≢false (sym digit ∙ ap is_hex_digit same)

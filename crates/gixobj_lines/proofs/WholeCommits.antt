@@ -4,6 +4,7 @@ use Rattle.std.proofs.lemmas.List.{append-nil}
 use Rattle.std.proofs.lemmas.List.Elements.{All-cons, All-head, All-nil, All-tail}
 use Rattle.std.specs.List.{flat_map}
 use Rattle.std.specs.Prelude.{codes, map}
+use Rattle.gixobj_fields.proofs.HeaderFields.{of_an_id}
 use Rattle.gixobj_fields.proofs.Runs.{behind_passed, one_run, passes_one}
 use Rattle.gixobj_fields.specs.HeaderText.{BeginsSeveralLines, Header, IsHeaderText, LacksName, field_text}
 use Rattle.gixobj_fields.specs.Runs.{HasNoPiece, Passes, Tells, complete, tells_end, tells_piece}
@@ -181,10 +182,6 @@ reaches_memory kind text commit before behind input rest line gathers (first_mes
 reaches_memory kind text commit before behind input rest line gathers (message_comes _ message is) takes = absurd takes
 
 -- ---- the ids of a commit that was read
-
-pub of_an_id : (kind : Kind) (hex : List ℕ) → IsHexOf kind hex → IsHexOfAnId hex
-of_an_id hash.Sha1 hex (is, digits) = (inl is, digits)
-of_an_id hash.Sha256 hex (is, digits) = (inr is, digits)
 
 pub are_ids : (kind : Kind) (hexes : List (List ℕ)) → All (IsHexOf kind) hexes → All IsHexOfAnId hexes
 are_ids kind [] are = All-nil IsHexOfAnId

@@ -2,6 +2,7 @@
 use Rattle.std.proofs.Common.{◌≡◌, ◌≢◌, ℕ, List, [], ◌∷◌, ◌++◌, Option, Some, None, ap, inl, inr, refl, subst, sym}
 use Rattle.std.specs.Prelude.{codes}
 use Rattle.gixobj_actors.specs.Actor.{IsActorLine}
+use Rattle.gixobj_fields.proofs.HeaderFields.{of_an_id}
 use Rattle.gixobj_fields.specs.HeaderReading.{HasId}
 use Rattle.gixobj_fields.specs.HeaderText.{HasField}
 use Rattle.gixobj_fields.specs.Runs.{complete, tells_end, tells_piece}
@@ -100,10 +101,6 @@ tail_told kind input (Some line) body message signature (field, (name, email, ti
     }
 
 -- ---- the law: told
-
-pub of_an_id : (kind : hash.Kind) (hex : List ℕ) → IsHexOf kind hex → IsHexOfAnId hex
-of_an_id of_hash.Sha1 hex (is, digits) = (inl is, digits)
-of_an_id of_hash.Sha256 hex (is, digits) = (inr is, digits)
 
 pub told : (kind : hash.Kind) (text : List ℕ) (tag : TagLines) → IsTagText kind text tag → (tokens : List TokenView) × Tells kind state.Target text tokens complete × AreTokensOf tag tokens × NameCame tokens
 told kind text tag is =

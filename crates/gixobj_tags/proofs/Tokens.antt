@@ -7,7 +7,7 @@ use Rattle.bstr.specs.declared.bstr.BStr.{BStr}
 use Rattle.gixobj_actors.proofs.ActorLines.{one_actor}
 use Rattle.gixobj_actors.specs.Actor.{IsActorLine}
 use Rattle.gixobj_actors.specs.declared.actor.SignatureRef.{SignatureRef}
-use Rattle.gixobj_fields.proofs.HeaderFields.{one_field}
+use Rattle.gixobj_fields.proofs.HeaderFields.{field_alone, one_field}
 use Rattle.gixobj_fields.specs.HeaderReading.{HasId}
 use Rattle.gixobj_fields.specs.HeaderText.{HasField, field_text}
 use Rattle.gixobj_fields.specs.Runs.{HasNoPiece}
@@ -81,9 +81,6 @@ pub goes_on : (kind : hash.Kind) (before : State) (input : List ℕ) (token : To
 goes_on kind before input token behind rest has = omega (arith, no_longer kind before input token behind rest has, fewer_states kind before input token behind rest has)
 
 -- ---- one token
-
-pub field_alone : (name input value rest : List ℕ) → HasField name input value rest → HasField name (field_text name value) value []
-field_alone name input value rest has = record { joined = sym (append-nil (field_text name value)); one_line = has.one_line }
 
 pub no_token_of_nothing : (kind : hash.Kind) (before : State) (input : List ℕ) (token : TokenView) (behind : State) (rest : List ℕ) → input ≡ [] → HasToken kind before input token behind rest → ⊥
 no_token_of_nothing kind before input token behind rest bare (target_comes _ hex _ id has spells) = let less = field_shortens (codes "object") input hex rest has.0 in omega (arith, less, ap length bare)

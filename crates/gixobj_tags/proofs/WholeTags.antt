@@ -2,7 +2,7 @@
 use Rattle.std.proofs.Common.{◌≡◌, ℕ, List, ◌∷◌, ◌++◌, IsTrue, Option, Some, None, append_assoc, arith, refl, subst, sym, ◌∙◌}
 use Rattle.std.proofs.lemmas.Bool.{true≢false}
 use Rattle.std.specs.Prelude.{codes}
-use Rattle.gixobj_fields.proofs.HeaderFields.{digits_are_one_line, one_field}
+use Rattle.gixobj_fields.proofs.HeaderFields.{digits_are_one_line, first_bytes, one_field}
 use Rattle.gixobj_fields.specs.HeaderReading.{HasId, HasNoId, HasNoKind}
 use Rattle.gixobj_fields.specs.HeaderText.{HasField, LacksName, field_text}
 use Rattle.gixobj_ids.specs.Kind.{kind_word}
@@ -26,11 +26,6 @@ pub record Reads (kind : hash.Kind) (text : List ℕ) (tag : TagLines) : Type 0 
   pub name : HasName after_kind tag.name after_name
   pub tagger : HasTagger after_name tag.tagger body
   pub parted : IsBody body tag.message tag.signature
-
--- ---- bytes
-
-first_bytes : (a b : ℕ) (x y : List ℕ) → a ∷ x ≡ b ∷ y → a ≡ b
-first_bytes a b x y same = cc same
 
 -- ---- put together
 

@@ -4,6 +4,7 @@ use Rattle.std.proofs.lemmas.List.{append-nil}
 use Rattle.std.specs.List.{AllZip}
 use Rattle.std.specs.Prelude.{codes}
 use Rattle.gixobj_actors.proofs.ActorLines.{one_actor}
+use Rattle.gixobj_fields.proofs.HeaderFields.{field_alone, of_an_id}
 use Rattle.gixobj_fields.specs.HeaderText.{HasField, HasHeader, Header, field_text}
 use Rattle.gixobj_fields.specs.Runs.{complete, tells_end, tells_piece}
 use Rattle.gixobj_fields.specs.Runs as runs
@@ -11,7 +12,6 @@ use Rattle.gixobj_ids.proofs.HexIds.{one_id, spelled}
 use Rattle.gixobj_ids.specs.Hash.Hex.{spelled_id}
 use Rattle.gixobj_ids.specs.declared.hash.kind.Kind.{Kind}
 use Rattle.gixobj_lines.proofs.OneLine.{no_line_of_nothing, one_line}
-use Rattle.gixobj_lines.proofs.WholeCommits.{of_an_id}
 use Rattle.gixobj_lines.specs.Lines.{HasLine, LineView, author_comes, committer_comes, encoding_comes, first_header_comes, first_message_comes, header_comes, message_comes, parent_comes, tree_comes}
 use Rattle.gixobj_lines.specs.declared.lines.State.{State}
 use Rattle.gixobj_tokens.specs.CommitRuns.{Tells}
@@ -39,9 +39,6 @@ pub no_token_of_nothing : (kind : Kind) (before : State) (input : List ℕ) (tok
 no_token_of_nothing kind before input token behind rest none (line, has, tells) = no_line_of_nothing kind before input line behind rest none has
 
 -- ---- the text of a token
-
-field_alone : (name input value rest : List ℕ) → HasField name input value rest → HasField name (field_text name value) value []
-field_alone name input value rest has = record { joined = sym (append-nil (field_text name value)); one_line = has.one_line }
 
 header_alone : (input : List ℕ) (header : Header) (rest : List ℕ) → (has : HasHeader input header rest) → HasHeader has.text header []
 header_alone input header rest has = record { text = has.text; joined = sym (append-nil has.text); written = has.written; ends = tt }

@@ -2,7 +2,8 @@ use Rattle.std.proofs.Common.{rules, ◌≡◌, ◌≢◌}
 use Rattle.std.proofs.lemmas.Result.{err_from_is_err_and}
 use Rattle.gixobj_commits.specs.CommitViews.{commit_lines}
 use Rattle.gixobj_lines.proofs.OneLine.{line_shortens}
-use Rattle.gixobj_lines.proofs.WholeCommits.{are_ids, gathers_more, of_an_id, reaches_memory, refuses_commit, whole}
+use Rattle.gixobj_fields.proofs.HeaderFields.{of_an_id}
+use Rattle.gixobj_lines.proofs.WholeCommits.{are_ids, gathers_more, reaches_memory, refuses_commit, whole}
 use Rattle.gixobj_lines.specs.Lines.{line_view}
 use Rattle.gixobj_lines.specs.declared.lines.State.TheVariants as state
 use Rattle.gixobj_commits.proofs.commit.CommitRef.from_bytes.Goals as goal
