@@ -77,9 +77,9 @@ fn no_tagger(rt: HostRuntime) -> Result<(), Fail> {
 fn ids_of_sha256(rt: HostRuntime) -> Result<(), Fail> {
     let mut tokens = TagRefIter::from_bytes(BARE_SHA256, hash::Kind::Sha256);
     let id = ObjectId::empty_tree(hash::Kind::Sha256);
+    assert_eq!(rt; tokens.count(), 3);
     assert!(rt; tokens.target_id()? == id);
     assert!(rt; next_of(&mut tokens)? == Token::Target { id });
-    assert_eq!(rt; tokens.count(), 2);
     let mut tokens = TagRefIter::from_bytes(BARE_SHA256, hash::Kind::Sha1);
     assert!(rt; matches!(&tokens.next(), Some(Err(decode::Error::Malformed))));
     assert!(rt; tokens.next().is_none());
