@@ -29,13 +29,13 @@ mod of_laws {
 mod of_laws_of_tags {
     pub use gixobj_codec::laws::{
         owned_tags_have_the_parts, parts_of_tags_are_found, tag_has_one_reading,
-        tag_reads_and_writes, tag_readers_read_one_language, tag_tokens_have_one_reading,
+        tag_readers_read_one_language, tag_reads_and_writes, tag_tokens_have_one_reading,
         tag_writes_back,
     };
 }
 
 mod of_tag {
-    pub use gixobj_codec::tag::ref_iter::{TagRefIter, Token};
+    pub use gixobj_codec::tag::ref_iter::Token;
     pub use gixobj_codec::tag::write::{Error, validated_name};
     pub use gixobj_codec::tag::{Tag, TagRef, TagRefIter, ref_iter, write};
 }
