@@ -8,8 +8,9 @@
 pub mod encode;
 pub mod laws;
 pub mod parse;
+pub mod tree;
 
 pub use gixobj_actors::{actor, date};
 pub use gixobj_fields::{WriteTo, streams, traits};
 pub use gixobj_ids::{Header, Kind, OutOfMemory, compute_hash, decode, hash, kind};
-pub use gixobj_trees::{Blob, BlobRef, Tree, tree};
+pub use gixobj_trees::{Blob, BlobRef, Tree};

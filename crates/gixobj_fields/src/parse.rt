@@ -173,7 +173,7 @@ fn after_front<'a>(input: &'a [u8], front: &[u8]) -> Option<&'a [u8]>
 }
 
 /// What stands after one space at the front.
-fn after_space(input: &[u8]) -> Option<&[u8]>
+pub fn after_space(input: &[u8]) -> Option<&[u8]>
     ensures { MatchOption result (EndsHeader input.now) (λ rest. input.now ≡ space ∷ rest.now) }
 {
     match input {

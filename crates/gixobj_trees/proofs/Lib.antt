@@ -1,6 +1,6 @@
-mod ModeTexts
-mod ModesBack
-mod NameKeys
+pub mod ModeTexts
+pub mod ModesBack
+pub mod NameKeys
 mod OctalNumbers
-mod TreeWrites
-mod WellFormed
+pub mod TreeWrites
+pub mod WellFormed

@@ -1,16 +1,18 @@
 -- Writing a tree entry by entry.
-use Rattle.std.proofs.Common.{◌≡◌, ℕ, ◌+◌, ◌<◌, ◌≤◌, ◌^◌, List, [], ◌∷◌, ◌++◌, length, get_or, take, drop, All, refl, ap, arith, sym, ◌∙◌, append_assoc, length-append}
+use Rattle.std.proofs.Common.{◌≡◌, ℕ, ◌+◌, ◌<◌, ◌≤◌, ◌^◌, List, [], ◌∷◌, ◌++◌, length, get_or, take, drop, All, inr, refl, ap, arith, sym, ◌∙◌, append_assoc, length-append}
 use Rattle.std.specs.Prelude.{Contains}
 use Rattle.std.proofs.lemmas.List.{append-nil, take_all, take_more, take-append-drop, drop_more}
 use Rattle.std.proofs.lemmas.List.Elements.{All-contains, All-push, Contains-append_right, Contains-get_or}
 use Rattle.std.proofs.lemmas.List.Concat.{flat_map-append}
-use Rattle.gixobj_trees.specs.Entries.{EntryView}
+use Rattle.gixobj_trees.specs.Entries.{EntryView, entry_of}
 use Rattle.gixobj_texts.specs.Parse.{IsFree}
 use Rattle.gixobj_trees.specs.TreeText.{RefusesEntry, RefusesTree, before_name, entry_text, tree_text}
 use Rattle.gixobj_fields.specs.Streams.{Puts, PutsFront, SinkView}
 use Rattle.gixobj_fields.specs.Writing.{Refused, SaysWhy}
 use Rattle.gixobj_fields.specs.declared.encode.Error.{Error}
+use Rattle.gixobj_fields.specs.declared.encode.Error.TheVariants.{OutOfMemory}
 use Rattle.gixobj_ids.specs.Hash.{id_bytes}
+use Rattle.gixobj_ids.specs.declared.hash.object_id.ObjectId.{ObjectId}
 use Rattle.gixobj_trees.specs.Mode.{mode_text}
 use Rattle.gixobj_fields.proofs.Puts.{front_first, front_more}
 use Rattle.gixobj_fields.proofs.Refusals.{says_why_within}
@@ -64,14 +66,19 @@ too_long items all i e n same h is len over short =
 -- ---- an entry
 
 -- the mode and its space, put
-pub mode_put : (a b : SinkView) (e : EntryView) (digits : List ℕ) → digits ≡ mode_text e.mode → Puts a b (digits ++ 32 ∷ []) → Puts a b (before_name e)
-mode_put a b e digits same put = rw (← same) put
+pub mode_put : (a b : SinkView) (mode : ℕ) (name digits : List ℕ) (id : ObjectId) → digits ≡ mode_text mode → Puts a b (digits ++ 32 ∷ []) → Puts a b (before_name (entry_of mode name id))
+mode_put a b mode name digits id same put = rw (← same) put
 
 -- a front of the mode and its space is a front of the entry
-pub mode_front : (a b : SinkView) (e : EntryView) (digits : List ℕ) → digits ≡ mode_text e.mode → PutsFront a b (digits ++ 32 ∷ []) → PutsFront a b (entry_text e)
-mode_front a b e digits same part = rw (← same) (front_first a b ((digits ++ 32 ∷ []) ++ e.name) (0 ∷ id_bytes e.id) (front_first a b (digits ++ 32 ∷ []) e.name part))
+pub mode_front : (a b : SinkView) (mode : ℕ) (name digits : List ℕ) (id : ObjectId) → digits ≡ mode_text mode → PutsFront a b (digits ++ 32 ∷ []) → PutsFront a b (entry_text (entry_of mode name id))
+mode_front a b mode name digits id same part = rw (← same) (front_first a b ((digits ++ 32 ∷ []) ++ name) (0 ∷ id_bytes id) (front_first a b (digits ++ 32 ∷ []) name part))
 
 -- a front of the name, the zero byte and the id stands behind the mode
-pub name_front : (a b c : SinkView) (e : EntryView) (id : List ℕ) → id ≡ id_bytes e.id → Puts a b (before_name e) → PutsFront b c (e.name ++ 0 ∷ (id ++ [])) → PutsFront a c (entry_text e)
-name_front a b c e id same put part =
-    rw (append_assoc (before_name e) e.name (0 ∷ id_bytes e.id), ← same, ← append-nil id) (front_more a b c (before_name e) (e.name ++ 0 ∷ (id ++ [])) put part)
+pub name_front : (a b c : SinkView) (mode : ℕ) (name bytes : List ℕ) (id : ObjectId) → bytes ≡ id_bytes id → Puts a b (before_name (entry_of mode name id)) → PutsFront b c (name ++ 0 ∷ (bytes ++ []))
+    → PutsFront a c (entry_text (entry_of mode name id))
+name_front a b c mode name bytes id same put part =
+    rw (append_assoc (before_name (entry_of mode name id)) name (0 ∷ id_bytes id), ← same, ← append-nil bytes) (front_more a b c (before_name (entry_of mode name id)) (name ++ 0 ∷ (bytes ++ [])) put part)
+
+-- a name with a zero byte is not copied for want of memory
+pub no_copy : (a b : SinkView) (mode : ℕ) (name : List ℕ) (id : ObjectId) → Contains name 0 → Puts a b (before_name (entry_of mode name id)) → SaysWhy (RefusesEntry (entry_of mode name id)) a b (entry_text (entry_of mode name id)) OutOfMemory
+no_copy a b mode name id has put = (name, inr (before_name (entry_of mode name id), (has, refl, refl), put))

@@ -18,6 +18,10 @@ pub record EntryView : Type 0 where
   pub name : List ℕ
   pub id : ObjectId
 
+-- the entry of this mode, name and id
+abbrev pub entry_of : ℕ → List ℕ → ObjectId → EntryView
+entry_of mode name id = record { mode = mode; name = name; id = id }
+
 -- the key of a name: with a slash after a tree's
 abbrev pub key_of : List ℕ → Bool → List ℕ
 key_of name is_tree = if is_tree then name ++ (slash ∷ []) else name

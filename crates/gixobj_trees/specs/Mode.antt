@@ -1,9 +1,14 @@
 -- The modes of tree entries: their text, and what their type bits say (git-fast-import, "filemodify"; gitdatamodel, "trees").
 use Rattle.std.specs.Prelude.{◌≡◌, ◌≢◌, ◌≤◌, ◌⊎◌, ◌/◌, ◌%◌, ◌==◌, ◌&&◌, ℕ, Bool, List, [], ◌∷◌, ◌++◌, codes, bit_and, if◌then◌else◌, length, slice_index, ◌<◌, ◌^◌}
 use Rattle.std.specs.Str.Parse.{AllDigits, digits_value}
+use Rattle.gixobj_trees.specs.declared.tree.entry_mode.EntryMode.{EntryMode}
 use Rattle.gixobj_trees.specs.declared.tree.entry_kind.EntryKind.{EntryKind}
 use Rattle.gixobj_trees.specs.declared.tree.entry_kind.EntryKind.TheVariants.{Tree, Blob, BlobExecutable, Link, Commit}
 use Rattle.gixobj_texts.specs.Bytes.{digit, space}
+
+-- the number that a mode is
+abbrev pub mode_bits : EntryMode → ℕ
+mode_bits mode = mode.internal
 
 -- the type bits of a mode
 abbrev pub type_bits : ℕ → ℕ

@@ -5,9 +5,9 @@ mod compared;
 mod entry;
 mod entry_kind;
 mod entry_mode;
-mod order;
+pub mod order;
 mod well_formed;
-mod write;
+pub mod write;
 
 pub use entry::Entry;
 pub use entry_kind::EntryKind;

@@ -1,5 +1,5 @@
 //! Entries of trees (gitdatamodel, "trees").
-ghost use Rattle.std.specs.Prelude.{◌≡◌, length};
+ghost use Rattle.std.specs.Prelude.{◌≡◌};
 ghost use Rattle.std.specs.Cmp.Lexicographic.{slice_cmp};
 ghost use Rattle.std.specs.Ordering.{nat_cmp};
 ghost use Rattle.bstr.specs.Owned.{bstring_bytes};
@@ -7,7 +7,8 @@ ghost use Rattle.gixobj_trees.specs.Entries.{entry_key, key_of};
 ghost use Rattle.gixobj_trees.specs.EntryOrder.{entry_cmp, entry_feed, same_entry};
 ghost use Rattle.gixobj_trees.specs.EntryOrderLaws.{entry_cmp_total, entry_equiv, entry_ties};
 
-use super::{EntryMode, name_order};
+use super::EntryMode;
+use super::order::key_order;
 use bstr::BString;
 use gixobj_ids::hash::ObjectId;
 use std::cmp::Ordering;
@@ -28,10 +29,11 @@ pub struct Entry {
 impl Model for Entry {
     ghost use Rattle.bstr.specs.Owned.{bstring_bytes};
     ghost use Rattle.gixobj_trees.specs.Entries.{EntryView};
+    ghost use Rattle.gixobj_trees.specs.Mode.{mode_bits};
 
     ghost Value = { EntryView };
 
-    ghost view = { λ e. record { mode = e.mode; name = bstring_bytes e.filename; id = e.oid } };
+    ghost view = { λ e. record { mode = mode_bits e.mode; name = bstring_bytes e.filename; id = e.oid } };
 }
 
 impl Entry {
@@ -46,19 +48,8 @@ impl Entry {
     pub(super) fn key_order_with(&self, name: &[u8], is_tree: bool) -> Ordering
         ensures { result ≡ slice_cmp nat_cmp (entry_key self.now) (key_of name.now is_tree) }
     {
-        let own_name = self.filename.as_bytes();
-        let own_is_tree = self.mode.is_tree();
-        let names = name_order(own_name, own_is_tree, name, is_tree);
-        let lengths = key_len(own_name, own_is_tree).cmp(&key_len(name, is_tree));
-        names.then(lengths)
+        key_order(self.filename.as_bytes(), self.mode.is_tree(), name, is_tree)
     }
-}
-
-/// The length of the key: of the name, and one more for a tree.
-fn key_len(name: &[u8], is_tree: bool) -> usize
-    ensures { result ≡ length (key_of name.now is_tree) }
-{
-    name.len() + usize::from(is_tree)
 }
 
 /// The same mode, name and id.

@@ -4,12 +4,11 @@ ghost use Rattle.std.specs.Option.{SomeIff};
 ghost use Rattle.std.specs.Str.Parse.{AllDigits, digits_value};
 ghost use Rattle.bstr.specs.BStr.{bstr_bytes};
 ghost use Rattle.gixobj_texts.specs.Parse.{IsFree};
-ghost use Rattle.gixobj_trees.specs.Mode.{BeginsWithMode, IsModeNumber, KeepsByteSix, EndsMode, blob_type, commit_type, entry_word, is_tree_mode, kind_of_mode, link_type, mode_of_digits, mode_of_kind, mode_text, mode_type, mode_value, tree_type, type_bits, is_blob_mode, is_commit_mode, is_link_mode};
+ghost use Rattle.gixobj_trees.specs.Mode.{BeginsWithMode, IsModeNumber, KeepsByteSix, EndsMode, blob_type, commit_type, entry_word, is_tree_mode, kind_of_mode, link_type, mode_of_digits, mode_of_kind, mode_text, mode_type, mode_value, tree_type, type_bits, is_blob_mode, is_commit_mode, is_link_mode, mode_bits};
 ghost use Rattle.gixobj_texts.specs.Bytes.{digit, space};
 
 use super::EntryKind;
 use bstr::{BStr, ByteSlice};
-use std::marker::Model;
 
 /// The mode of a tree entry, 16 bits: what kind of object the entry names, and for a file its
 /// permissions.
@@ -20,23 +19,13 @@ pub struct EntryMode {
     internal: u16,
 }
 
-impl Model for EntryMode {
-    ghost use Rattle.std.specs.Prelude.{ℕ};
-
-    ghost Value = { ℕ };
-
-    ghost view = { λ mode. mode.internal };
-
-    ghost inverse = { λ number. record { internal = number } };
-}
-
 const IFMT: u16 = 0o170000;
 
 /// Access
 impl EntryMode {
     /// The mode as a number of 16 bits: `0o040000` for a tree, however it was spelled.
     pub fn value(self) -> u16
-        ensures { result ≡ mode_value self }
+        ensures { result ≡ mode_value (mode_bits self) }
     {
         if self.internal & IFMT == 0o140000 {
             0o040000
@@ -47,7 +36,7 @@ impl EntryMode {
 
     /// The kind that the type bits say. A mode of none of git's types is a commit's.
     pub fn kind(&self) -> EntryKind
-        ensures { result ≡ kind_of_mode self.now }
+        ensures { result ≡ kind_of_mode (mode_bits self.now) }
     {
         match self.value() & IFMT {
             0o100000 if self.value() & 0o100 == 0o100 => EntryKind::BlobExecutable,
@@ -60,28 +49,28 @@ impl EntryMode {
 
     /// Whether the type bits are a tree's.
     pub fn is_tree(&self) -> bool
-        ensures { result ≡ is_tree_mode self.now }
+        ensures { result ≡ is_tree_mode (mode_bits self.now) }
     {
         self.value() & IFMT == 0o040000
     }
 
     /// Whether the type bits are not a tree's.
     pub fn is_no_tree(&self) -> bool
-        ensures { result ≡ not (is_tree_mode self.now) }
+        ensures { result ≡ not (is_tree_mode (mode_bits self.now)) }
     {
         self.value() & IFMT != 0o040000
     }
 
     /// Whether the type bits are a symbolic link's.
     pub fn is_link(&self) -> bool
-        ensures { result ≡ is_link_mode self.now }
+        ensures { result ≡ is_link_mode (mode_bits self.now) }
     {
         self.value() & IFMT == 0o120000
     }
 
     /// Whether the type bits are a file's.
     pub fn is_blob(&self) -> bool
-        ensures { result ≡ is_blob_mode self.now }
+        ensures { result ≡ is_blob_mode (mode_bits self.now) }
     {
         self.value() & IFMT == 0o100000
     }
@@ -89,21 +78,21 @@ impl EntryMode {
     /// Whether the type bits are a submodule's. A mode of no type of git's isn't one, though its
     /// kind is `Commit`.
     pub fn is_commit(&self) -> bool
-        ensures { result ≡ is_commit_mode self.now }
+        ensures { result ≡ is_commit_mode (mode_bits self.now) }
     {
         self.value() & IFMT == 0o160000
     }
 
     /// Whether this is a file that its owner may run.
     pub fn is_executable(&self) -> bool
-        ensures { IsTrue result ↔ (kind_of_mode self.now ≡ EntryKind.BlobExecutable) }
+        ensures { IsTrue result ↔ (kind_of_mode (mode_bits self.now) ≡ EntryKind.BlobExecutable) }
     {
         matches!(self.kind(), EntryKind::BlobExecutable)
     }
 
     /// Whether this is a file or a symbolic link.
     pub fn is_blob_or_symlink(&self) -> bool
-        ensures { IsTrue result ↔ ((kind_of_mode self.now ≡ EntryKind.Blob) ⊎ (kind_of_mode self.now ≡ EntryKind.BlobExecutable) ⊎ (kind_of_mode self.now ≡ EntryKind.Link)) }
+        ensures { IsTrue result ↔ ((kind_of_mode (mode_bits self.now) ≡ EntryKind.Blob) ⊎ (kind_of_mode (mode_bits self.now) ≡ EntryKind.BlobExecutable) ⊎ (kind_of_mode (mode_bits self.now) ≡ EntryKind.Link)) }
     {
         matches!(
             self.kind(),
@@ -113,7 +102,7 @@ impl EntryMode {
 
     /// The word of the kind: `tree`, `blob`, `exe`, `link` or `commit`.
     pub fn as_str(&self) -> &'static str
-        ensures { result.now ≡ entry_word (kind_of_mode self.now) }
+        ensures { result.now ≡ entry_word (kind_of_mode (mode_bits self.now)) }
     {
         match self.kind() {
             EntryKind::Tree => "tree",
@@ -127,7 +116,7 @@ impl EntryMode {
     /// The mode's text as a tree has it, in the buffer: octal digits, one for 0, five for a tree, and
     /// else six.
     pub fn as_bytes<'a>(&self, backing: &'a mut [u8; 6]) -> BStr<'a>
-        ensures text { bstr_bytes result ≡ mode_text self.now }
+        ensures text { bstr_bytes result ≡ mode_text (mode_bits self.now) }
         ensures short { length (bstr_bytes result) ≤ 6 }
     {
         let mode = self.internal;
@@ -154,7 +143,7 @@ impl EntryMode {
     /// octal digits, their number modulo 65536. `040000` is kept apart from `40000`. Where byte 6 is
     /// a space and byte 5 isn't, there are exactly six digits. None for no bytes.
     pub fn from_bytes(i: &[u8]) -> Option<EntryMode>
-        ensures found { IfSome result (λ mode. (rest : List ℕ) × BeginsWithMode i.now mode rest) }
+        ensures found { IfSome result (λ mode. (rest : List ℕ) × BeginsWithMode i.now (mode_bits mode) rest) }
         ensures none { IfNone result ((mode : ℕ) (rest : List ℕ) → BeginsWithMode i.now mode rest → ⊥) }
     {
         match EntryMode::extract_from_bytes(i) {
@@ -166,7 +155,7 @@ impl EntryMode {
     /// The mode in front of the bytes, as [`EntryMode::from_bytes`] reads it, and what stands behind
     /// its digits.
     pub fn extract_from_bytes(i: &[u8]) -> Option<(EntryMode, &[u8])>
-        ensures found { IfSome result (λ parts. BeginsWithMode i.now parts.0 parts.1.now) }
+        ensures found { IfSome result (λ parts. BeginsWithMode i.now (mode_bits parts.0) parts.1.now) }
         ensures none { IfNone result ((mode : ℕ) (rest : List ℕ) → BeginsWithMode i.now mode rest → ⊥) }
     {
         if i.is_empty() {
@@ -182,7 +171,7 @@ impl EntryMode {
 }
 
 impl From<EntryKind> for EntryMode {
-    ghost from_gives = { λ kind mode. mode ≡ mode_of_kind kind };
+    ghost from_gives = { λ kind mode. mode_bits mode ≡ mode_of_kind kind };
 
     /// The kind's own mode.
     fn from(kind: EntryKind) -> EntryMode {
@@ -193,7 +182,7 @@ impl From<EntryKind> for EntryMode {
 }
 
 impl From<EntryMode> for EntryKind {
-    ghost from_gives = { λ mode kind. kind ≡ kind_of_mode mode };
+    ghost from_gives = { λ mode kind. kind ≡ kind_of_mode (mode_bits mode) };
 
     /// The kind of the mode.
     fn from(mode: EntryMode) -> EntryKind {

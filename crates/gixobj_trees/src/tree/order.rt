@@ -1,5 +1,5 @@
 //! The order of names in a tree (gitdatamodel, "trees").
-ghost use Rattle.std.specs.Prelude.{◌≡◌};
+ghost use Rattle.std.specs.Prelude.{◌≡◌, length};
 ghost use Rattle.std.specs.Cmp.Lexicographic.{slice_cmp};
 ghost use Rattle.std.specs.Ordering.{nat_cmp};
 ghost use Rattle.gixobj_trees.specs.Entries.{key_of, name_cmp, next_byte};
@@ -24,6 +24,24 @@ pub fn name_order(left: &[u8], left_is_tree: bool, right: &[u8], right_is_tree: 
         other_rest,
         right_is_tree,
     )))
+}
+
+/// The order of the keys of two names, which have a `/` behind a tree's.
+///
+/// It differs from [`name_order`] only where a name has a `/`. It takes no memory.
+pub fn key_order(left: &[u8], left_is_tree: bool, right: &[u8], right_is_tree: bool) -> Ordering
+    ensures { result ≡ slice_cmp nat_cmp (key_of left.now left_is_tree) (key_of right.now right_is_tree) }
+{
+    let names = name_order(left, left_is_tree, right, right_is_tree);
+    let lengths = key_len(left, left_is_tree).cmp(&key_len(right, right_is_tree));
+    names.then(lengths)
+}
+
+/// The length of the key: of the name, and one more for a tree.
+fn key_len(name: &[u8], is_tree: bool) -> usize
+    ensures { result ≡ length (key_of name.now is_tree) }
+{
+    name.len() + usize::from(is_tree)
 }
 
 /// The first byte of the rest of a name, where a tree's end counts as `/`.

@@ -1,0 +1,3 @@
+//! Trees (gitdatamodel, "trees").
+
+pub use gixobj_trees::tree::{Entry, EntryKind, EntryMode, Tree, name_order};

@@ -1,0 +1,2 @@
+pub mod EntryRuns
+pub mod OneEntry

@@ -1,0 +1,8 @@
+-- The entries so far were read of the input, and the rest is left.
+use Rattle.std.proofs.Common.{map}
+use Rattle.gixobj_tree_readers.proofs.EntryRuns.{PassesEntries}
+use Rattle.gixobj_tree_readers.proofs.tree.TreeRef.from_bytes.Given as goal
+use Rattle.gixobj_tree_readers.specs.TreeViews.{entry_view}
+
+abbrev pub invariant-loop-rest : goal.invariant-loop-rest
+invariant-loop-rest l = PassesEntries l.hash_kind l.bytes.now (map entry_view l.entries.items) l.rest.now
