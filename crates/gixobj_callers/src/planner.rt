@@ -10,7 +10,8 @@ use gixobj_base::hash::Kind;
 use gixobj_base::laws::writers_fail_as_their_sinks;
 use gixobj_base::{Tree, WriteTo};
 use gixobj_codec::laws::{
-    tree_has_one_reading, tree_readers_read_one_language, tree_reads_back, tree_writes_back,
+    entries_are_passed, tree_has_one_reading, tree_readers_read_one_language, tree_reads_back,
+    tree_writes_back,
 };
 use gixobj_codec::{TreeRef, TreeRefIter};
 use std::alloc::Global;
@@ -20,6 +21,7 @@ pub fn is_tree(text: &[u8], kind: Kind) -> bool
     ensures { MatchBool result ((entries : List EntryView) × IsTreeText kind text.now entries) (IsNoTreeText kind text.now) }
 {
     tree_readers_read_one_language();
+    entries_are_passed();
     for item in TreeRefIter::from_bytes(text, kind) {
         if let Err(_) = item {
             return false;

@@ -16,12 +16,14 @@ returns-in-Err-clause-room c = λ all.
 pub returns-in-Err-from_bytes-clause-room : goal.returns-in-Err-from_bytes-clause-room
 returns-in-Err-from_bytes-clause-room c = λ all.
     let is = c.tree_reads_back.ensures c.args.kind c.args.tree.now all in
-    let written : c.deref.result.now ≡ tree_text c.args.tree.now = ? in
+    let written : c.deref.result.now ≡ tree_text c.args.tree.now =
+    c.deref.ensures.value ∙ c.in_default.ensures.written ∙ ap (λ (it : List ℕ). it ++ tree_text c.args.tree.now) c.new-bytes.ensures.items in
     tree_unread c.args.kind (tree_text c.args.tree.now) c.args.tree.now c.in-Err-from_bytes.error (subst (λ (it : List ℕ). RefusesTreeText c.args.kind it c.in-Err-from_bytes.error) written c.in-Err-from_bytes.ensures.refusal) is
 
 pub returns-in-Ok-into_owned-clause-same : goal.returns-in-Ok-into_owned-clause-same
 returns-in-Ok-into_owned-clause-same c = λ all.
     let is = c.tree_reads_back.ensures c.args.kind c.args.tree.now all in
-    let written : c.deref.result.now ≡ tree_text c.args.tree.now = ? in
+    let written : c.deref.result.now ≡ tree_text c.args.tree.now =
+    c.deref.ensures.value ∙ c.in_default.ensures.written ∙ ap (λ (it : List ℕ). it ++ tree_text c.args.tree.now) c.new-bytes.ensures.items in
     let read = subst (λ (it : List ℕ). IsTreeText c.args.kind it (tree_entries c.in-Ok.back)) written c.in-Ok.ensures.found in
     c.in-Ok-into_owned.ensures.owned ∙ c.tree_has_one_reading.ensures.one_tree c.args.kind (tree_text c.args.tree.now) (tree_entries c.in-Ok.back) c.args.tree.now read is
