@@ -6,9 +6,10 @@ pub use gixobj_commits::laws::{
 pub use gixobj_extra_headers::laws::{borrowed_headers_are_found, owned_headers_are_found};
 pub use gixobj_fields::laws::header_reads_back;
 pub use gixobj_ids::laws::hex_spells_one_id;
+pub use gixobj_tag_tokens::laws::{
+    parts_of_tags_are_found, tag_readers_read_one_language, tag_tokens_have_one_reading,
+};
 pub use gixobj_tags::laws::{
-    owned_tags_have_the_parts, parts_of_tags_are_found, tag_has_one_reading,
-    tag_readers_read_one_language, tag_reads_and_writes, tag_tokens_have_one_reading,
-    tag_writes_back,
+    owned_tags_have_the_parts, tag_has_one_reading, tag_reads_and_writes, tag_writes_back,
 };
 pub use gixobj_tokens::laws::{readers, tokens};

@@ -10,5 +10,6 @@ pub mod tag;
 
 pub use gixobj_commits::{Commit, CommitRef};
 pub use gixobj_data::Data;
-pub use gixobj_tags::{Tag, TagRef, TagRefIter};
+pub use gixobj_tag_tokens::TagRefIter;
+pub use gixobj_tags::{Tag, TagRef};
 pub use gixobj_tokens::CommitRefIter;
