@@ -1,14 +1,21 @@
 //! An auditor of releases, who looks for headers of commits.
-ghost use Rattle.std.specs.Prelude.{◌≡◌, IfOk, map};
+ghost use Rattle.std.specs.Prelude.{◌≡◌, IfOk, codes, map};
+ghost use Rattle.std.specs.List.{AllZip};
 ghost use Rattle.bstr.specs.BStr.{bstr_bytes};
 ghost use Rattle.gixobj_base.specs.Hash.{IsHexOfAnId};
+ghost use Rattle.gixobj_base.specs.Hash.Hex.{IsHexOf};
+ghost use Rattle.gixobj_base.specs.ids.hash.kind.Kind.{Kind};
 ghost use Rattle.gixobj_codec.specs.CommitViews.{commit_lines, owned_lines};
 ghost use Rattle.gixobj_codec.specs.ExtraHeaders.{IsFirstPlace, IsFirstValue, values_named};
+ghost use Rattle.gixobj_codec.specs.Mergetags.{IsTagOf};
 
 use bstr::BStr;
 use gixobj_base::OutOfMemory;
-use gixobj_codec::laws::{borrowed_headers_are_found, owned_headers_are_found};
-use gixobj_codec::{Commit, CommitRef};
+use gixobj_base::decode::Error;
+use gixobj_codec::laws::{
+    borrowed_headers_are_found, borrowed_mergetags_are_found, owned_headers_are_found,
+};
+use gixobj_codec::{Commit, CommitRef, TagRef};
 use std::alloc::Global;
 
 /// The value of the first header of this name.
@@ -40,4 +47,18 @@ pub fn values_of<'a>(
     borrowed_headers_are_found();
     let values = commit.extra_headers().find_all(name).collect(alloc)?;
     Ok(values)
+}
+
+/// The tags that were merged, in order: of the value of each header `mergetag` the tag that it is, or that it
+/// is none. Their targets have ids of the kind of the commit's tree.
+pub fn merged_tags_of<'a>(
+    alloc: Global,
+    commit: &'a CommitRef<'_>,
+) -> Result<Vec<Result<TagRef<'a>, Error>>, OutOfMemory>
+    requires { IsHexOfAnId (commit_lines commit.now).tree }
+    ensures { IfOk result (λ it. (kind : Kind) × IsHexOf kind (commit_lines commit.now).tree × AllZip (IsTagOf kind) (values_named (codes "mergetag") (commit_lines commit.now).extra_headers) it.items) }
+{
+    borrowed_mergetags_are_found();
+    let tags = commit.extra_headers().mergetags().collect(alloc)?;
+    Ok(tags)
 }

@@ -34,16 +34,17 @@ pub use Rattle.gixobj_signing.specs.Markers
 pub use Rattle.gixobj_signing.specs.declared as signing
 pub use Rattle.gixobj_tag_names.specs.NameRule
 pub use Rattle.gixobj_tag_names.specs.declared as tag_names
+pub use Rattle.gixobj_tag_tokens.specs.Readers as TagReaders
+pub use Rattle.gixobj_tag_tokens.specs.TagTokens
+pub use Rattle.gixobj_tag_tokens.specs.TokenGiving as TagTokenGiving
+pub use Rattle.gixobj_tag_tokens.specs.declared as tag_tokens
 pub use Rattle.gixobj_tags.specs.LineReading
-pub use Rattle.gixobj_tags.specs.Readers as TagReaders
 pub use Rattle.gixobj_tags.specs.Rewriting as TagRewriting
 pub use Rattle.gixobj_tags.specs.Signed
 pub use Rattle.gixobj_tags.specs.TagOwned
 pub use Rattle.gixobj_tags.specs.TagText
-pub use Rattle.gixobj_tags.specs.TagTokens
 pub use Rattle.gixobj_tags.specs.TagViews
 pub use Rattle.gixobj_tags.specs.TagWriting
-pub use Rattle.gixobj_tags.specs.TokenGiving as TagTokenGiving
 pub use Rattle.gixobj_tags.specs.declared as tags
 pub use Rattle.gixobj_texts.specs.Bytes
 pub use Rattle.gixobj_texts.specs.Optional

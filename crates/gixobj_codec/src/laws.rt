@@ -4,13 +4,17 @@ pub use gixobj_commits::laws::{
     commit_has_one_reading, commit_reads_and_writes, commit_writes_back, owned_forms_have_the_parts,
 };
 pub use gixobj_data::laws::{entries_are_passed, tree_readers_read_one_language};
-pub use gixobj_extra_headers::laws::{borrowed_headers_are_found, owned_headers_are_found};
+pub use gixobj_extra_headers::laws::{
+    borrowed_headers_are_found, borrowed_mergetags_are_found, owned_headers_are_found,
+    owned_mergetags_are_found,
+};
 pub use gixobj_fields::laws::header_reads_back;
 pub use gixobj_ids::laws::hex_spells_one_id;
+pub use gixobj_tag_tokens::laws::{
+    parts_of_tags_are_found, tag_readers_read_one_language, tag_tokens_have_one_reading,
+};
 pub use gixobj_tags::laws::{
-    owned_tags_have_the_parts, parts_of_tags_are_found, tag_has_one_reading,
-    tag_readers_read_one_language, tag_reads_and_writes, tag_tokens_have_one_reading,
-    tag_writes_back,
+    owned_tags_have_the_parts, tag_has_one_reading, tag_reads_and_writes, tag_writes_back,
 };
 pub use gixobj_tokens::laws::{readers, tokens};
 pub use gixobj_tree_readers::laws::{tree_has_one_reading, tree_reads_back, tree_writes_back};

@@ -11,6 +11,7 @@ pub mod tree;
 
 pub use gixobj_commits::{Commit, CommitRef};
 pub use gixobj_data::{Data, TreeRefIter};
-pub use gixobj_tags::{Tag, TagRef, TagRefIter};
+pub use gixobj_tag_tokens::TagRefIter;
+pub use gixobj_tags::{Tag, TagRef};
 pub use gixobj_tokens::CommitRefIter;
 pub use gixobj_tree_readers::TreeRef;

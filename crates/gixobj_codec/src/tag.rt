@@ -1,3 +1,4 @@
 //! Tags (gitdatamodel, "tag objects").
 
-pub use gixobj_tags::tag::{Tag, TagRef, TagRefIter, ref_iter, write};
+pub use gixobj_tag_tokens::{TagRefIter, ref_iter};
+pub use gixobj_tags::tag::{Tag, TagRef, write};

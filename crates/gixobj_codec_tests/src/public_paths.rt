@@ -20,9 +20,10 @@ mod of_ref_iter {
 
 mod of_laws {
     pub use gixobj_codec::laws::{
-        borrowed_headers_are_found, commit_has_one_reading, commit_reads_and_writes,
-        commit_writes_back, header_reads_back, hex_spells_one_id, owned_forms_have_the_parts,
-        owned_headers_are_found, readers, tokens,
+        borrowed_headers_are_found, borrowed_mergetags_are_found, commit_has_one_reading,
+        commit_reads_and_writes, commit_writes_back, header_reads_back, hex_spells_one_id,
+        owned_forms_have_the_parts, owned_headers_are_found, owned_mergetags_are_found, readers,
+        tokens,
     };
 }
 

@@ -1,13 +1,13 @@
 //! Objects whose content is not yet read.
 ghost use Rattle.std.specs.Prelude.{◌≡◌, ◌↔◌, IfSome, IsSome};
 ghost use Rattle.gixobj_ids.specs.declared.kind.Kind.TheVariants as object;
-ghost use Rattle.gixobj_tags.specs.TokenGiving.{IsAtStart as IsAtStartOfTag};
 ghost use Rattle.gixobj_data.specs.EntryGiving.{IsAtEntry};
+ghost use Rattle.gixobj_tag_tokens.specs.TokenGiving.{IsAtStart as IsAtStartOfTag};
 ghost use Rattle.gixobj_tokens.specs.TokenGiving.{IsAtStart};
 
 use crate::tree::TreeRefIter;
 use gixobj_ids::{Kind, hash};
-use gixobj_tags::TagRefIter;
+use gixobj_tag_tokens::TagRefIter;
 use gixobj_tokens::CommitRefIter;
 use std::alloc::Global;
 

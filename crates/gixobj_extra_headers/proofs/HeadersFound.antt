@@ -60,15 +60,15 @@ module _ {S : Type 0} (rest : S → List Header) where
 
   -- ---- all values
 
-  abbrev still_to_come : FindAll S → List (List ℕ)
+  abbrev pub still_to_come : FindAll S → List (List ℕ)
   still_to_come s = values_named (sought s) (rest (searched s))
 
-  none_to_come : (s t : FindAll S) → GivesAll (YieldsFirstBy pair_of rest) s None t → length (still_to_come s) ≡ 0
+  pub none_to_come : (s t : FindAll S) → GivesAll (YieldsFirstBy pair_of rest) s None t → length (still_to_come s) ≡ 0
   none_to_come s t (same, (given, gave)) =
       let all = all_came s.name.now s.inner t.inner given gave ∙ sym (append-nil (map pair_of given)) in
       ap (λ it. length (values_named s.name.now it)) all ∙ ap length (passed s.name.now (map pair_of given) [] gave.1)
 
-  one_came : (s : FindAll S) (value : BStr) (t : FindAll S) → GivesAll (YieldsFirstBy pair_of rest) s (Some value) t → still_to_come s ≡ bstr_bytes value ∷ still_to_come t
+  pub one_came : (s : FindAll S) (value : BStr) (t : FindAll S) → GivesAll (YieldsFirstBy pair_of rest) s (Some value) t → still_to_come s ≡ bstr_bytes value ∷ still_to_come t
   one_came s value t (same, (given, gave)) =
       let name = s.name.now in
       let (lacks, all) = first name s.inner t.inner given value gave in

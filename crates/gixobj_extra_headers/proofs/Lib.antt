@@ -1,3 +1,4 @@
 mod HeaderSearches
 pub mod HeadersFound
+mod MergetagsFound
 pub mod ParentHexes

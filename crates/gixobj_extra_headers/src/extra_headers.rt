@@ -174,7 +174,7 @@ impl<'a, I: Iterator<Item = (BStr<'a>, BStr<'a>)> + Drop> Iterator for Mergetags
 
 /// The tag that the value is.
 fn read_tag(value: BStr<'_>, hash_kind: Kind) -> Result<TagRef<'_>, Error>
-    ensures { IsTagOf hash_kind value.entry result }
+    ensures { IsTagOf hash_kind (bstr_bytes value.entry) result }
 {
     match TagRef::from_bytes(value.as_bytes(), hash_kind) {
         Ok(tag) => Ok(tag),

@@ -1,9 +1,5 @@
 pub mod Bodies
 pub mod Lines
 mod TagWrites
-mod OneLanguage
-mod TagsFound
-mod WrittenBack
-pub mod TokenRuns
-pub mod Tokens
 pub mod WholeTags
+mod WrittenBack

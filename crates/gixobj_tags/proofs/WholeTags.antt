@@ -1,14 +1,16 @@
--- A tag put together of its parts, and taken apart: its lines one after the other, and its body.
-use Rattle.std.proofs.Common.{◌≡◌, ℕ, List, ◌∷◌, ◌++◌, IsTrue, Option, Some, None, append_assoc, arith, refl, subst, sym, ◌∙◌}
+-- A tag put together of its parts, and taken apart: its lines one after the other, and its body. A text is that of one tag.
+use Rattle.std.proofs.Common.{◌≡◌, ℕ, List, ◌∷◌, ◌++◌, IsTrue, Option, Some, None, append_assoc, ap, arith, refl, subst, sym, ◌∙◌}
 use Rattle.std.proofs.lemmas.Bool.{true≢false}
 use Rattle.std.specs.Prelude.{codes}
 use Rattle.gixobj_fields.proofs.HeaderFields.{digits_are_one_line, first_bytes, one_field}
 use Rattle.gixobj_fields.specs.HeaderReading.{HasId, HasNoId, HasNoKind}
 use Rattle.gixobj_fields.specs.HeaderText.{HasField, LacksName, field_text}
+use Rattle.gixobj_ids.proofs.Headers.{one_kind}
 use Rattle.gixobj_ids.specs.Kind.{kind_word}
 use Rattle.gixobj_ids.specs.declared.hash.kind.Kind as hash
 use Rattle.gixobj_ids.specs.declared.kind.Kind.{Kind}
 use Rattle.gixobj_ids.specs.declared.kind.Kind.TheVariants as object
+use Rattle.gixobj_tags.proofs.Bodies.{one_body}
 use Rattle.gixobj_tags.proofs.Lines.{one_tagger}
 use Rattle.gixobj_tags.specs.LineReading.{HasName, HasNoName, HasNoTagger, HasTagger}
 use Rattle.gixobj_tags.specs.TagText.{HasNoBody, IsBody, IsNoTagText, IsTagText, IsTaggerLine, TagLines, are_newlines, behind_newline, newlines_alone, tagger_text}
@@ -145,3 +147,29 @@ no_body kind text hex after word behind name rest tagger body has typed named ta
     let there = subst (λ (it : List ℕ). HasTagger it tag.tagger reads.body) here reads.tagger in
     let same = (one_tagger rest tag.tagger tagger reads.body body there tagged).1 in
     none tag.message tag.signature (subst (λ (it : List ℕ). IsBody it tag.message tag.signature) same reads.parted)
+
+-- ---- one tag
+
+abbrev made : List ℕ → Kind → List ℕ → Option (List ℕ) → List ℕ → Option (List ℕ) → TagLines
+made target target_kind name tagger message signature = record { target = target; target_kind = target_kind; name = name; tagger = tagger; message = message; signature = signature }
+
+same_tag : (a b : TagLines) → a.target ≡ b.target → a.target_kind ≡ b.target_kind → a.name ≡ b.name → a.tagger ≡ b.tagger → a.message ≡ b.message → a.signature ≡ b.signature → a ≡ b
+same_tag a b target target_kind name tagger message signature =
+    ap (λ (it : List ℕ). made it a.target_kind a.name a.tagger a.message a.signature) target
+    ∙ ap (λ (it : Kind). made b.target it a.name a.tagger a.message a.signature) target_kind
+    ∙ ap (λ (it : List ℕ). made b.target b.target_kind it a.tagger a.message a.signature) name
+    ∙ ap (λ (it : Option (List ℕ)). made b.target b.target_kind b.name it a.message a.signature) tagger
+    ∙ ap (λ (it : List ℕ). made b.target b.target_kind b.name b.tagger it a.signature) message
+    ∙ ap (λ (it : Option (List ℕ)). made b.target b.target_kind b.name b.tagger b.message it) signature
+
+pub one_tag : (kind : hash.Kind) (text : List ℕ) (a b : TagLines) → IsTagText kind text a → IsTagText kind text b → a ≡ b
+one_tag kind text a b is is' =
+    let first = take_apart kind text a is in
+    let second = take_apart kind text b is' in
+    let target = one_field (codes "object") text a.target first.after_target b.target second.after_target first.target.0 second.target.0 in
+    let typed = subst (λ (it : List ℕ). HasField (codes "type") it (kind_word a.target_kind) first.after_kind) target.1 first.target_kind in
+    let word = one_field (codes "type") second.after_target (kind_word a.target_kind) first.after_kind (kind_word b.target_kind) second.after_kind typed second.target_kind in
+    let named = behind_name kind text b.target second.after_target (kind_word b.target_kind) second.after_kind b.name second.after_name a second.target second.target_kind second.name first in
+    let tagged = one_tagger second.after_name a.tagger b.tagger first.body second.body (subst (λ (it : List ℕ). HasTagger it a.tagger first.body) named.1 first.tagger) second.tagger in
+    let parted = one_body second.body a.message b.message a.signature b.signature (subst (λ (it : List ℕ). IsBody it a.message a.signature) tagged.1 first.parted) second.parted in
+    same_tag a b target.0 (one_kind a.target_kind b.target_kind word.0) named.0 tagged.0 parted.0 parted.1

@@ -1,11 +1,8 @@
 pub mod LineReading
 pub mod LineViews
-pub mod Readers
 pub mod Rewriting
 pub mod Signed
 pub mod TagOwned
 pub mod TagText
-pub mod TagTokens
 pub mod TagViews
 pub mod TagWriting
-pub mod TokenGiving

@@ -1,7 +1,7 @@
-//! Tags, read whole, told token by token, made owned and written (gitdatamodel, "tag objects").
+//! Tags, read whole, made owned and written (gitdatamodel, "tag objects").
 #![tactic(auto)]
 
 pub mod laws;
 pub mod tag;
 
-pub use tag::{Tag, TagRef, TagRefIter};
+pub use tag::{Tag, TagRef};

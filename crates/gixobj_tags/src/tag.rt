@@ -8,9 +8,8 @@ ghost use Rattle.gixobj_tags.specs.TagOwned.{IsBadTagger, IsOwnedForm, IsTrimmed
 ghost use Rattle.gixobj_tags.specs.TagViews.{owned_lines, tag_lines};
 ghost use Rattle.gixobj_texts.specs.Optional.{bytes_if_some};
 
-mod decode;
+pub mod decode;
 mod owned;
-pub mod ref_iter;
 pub mod write;
 
 use bstr::{BStr, BString};
@@ -23,7 +22,6 @@ use gixobj_ids::parse::id_of_hex;
 use gixobj_signing::signature;
 use gixobj_signing::signature::Format;
 use gixobj_texts::optional::borrowed;
-pub use ref_iter::TagRefIter;
 use std::alloc::Global;
 
 /// A tag, borrowed: its fields as they stand in its text.

@@ -1,4 +1,4 @@
-//! Tags, read whole, and their parts (gitdatamodel, "tag objects").
+//! Tags, read whole, and their parts, on which readers of tags stand (gitdatamodel, "tag objects").
 ghost use Rattle.std.specs.Prelude.{◌≡◌, ◌∷◌, IfErr, IfNone, IfOk, IfSome, IsFalse, MatchOption};
 ghost use Rattle.bstr.specs.BStr.{bstr_bytes};
 ghost use Rattle.gixobj_ids.specs.Hash.{IsHexOfAnId};
@@ -57,8 +57,10 @@ fn read_tag(bytes: &[u8], hash_kind: Kind) -> Option<TagRef<'_>>
 }
 
 /// The name of the tag, from its line at the front, and what follows that.
+///
+/// None where no such line comes, or its name is empty. It takes no memory.
 #[tactic(auto, using(crate::proofs::Lines::no_empty_name, crate::proofs::Lines::no_name_line))]
-pub(super) fn name(input: &[u8]) -> Option<(BStr<'_>, &[u8])>
+pub fn name(input: &[u8]) -> Option<(BStr<'_>, &[u8])>
     ensures found { IfSome result (λ it. HasName input.now (bstr_bytes it.0) it.1.now) }
     ensures none { IfNone result (HasNoName input.now) }
 {
@@ -72,12 +74,14 @@ pub(super) fn name(input: &[u8]) -> Option<(BStr<'_>, &[u8])>
 }
 
 /// The line of a tagger, and the actor at its front, not trimmed.
-pub(super) type TaggerLine<'a> = (BStr<'a>, SignatureRef<'a>);
+pub type TaggerLine<'a> = (BStr<'a>, SignatureRef<'a>);
 
 /// The line of the tagger at the front, or none where its name and a space don't stand there, and what
-/// follows. No answer where they stand there and no line with an actor follows.
+/// follows.
+///
+/// No answer where they stand there and no line with an actor follows. It takes no memory.
 #[tactic(auto, using(crate::proofs::Lines::no_tagger_line))]
-pub(super) fn tagger(input: &[u8]) -> Option<(Option<TaggerLine<'_>>, &[u8])>
+pub fn tagger(input: &[u8]) -> Option<(Option<TaggerLine<'_>>, &[u8])>
     ensures found { IfSome result (λ it. HasTagger input.now (line_if_some it.0) it.1.now) }
     ensures parsed { IfSome result (λ it. IsParsed it.0) }
     ensures none { IfNone result (HasNoTagger input.now) }
@@ -108,9 +112,9 @@ fn line_of(tagger: Option<TaggerLine<'_>>) -> Option<BStr<'_>>
 /// The message and the signature of a body.
 ///
 /// A body of newlines alone, or of nothing, is itself the message. Any other begins with a newline, which
-/// is dropped.
+/// is dropped; none where it doesn't. It takes no memory.
 #[tactic(auto, using(crate::proofs::Bodies::is_newlines, crate::proofs::Bodies::is_behind_newline, crate::proofs::Bodies::no_body))]
-pub(super) fn body(input: &[u8]) -> Option<(BStr<'_>, Option<BStr<'_>>)>
+pub fn body(input: &[u8]) -> Option<(BStr<'_>, Option<BStr<'_>>)>
     ensures found { IfSome result (λ it. IsBody input.now (bstr_bytes it.0) (bytes_if_some it.1)) }
     ensures none { IfNone result (HasNoBody input.now) }
 {

@@ -10,8 +10,10 @@ ghost use Rattle.gixobj_tag_names.specs.NameRule.{IsTagName, RefusesName};
 ghost use Rattle.gixobj_tags.specs.TagWriting.{RefusesNameLine, RefusesParts, body_text, message_text, signature_text};
 ghost use Rattle.gixobj_texts.specs.Optional.{bytes_if_some};
 
+mod owned;
+
+use super::TagRef;
 use super::decode::are_newlines;
-use super::{Tag, TagRef};
 use bstr::BStr;
 use gixobj_actors::actor::Signature;
 use gixobj_actors::encode::{size_with_signature, trusted_header_signature};
@@ -23,7 +25,6 @@ use gixobj_fields::streams::{Sink, put_parts};
 use gixobj_ids::Kind;
 use gixobj_ids::hash::ObjectId;
 pub use gixobj_tag_names::name::{Error, validated_name};
-use gixobj_texts::optional::borrowed;
 use std::alloc::Global;
 use std::io;
 
@@ -69,50 +70,6 @@ impl WriteTo for TagRef<'_> {
             &self.tagger,
             self.message,
             self.signature,
-        )
-    }
-}
-
-/// A tag is written with its tagger and the time as these are written.
-///
-/// A name that [`validated_name`] refuses is refused as `InvalidRefName` or `StartsWithDash`, before any
-/// byte of its line. A tagger whose name or email has a `<`, a `>` or a newline is refused as
-/// `IllegalActor` behind `tagger` and a space. It takes no memory.
-impl WriteTo for Tag {
-    ghost use Rattle.gixobj_ids.specs.declared.kind.Kind.TheVariants as kind;
-    ghost use Rattle.gixobj_tags.specs.TagViews.{owned_lines};
-    ghost use Rattle.gixobj_tags.specs.TagWriting.{RefusesOwned, tag_text};
-
-    ghost object_kind = { λ _. kind.Tag };
-
-    ghost text = { λ tag. tag_text (owned_lines tag) };
-
-    ghost refuses = { RefusesOwned };
-
-    fn write_into<S: Sink>(&self, _alloc: Global, sink: &mut S) -> Result<(), encode::Error> {
-        put_tag(
-            &self.target,
-            self.target_kind,
-            self.name.as_bstr(),
-            &self.tagger,
-            self.message.as_bstr(),
-            borrowed(&self.signature),
-            sink,
-        )
-    }
-
-    fn kind(&self) -> Kind {
-        Kind::Tag
-    }
-
-    fn size(&self) -> Option<u64> {
-        tag_size(
-            &self.target,
-            self.target_kind,
-            self.name.as_bstr(),
-            &self.tagger,
-            self.message.as_bstr(),
-            borrowed(&self.signature),
         )
     }
 }

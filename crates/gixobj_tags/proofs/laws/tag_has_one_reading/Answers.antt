@@ -1,4 +1,4 @@
-use Rattle.gixobj_tags.proofs.TagsFound.{one_tag}
+use Rattle.gixobj_tags.proofs.WholeTags.{one_tag}
 use Rattle.gixobj_tags.proofs.laws.tag_has_one_reading.Goals as goal
 
 pub returns : goal.returns

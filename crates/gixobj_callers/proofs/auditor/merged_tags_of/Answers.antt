@@ -1,0 +1,25 @@
+use Rattle.std.proofs.Common.{◌≡◌, ℕ, List, Result, ap, subst, sym, ◌∙◌}
+use Rattle.std.specs.List.{AllZip}
+use Rattle.std.specs.Prelude.{codes}
+use Rattle.gixobj_base.specs.ids.decode.Error.{Error}
+use Rattle.gixobj_base.specs.ids.hash.kind.Kind.{Kind}
+use Rattle.gixobj_codec.specs.CommitViews.{commit_lines}
+use Rattle.gixobj_codec.specs.ExtraHeaders.{hash_kind_of, searched, values_named}
+use Rattle.gixobj_codec.specs.HeadersLeft.{headers_left}
+use Rattle.gixobj_codec.specs.Mergetags.{IsTagOf, mergetag_kind, mergetag_values, mergetags_left}
+use Rattle.gixobj_codec.specs.tags.tag.TagRef.{TagRef}
+use Rattle.gixobj_callers.proofs.auditor.merged_tags_of.Goals as goal
+
+pub returns : goal.returns
+returns c =
+    let tags = c.mergetags.result in
+    let values : mergetags_left headers_left tags ≡ values_named (codes "mergetag") (commit_lines c.args.commit.now).extra_headers =
+    ap (λ name. values_named name (headers_left (searched (mergetag_values tags)))) c.mergetags.ensures.name
+    ∙ ap (values_named (codes "mergetag")) (ap headers_left c.mergetags.ensures.headers ∙ c.extra_headers.ensures.headers) in
+    let (items, (last, yielded, ends), (same, _)) = c.in_ok-tags.ensures.ran in
+    let (after, none) = ends tt in
+    let given = c.borrowed_mergetags_are_found.ensures.given tags after items (last, yielded, none) in
+    let of_values = subst (λ (it : List (List ℕ)). AllZip (IsTagOf (mergetag_kind tags)) it items) values given in
+    let of_kind = subst (λ (it : Kind). AllZip (IsTagOf it) (values_named (codes "mergetag") (commit_lines c.args.commit.now).extra_headers) items) c.mergetags.ensures.hash_kind of_values in
+    let of_items = subst (λ (it : List (Result TagRef Error)). AllZip (IsTagOf (hash_kind_of c.extra_headers.result)) (values_named (codes "mergetag") (commit_lines c.args.commit.now).extra_headers) it) (sym same) of_kind in
+    (hash_kind_of c.extra_headers.result, c.extra_headers.ensures.hash_kind, of_items)

@@ -1,0 +1,4 @@
+mod OneLanguage
+mod TagsFound
+mod TokenRuns
+mod Tokens
