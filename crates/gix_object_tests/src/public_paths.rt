@@ -3,8 +3,8 @@
 mod root {
     pub use gix_object::{
         Blob, BlobRef, Commit, CommitRef, CommitRefIter, Data, Header, Kind, OutOfMemory, Tag,
-        TagRef, TagRefIter, Tree, WriteTo, actor, commit, compute_hash, date, decode, encode, hash,
-        kind, laws, signature, streams, tag, tree,
+        TagRef, TagRefIter, Tree, TreeRef, TreeRefIter, WriteTo, actor, commit, compute_hash, date,
+        decode, encode, hash, kind, laws, signature, streams, tag, tree,
     };
 }
 
@@ -60,5 +60,5 @@ mod of_tag {
 
 mod of_tree {
     pub use gix_object::tree::editor::{Editor, Error, WriteError, Written};
-    pub use gix_object::tree::{Entry, EntryKind, EntryMode, editor, name_order};
+    pub use gix_object::tree::{Entry, EntryKind, EntryMode, EntryRef, editor, name_order};
 }

@@ -2,7 +2,8 @@
 
 mod root {
     pub use gixobj_codec::{
-        Commit, CommitRef, CommitRefIter, Data, Tag, TagRef, TagRefIter, commit, laws, tag,
+        Commit, CommitRef, CommitRefIter, Data, Tag, TagRef, TagRefIter, TreeRef, TreeRefIter, commit,
+        laws, tag, tree,
     };
 }
 
@@ -33,6 +34,17 @@ mod of_laws_of_tags {
         tag_readers_read_one_language, tag_reads_and_writes, tag_tokens_have_one_reading,
         tag_writes_back,
     };
+}
+
+mod of_laws_of_trees {
+    pub use gixobj_codec::laws::{
+        entries_are_passed, tree_has_one_reading, tree_readers_read_one_language, tree_reads_back,
+        tree_writes_back,
+    };
+}
+
+mod of_tree {
+    pub use gixobj_codec::tree::{EntryRef, TreeRef, TreeRefIter};
 }
 
 mod of_tag {
