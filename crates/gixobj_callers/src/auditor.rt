@@ -49,8 +49,8 @@ pub fn values_of<'a>(
     Ok(values)
 }
 
-/// The tags that were merged, in order: of the value of each header `mergetag` the tag that it is, or that it
-/// is none. Their targets have ids of the kind of the commit's tree.
+/// The tags that were merged, in order: of the value of each header `mergetag` the tag that it is, or that
+/// it is none. Their targets have ids of the kind of the commit's tree.
 pub fn merged_tags_of<'a>(
     alloc: Global,
     commit: &'a CommitRef<'_>,

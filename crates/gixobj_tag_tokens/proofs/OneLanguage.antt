@@ -1,5 +1,5 @@
 -- The two readers of tags read one language.
-use Rattle.std.proofs.Common.{◌≡◌, ◌≢◌, ℕ, List, [], ◌∷◌, ◌++◌, Option, Some, None, ap, inl, inr, refl, subst, sym}
+use Rattle.std.proofs.Common.{◌≡◌, ◌≢◌, ℕ, List, [], ◌∷◌, ◌++◌, Option, Some, None, ap, refl, subst, sym}
 use Rattle.std.specs.Prelude.{codes}
 use Rattle.gixobj_actors.specs.Actor.{IsActorLine}
 use Rattle.gixobj_fields.proofs.HeaderFields.{of_an_id}
@@ -7,11 +7,10 @@ use Rattle.gixobj_fields.specs.HeaderReading.{HasId}
 use Rattle.gixobj_fields.specs.HeaderText.{HasField}
 use Rattle.gixobj_fields.specs.Runs.{complete, tells_end, tells_piece}
 use Rattle.gixobj_ids.proofs.HexIds.{spelled}
-use Rattle.gixobj_ids.specs.Hash.{IsHexOfAnId, Spells}
-use Rattle.gixobj_ids.specs.Hash.Hex.{IsHexOf, spelled_id}
+use Rattle.gixobj_ids.specs.Hash.{Spells}
+use Rattle.gixobj_ids.specs.Hash.Hex.{spelled_id}
 use Rattle.gixobj_ids.specs.Kind.{kind_word}
 use Rattle.gixobj_ids.specs.declared.hash.kind.Kind as hash
-use Rattle.gixobj_ids.specs.declared.hash.kind.Kind.TheVariants as of_hash
 use Rattle.gixobj_ids.specs.declared.hash.object_id.ObjectId.{ObjectId}
 use Rattle.gixobj_ids.specs.declared.kind.Kind.{Kind}
 use Rattle.gixobj_tags.proofs.Bodies.{one_body}

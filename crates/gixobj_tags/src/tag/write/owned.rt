@@ -10,8 +10,8 @@ use std::alloc::Global;
 
 /// A tag is written with its tagger and the time as these are written.
 ///
-/// A name that [`super::validated_name`] refuses is refused as `InvalidRefName` or `StartsWithDash`, before any
-/// byte of its line. A tagger whose name or email has a `<`, a `>` or a newline is refused as
+/// A name that [`super::validated_name`] refuses is refused as `InvalidRefName` or `StartsWithDash`,
+/// before any byte of its line. A tagger whose name or email has a `<`, a `>` or a newline is refused as
 /// `IllegalActor` behind `tagger` and a space. It takes no memory.
 impl WriteTo for Tag {
     ghost use Rattle.gixobj_ids.specs.declared.kind.Kind.TheVariants as kind;
