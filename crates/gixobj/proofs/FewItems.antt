@@ -1,10 +1,5 @@
--- Lists of one item and of two, seen by a function.
-use Rattle.std.proofs.Common.{◌≡◌, List, [], ◌∷◌, length, map, get_or, arith, ap, sym}
-
-pub map-one : {X Y : Type 0} (f : X → Y) (xs : List X) (x : X) → length xs ≡ 1 → x ≡ get_or xs 0 x → map f xs ≡ f x ∷ []
-map-one f [] x len at = absurd (omega arith)
-map-one f (y ∷ []) x len at = ap (λ it. f it ∷ []) (sym at)
-map-one f (y ∷ z ∷ xs) x len at = absurd (omega arith)
+-- A list of two items, seen by a function.
+use Rattle.std.proofs.Common.{◌≡◌, List, [], ◌∷◌, length, map, get_or, arith}
 
 pub map-two : {X Y : Type 0} (f : X → Y) (xs : List X) (x y : X) → length xs ≡ 2 → x ≡ get_or xs 0 x → y ≡ get_or xs 1 y → map f xs ≡ f x ∷ f y ∷ []
 map-two f [] x y len first second = absurd (omega arith)

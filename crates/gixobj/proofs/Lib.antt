@@ -1,2 +1,3 @@
 mod FewItems
+mod FirstEntry
 mod Refused

@@ -1,7 +1,7 @@
 -- What the program says where it gives no answer.
 use Rattle.std.specs.Prelude.{ℕ, List, [], ◌∷◌, ◌++◌, codes}
 use Rattle.gixobj.specs.declared.refusal.Refusal.{Refusal}
-use Rattle.gixobj.specs.declared.refusal.Refusal.TheVariants.{Usage, InputFailed, OutputFailed, OutOfMemory, BadHeader, ShortData}
+use Rattle.gixobj.specs.declared.refusal.Refusal.TheVariants.{Usage, InputFailed, OutputFailed, OutOfMemory, BadHeader, ShortData, NotATree, BadTree}
 use Rattle.gixobj_base.specs.Bytes.{newline}
 
 -- a text and a newline
@@ -16,6 +16,8 @@ line_of OutputFailed = line (codes "gixobj: output failed")
 line_of OutOfMemory = line (codes "gixobj: out of memory")
 line_of BadHeader = line (codes "gixobj: bad header")
 line_of ShortData = line (codes "gixobj: short data")
+line_of NotATree = line (codes "gixobj: not a tree")
+line_of BadTree = line (codes "gixobj: bad tree")
 
 -- the exit status
 abbrev pub status_of : Refusal → ℕ
@@ -25,3 +27,5 @@ status_of OutputFailed = 1
 status_of OutOfMemory = 1
 status_of BadHeader = 1
 status_of ShortData = 1
+status_of NotATree = 1
+status_of BadTree = 1

@@ -1,7 +1,7 @@
 //! The program, over any reader and any two writers.
-ghost use Rattle.std.specs.Prelude.{◌≡◌, ◌≢◌, map, OnOk, IfErr, ⊤};
+ghost use Rattle.std.specs.Prelude.{◌≡◌, ◌≢◌, map, OnOk, IfErr, IfOk, ⊤};
 ghost use Rattle.std.specs.String.{string_bytes};
-ghost use Rattle.gixobj.specs.Engine.{Answered, Refuses, Told, Unread, Unwritten};
+ghost use Rattle.gixobj.specs.Engine.{Answered, IsTextFor, Refuses, RefusesText, Told, Unread, Unwritten};
 ghost use Rattle.gixobj_base.specs.Streams.{writer_view};
 ghost use Rattle.gixobj.specs.Refusal.{line_of, status_of};
 ghost use Rattle.gixobj.specs.declared.refusal.Refusal.{Refusal};
@@ -12,17 +12,22 @@ mod tests;
 use crate::input::read_all;
 use crate::refusal::Refusal;
 use crate::show::show;
-use crate::words::show_hash;
+use crate::tree::listing;
+use crate::words::{Command, asked};
+use gixobj_base::hash;
 use gixobj_base::streams::{FromRead, Sink, Source, ToWrite};
+use smallvec::SmallVec;
 use std::alloc::Global;
 use std::io::{Read, Write};
 
 /// Does what the words after the program's name ask for, and answers the exit status.
 ///
-/// `show` and `show sha256` read all of the input and write the line `<kind> <size> <id>` of the
-/// loose object that it begins with: status 0. Any other words: a line on how to use the program,
-/// status 2, with nothing read. Else a line that says what is wrong, status 1: `bad header`,
-/// `short data`, `input failed`, `output failed` or `out of memory`.
+/// `show` and `tree` read all of the input, by SHA-1, or with a second word `sha256` by SHA-256.
+/// `show` writes the line `<kind> <size> <id>` of the loose object that the input begins with, and
+/// `tree` a line `<mode> <kind> <id> <name>` for each entry of the loose tree: status 0. Any other
+/// words: a line on how to use the program, status 2, with nothing read. Else a line that says what
+/// is wrong, status 1: `bad header`, `short data`, for `tree` also `not a tree` and `bad tree`,
+/// `input failed`, `output failed` or `out of memory`.
 pub fn engine<R: Read, O: Write, E: Write>(
     alloc: Global,
     words: &[String],
@@ -69,7 +74,7 @@ pub fn run<S: Source, O: Sink, E: Sink>(
     }
 }
 
-/// Reads the input, and writes the line that the words ask for.
+/// Reads the input, and writes the text that the words ask for.
 fn answer<S: Source, O: Sink>(
     alloc: Global,
     words: &[String],
@@ -82,14 +87,30 @@ fn answer<S: Source, O: Sink>(
     ensures unwritten { IfErr result (Unwritten (output.new ≡ output.old)) }
     ensures same_loans { (S.loan input.new ≡ S.loan input.old) × (O.loan output.new ≡ O.loan output.old) }
 {
-    let Some(hash) = show_hash(words) else {
+    let Some((command, hash)) = asked(words) else {
         return Err(Refusal::Usage);
     };
     let bytes = read_all(alloc, input)?;
-    let shown = show(alloc, hash, bytes.as_slice())?;
-    match output.put(shown.line(alloc).as_slice()) {
+    let text = text_for(alloc, command, hash, bytes.as_slice())?;
+    match output.put(text.as_slice()) {
         Ok(()) => Ok(()),
         Err(_) => Err(Refusal::OutputFailed),
+    }
+}
+
+/// What a command makes of its input, by this kind of digest. What `show` makes takes no memory.
+fn text_for(
+    alloc: Global,
+    command: Command,
+    hash: hash::Kind,
+    input: &[u8],
+) -> Result<SmallVec<u8, 96>, Refusal>
+    ensures text { IfOk result (λ text. IsTextFor command hash input.now text.items) }
+    ensures refusal { IfErr result (RefusesText command hash input.now) }
+{
+    match command {
+        Command::Show => Ok(show(alloc, hash, input)?.line(alloc)),
+        Command::Tree => Ok(SmallVec::from_vec(listing(alloc, hash, input)?)),
     }
 }
 

@@ -1,11 +1,16 @@
 //! `gixobj show [sha256]`: tells what a loose object is, from its uncompressed bytes on standard
-//! input, as `<kind> <size> <id>`.
+//! input, as `<kind> <size> <id>`. `gixobj tree [sha256]`: lists the entries of a loose tree, a line
+//! `<mode> <kind> <id> <name>` each.
 #![tactic(auto)]
 
 mod engine;
 mod input;
+mod object;
 mod refusal;
+#[cfg(test)]
+mod samples;
 mod show;
+mod tree;
 mod words;
 
 use engine::{engine, tell};

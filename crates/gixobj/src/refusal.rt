@@ -19,6 +19,10 @@ pub enum Refusal {
     BadHeader,
     /// The input ends before as many bytes as its header says.
     ShortData,
+    /// The object isn't a tree.
+    NotATree,
+    /// The content of the tree isn't that of one with ids of the kind that is asked for.
+    BadTree,
 }
 
 impl Refusal {
@@ -33,6 +37,8 @@ impl Refusal {
             Refusal::OutOfMemory => b"gixobj: out of memory\n",
             Refusal::BadHeader => b"gixobj: bad header\n",
             Refusal::ShortData => b"gixobj: short data\n",
+            Refusal::NotATree => b"gixobj: not a tree\n",
+            Refusal::BadTree => b"gixobj: bad tree\n",
         }
     }
 

@@ -1,8 +1,9 @@
 //! What the words after the program's name ask for.
-ghost use Rattle.std.specs.Prelude.{◌≡◌, ◌⊎◌, IfErr, IfSome, IfNone, map};
+ghost use Rattle.std.specs.Prelude.{◌≡◌, ◌≢◌, ◌⊎◌, IfErr, IfSome, IfNone, map};
 ghost use Rattle.std.specs.String.{string_bytes};
-ghost use Rattle.gixobj.specs.Words.{AsksForNothing, AsksToShow};
+ghost use Rattle.gixobj.specs.Words.{AsksFor, AsksForNothing, command_word};
 ghost use Rattle.gixobj.specs.declared.refusal.Refusal.TheVariants.{OutOfMemory, Usage};
+ghost use Rattle.gixobj.specs.declared.words.Command.{Command};
 
 use crate::refusal::Refusal;
 use gixobj_base::hash;
@@ -10,17 +11,38 @@ use std::env;
 use std::io::ErrorKind;
 use std::rt::Env;
 
-/// The kind of digest that `show` is asked for, or none for other words: `show` is by SHA-1,
-/// `show sha256` by SHA-256.
-pub fn show_hash(words: &[String]) -> Option<hash::Kind>
-    ensures found { IfSome result (AsksToShow (map string_bytes words.now)) }
+/// What the program does with its input.
+#[derive(Clone, Copy, Debug, PartialEq, Eq)]
+pub enum Command {
+    /// Tells what a loose object is.
+    Show,
+    /// Lists the entries of a loose tree.
+    Tree,
+}
+
+/// The command that the words ask for and its kind of digest, or none for other words: a command's
+/// word is by SHA-1, and with the word `sha256` behind it by SHA-256.
+pub fn asked(words: &[String]) -> Option<(Command, hash::Kind)>
+    ensures found { IfSome result (λ it. AsksFor (map string_bytes words.now) it.0 it.1) }
     ensures none { IfNone result (AsksForNothing (map string_bytes words.now)) }
 {
     match words {
-        [show] if show.as_str() == "show" => Some(hash::Kind::Sha1),
-        [show, sha256] if show.as_str() == "show" && sha256.as_str() == "sha256" => {
-            Some(hash::Kind::Sha256)
+        [word] => Some((command_of(word.as_str())?, hash::Kind::Sha1)),
+        [word, sha256] if sha256.as_str() == "sha256" => {
+            Some((command_of(word.as_str())?, hash::Kind::Sha256))
         }
+        _ => None,
+    }
+}
+
+/// The command of a word.
+fn command_of(word: &str) -> Option<Command>
+    ensures found { IfSome result (λ command. word.now ≡ command_word command) }
+    ensures none { IfNone result ((command : Command) → word.now ≢ command_word command) }
+{
+    match word {
+        "show" => Some(Command::Show),
+        "tree" => Some(Command::Tree),
         _ => None,
     }
 }

@@ -1,7 +1,7 @@
 //! Whole runs of the program, over readers and writers of memory that may fail.
 
 use super::{engine, run};
-use std::alloc::{AllocError, Global};
+use crate::samples::{ONE_ENTRY, answer_of, words_in};
 use std::io;
 use std::io::{ErrorKind, Read, Write};
 use std::test::Fail;
@@ -50,6 +50,29 @@ impl Read for Interrupted<'_> {
     }
 }
 
+/// A writer that keeps what it takes, as much as it has room for.
+#[derive(Drop)]
+struct Narrow {
+    held: Vec<u8>,
+    room: usize,
+}
+
+impl Write for Narrow {
+    fn write(&mut self, buf: &[u8]) -> io::Result<usize> {
+        let count = self.room.min(buf.len());
+        if count == 0 {
+            return Err(io::Error::from(ErrorKind::StorageFull));
+        }
+        self.held.extend_from_slice(&buf[..count])?;
+        self.room -= count;
+        Ok(count)
+    }
+
+    fn flush(&mut self) -> io::Result<()> {
+        Ok(())
+    }
+}
+
 /// A writer that has no room.
 #[derive(Drop)]
 struct Full;
@@ -64,18 +87,12 @@ impl Write for Full {
     }
 }
 
-fn words_in(alloc: Global, line: &str) -> Result<Vec<String>, AllocError> {
-    line.split_whitespace()
-        .map(|word| String::from_str(alloc, word))
-        .try_collect(alloc)
-}
-
 #[test]
 fn show_objects_and_faults(rt: HostRuntime) -> Result<(), Fail> {
     let alloc = rt.alloc();
     let hello = "blob 6 ce013625030ba8dba906f756967f9e9ca394464a\n";
     let hello_sha256 = "blob 6 2cf8d83d9ee29543b34a87727421fdecb7e3f3a183d337639025de576db9ebb4\n";
-    let runs: [(&str, &[u8], u8, &str, &str); 16] = [
+    let runs: [(&str, &[u8], u8, &str, &str); 20] = [
         ("show", b"blob 6\0hello\n", 0, hello, ""),
         ("show", b"blob 6\0hello\nand more", 0, hello, ""),
         ("show sha256", b"blob 6\0hello\n", 0, hello_sha256, ""),
@@ -106,26 +123,20 @@ fn show_objects_and_faults(rt: HostRuntime) -> Result<(), Fail> {
             "gixobj: short data\n",
         ),
         ("", b"blob 6\0hello\n", 2, "", USAGE),
-        ("tree", b"tree 0\0", 2, "", USAGE),
         ("edit", b"", 2, "", USAGE),
         ("show sha1", b"blob 6\0hello\n", 2, "", USAGE),
+        ("tree sha1", b"tree 0\0", 2, "", USAGE),
+        ("tree tree", b"tree 0\0", 2, "", USAGE),
+        ("sha256 tree", b"tree 0\0", 2, "", USAGE),
+        ("Tree", b"tree 0\0", 2, "", USAGE),
+        ("show tree", b"tree 0\0", 2, "", USAGE),
         ("show sha256 sha256", b"blob 6\0hello\n", 2, "", USAGE),
     ];
     for (line, input, status, output, errors) in runs {
-        let words = words_in(alloc, line)?;
-        let mut rest = input;
-        let mut answered = Vec::new(alloc);
-        let mut refused = Vec::new(alloc);
-        let got = engine(
-            alloc,
-            words.as_slice(),
-            &mut rest,
-            &mut answered,
-            &mut refused,
-        );
-        assert_eq!(rt; got, status, "{line} {input:?}");
-        assert_eq!(rt; answered.as_slice(), output.as_bytes(), "{line} {input:?}");
-        assert_eq!(rt; refused.as_slice(), errors.as_bytes(), "{line} {input:?}");
+        let got = answer_of(alloc, line, input)?;
+        assert_eq!(rt; got.0, status, "{line} {input:?}");
+        assert_eq!(rt; got.1.as_slice(), output.as_bytes(), "{line} {input:?}");
+        assert_eq!(rt; got.2.as_slice(), errors.as_bytes(), "{line} {input:?}");
     }
     Ok(())
 }
@@ -133,32 +144,48 @@ fn show_objects_and_faults(rt: HostRuntime) -> Result<(), Fail> {
 #[test]
 fn a_reader_in_steps_or_failing(rt: HostRuntime) -> Result<(), Fail> {
     let alloc = rt.alloc();
-    let words = words_in(alloc, "show")?;
-    let object: &[u8] = b"blob 6\0hello\n";
-    for step in [1, 5, 4096] {
-        for fails in [false, true] {
-            let mut reader = Stepping {
-                rest: object,
-                step,
-                fails,
-            };
-            let mut answered = Vec::new(alloc);
-            let mut refused = Vec::new(alloc);
-            let status = engine(
-                alloc,
-                words.as_slice(),
-                &mut reader,
-                &mut answered,
-                &mut refused,
-            );
-            let (want, output, errors) = if fails {
-                (1, "", "gixobj: input failed\n")
-            } else {
-                (0, "blob 6 ce013625030ba8dba906f756967f9e9ca394464a\n", "")
-            };
-            assert_eq!(rt; status, want);
-            assert_eq!(rt; answered.as_slice(), output.as_bytes());
-            assert_eq!(rt; refused.as_slice(), errors.as_bytes());
+    let runs: [(&str, &[u8], &str, &str); 4] = [
+        (
+            "show",
+            b"blob 6\0hello\n",
+            "blob 6 ce013625030ba8dba906f756967f9e9ca394464a\n",
+            "",
+        ),
+        (
+            "tree",
+            ONE_ENTRY,
+            "100644 blob 83baae61804e65cc73a7201a7252750c76066a30 test.txt\n",
+            "",
+        ),
+        ("tree", b"tree", "", "gixobj: bad header\n"),
+        ("tree", b"tree 6\0hello\n", "", "gixobj: bad tree\n"),
+    ];
+    for (line, object, answer, refusal) in runs {
+        let words = words_in(alloc, line)?;
+        for step in [1, 5, 4096] {
+            for fails in [false, true] {
+                let mut reader = Stepping {
+                    rest: object,
+                    step,
+                    fails,
+                };
+                let mut answered = Vec::new(alloc);
+                let mut refused = Vec::new(alloc);
+                let _ = engine(
+                    alloc,
+                    words.as_slice(),
+                    &mut reader,
+                    &mut answered,
+                    &mut refused,
+                );
+                let (output, errors) = if fails {
+                    ("", "gixobj: input failed\n")
+                } else {
+                    (answer, refusal)
+                };
+                assert_eq!(rt; answered.as_slice(), output.as_bytes(), "{line} {object:?}");
+                assert_eq!(rt; refused.as_slice(), errors.as_bytes(), "{line} {object:?}");
+            }
         }
     }
     Ok(())
@@ -192,24 +219,52 @@ fn an_interrupted_reader(rt: HostRuntime) -> Result<(), Fail> {
 #[test]
 fn writers_that_fail(rt: HostRuntime) -> Result<(), Fail> {
     let alloc = rt.alloc();
-    let words = words_in(alloc, "show")?;
-    let mut object: &[u8] = b"blob 6\0hello\n";
-    let mut refused = Vec::new(alloc);
-    let status = engine(
-        alloc,
-        words.as_slice(),
-        &mut object,
-        &mut Full,
-        &mut refused,
-    );
-    assert_eq!(rt; status, 1);
-    assert_eq!(rt; refused.as_slice(), b"gixobj: output failed\n".as_slice());
-    let mut nothing: &[u8] = b"";
-    assert_eq!(rt;
-        engine(alloc, words.as_slice(), &mut nothing, &mut Full, &mut Full),
-        1
-    );
-    assert_eq!(rt; engine(alloc, &[], &mut nothing, &mut Full, &mut Full), 2);
+    let runs: [(&str, &[u8], u8, &str); 6] = [
+        ("show", b"blob 6\0hello\n", 1, "gixobj: output failed\n"),
+        ("show", b"", 1, "gixobj: bad header\n"),
+        ("tree", ONE_ENTRY, 1, "gixobj: output failed\n"),
+        ("tree", b"tree 6\0hello\n", 1, "gixobj: bad tree\n"),
+        ("tree", b"tree 0\0", 0, ""),
+        ("", b"", 2, USAGE),
+    ];
+    for (line, object, status, errors) in runs {
+        let words = words_in(alloc, line)?;
+        let mut refused = Vec::new(alloc);
+        let mut rest = object;
+        let got = engine(alloc, words.as_slice(), &mut rest, &mut Full, &mut refused);
+        assert_eq!(rt; got, status, "{line} {object:?}");
+        assert_eq!(rt; refused.as_slice(), errors.as_bytes(), "{line} {object:?}");
+        let mut rest = object;
+        let got = engine(alloc, words.as_slice(), &mut rest, &mut Full, &mut Full);
+        assert_eq!(rt; got, status, "{line} {object:?}");
+    }
+    Ok(())
+}
+
+#[test]
+fn a_writer_that_fails_in_mid_line(rt: HostRuntime) -> Result<(), Fail> {
+    let alloc = rt.alloc();
+    let words = words_in(alloc, "tree")?;
+    let line = b"100644 blob 83baae61804e65cc73a7201a7252750c76066a30 test.txt\n".as_slice();
+    for room in [1, 12, 61] {
+        let mut object = ONE_ENTRY;
+        let mut narrow = Narrow {
+            held: Vec::new(alloc),
+            room,
+        };
+        let mut refused = Vec::new(alloc);
+        let status = engine(
+            alloc,
+            words.as_slice(),
+            &mut object,
+            &mut narrow,
+            &mut refused,
+        );
+        assert_eq!(rt; status, 1);
+        assert!(rt; line.starts_with(narrow.held.as_slice()));
+        assert_eq!(rt; narrow.held.len(), room);
+        assert_eq!(rt; refused.as_slice(), b"gixobj: output failed\n".as_slice());
+    }
     Ok(())
 }
 
