@@ -9,7 +9,3 @@ use Rattle.gixobj_lines.specs.declared.lines.State.{State}
 -- from this state over this input these tokens are told, and then the run ends so
 abbrev pub Tells : Kind → State → List ℕ → List TokenView → Ending → Type 0
 Tells kind before input tokens ending = runs.Tells (HasToken kind) before input tokens ending
-
--- the input begins with these tokens, and goes on with the rest in the state behind them
-abbrev pub Passes : Kind → State → List ℕ → List TokenView → State → List ℕ → Type 0
-Passes kind before input tokens behind rest = runs.Passes (HasToken kind) before input tokens behind rest
