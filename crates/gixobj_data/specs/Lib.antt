@@ -1,5 +1,9 @@
+pub mod EntryGiving
+pub mod TreeReaders
 pub use Rattle.gixobj_ids.specs.Decode
 pub use Rattle.gixobj_ids.specs.Encode
 pub use Rattle.gixobj_ids.specs.Hash
 pub use Rattle.gixobj_ids.specs.Kind
 pub use Rattle.gixobj_tokens.specs.TokenGiving
+pub use Rattle.gixobj_tree_readers.specs.TreeReading
+pub use Rattle.gixobj_tree_readers.specs.TreeViews

@@ -1,5 +1,6 @@
 -- Trees told entry by entry: one run at most, and where it is complete the text is a tree's.
-use Rattle.std.proofs.Common.{◌≡◌, ◌≢◌, ◌<◌, ◌≤◌, ◌+◌, ℕ, List, [], ◌∷◌, ◌++◌, ap, append_assoc, arith, length, length-append, refl, subst, sym, ◌∙◌}
+use Rattle.std.proofs.Common.{◌≡◌, ◌≢◌, ℕ, List, [], ◌∷◌, ◌++◌, ap, arith, length, map, refl}
+use Rattle.std.proofs.lemmas.List.{map-append}
 use Rattle.std.specs.List.{AllZip, concat}
 use Rattle.std.specs.Prelude.{⊤}
 use Rattle.gixobj_fields.proofs.Runs as runs
@@ -50,6 +51,10 @@ passes_none kind input = (refl, refl)
 
 pub passes_more : (kind : Kind) (input after rest : List ℕ) (entries : List EntryView) (e : EntryView) → PassesEntries kind input entries after → BeginsWithEntry kind after e rest → PassesEntries kind input (entries ++ e ∷ []) rest
 passes_more kind input after rest entries e passed has = passes_one (HasEntry kind) tt tt tt input after rest entries e passed has
+
+pub passes_seen : {X : Type 0} (view : X → EntryView) (kind : Kind) (input after rest : List ℕ) (xs new : List X) (x : X) → PassesEntries kind input (map view xs) after → BeginsWithEntry kind after (view x) rest → new ≡ xs ++ x ∷ []
+    → PassesEntries kind input (map view new) rest
+passes_seen view kind input after rest xs new x passed has same = rw (same, map-append view xs (x ∷ [])) (passes_more kind input after rest (map view xs) (view x) passed has)
 
 -- all is read
 pub tree_read : (kind : Kind) (input rest : List ℕ) (entries : List EntryView) → rest ≡ [] → PassesEntries kind input entries rest → IsTreeText kind input entries

@@ -1,2 +1,5 @@
+mod Bisecting
 pub mod EntryRuns
 pub mod OneEntry
+mod Viewed
+mod WrittenTrees

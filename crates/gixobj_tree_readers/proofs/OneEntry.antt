@@ -135,6 +135,7 @@ no_mode kind input none = λ e rest has.
     filled : (digits tail : List ℕ) → digits ++ 32 ∷ tail ≢ []
     filled [] tail = λ bare. cc bare
     filled (digit ∷ digits) tail = λ bare. cc bare
+
     mode_read : (kind : Kind) (input : List ℕ) (e : EntryView) (rest : List ℕ) → Parted kind input e rest → BeginsWithMode input e.mode (32 ∷ (e.name ++ 0 ∷ (id_bytes e.id ++ rest)))
     mode_read kind input e rest p =
         record { digits = p.digits; some = λ bare. filled p.digits _ (sym p.joined ∙ bare); joined = p.joined; ends = refl; reads = p.mode; byte_six = p.byte_six }

@@ -52,7 +52,12 @@ impl<'a> TreeRef<'a> {
     {
         let name = name.as_bytes();
         let sought = self.entries.binary_search_by(|entry| {
-            name_order(entry.filename.as_bytes(), entry.mode.is_tree(), name, is_dir)
+            name_order(
+                entry.filename.as_bytes(),
+                entry.mode.is_tree(),
+                name,
+                is_dir,
+            )
         });
         match sought {
             Ok(at) => Some(self.entries[at]),

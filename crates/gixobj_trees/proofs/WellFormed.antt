@@ -60,7 +60,7 @@ ascending [] false h = absurd (omega (arith, h.1))
 ascending (e ∷ es) false h = λ up. not_less _ (h.2 e) (later_at ComesBefore (e ∷ es) up h.0 (h.0 + 1) e (omega arith) h.1)
 
 -- the search by halves
-same_key : (xs ys : List ℕ) → slice_cmp nat_cmp xs ys ≡ Equal → xs ≡ ys
+pub same_key : (xs ys : List ℕ) → slice_cmp nat_cmp xs ys ≡ Equal → xs ≡ ys
 same_key xs ys e = (bytes_decides xs ys).0 (texts_ties xs ys ∙ ap is_eq e)
 
 tied : (xs ys : List ℕ) → xs ≡ ys → slice_cmp nat_cmp xs ys ≡ Equal

@@ -19,12 +19,7 @@ impl<'a> TreeRef<'a> {
     ///
     /// `Malformed` where they are no tree's text. The list of the entries takes memory, and `OutOfMemory`
     /// comes only where an entry was read.
-    #[tactic(auto, using(crate::proofs::EntryRuns::passes_none, crate::proofs::EntryRuns::tree_read, crate::proofs::EntryRuns::no_tree, crate::proofs::EntryRuns::an_entry))]
-    pub fn from_bytes(
-        alloc: Global,
-        bytes: &'a [u8],
-        hash_kind: Kind,
-    ) -> Result<TreeRef<'a>, Error>
+    pub fn from_bytes(alloc: Global, bytes: &'a [u8], hash_kind: Kind) -> Result<TreeRef<'a>, Error>
         ensures found { IfOk result (λ tree. IsTreeText hash_kind bytes.now (tree_entries tree)) }
         ensures refusal { IfErr result (RefusesTreeText hash_kind bytes.now) }
     {
@@ -43,7 +38,7 @@ impl<'a> TreeRef<'a> {
 
 /// The entry at the front of the input, which has an id of this kind, and what follows it, or none where
 /// the input begins with no entry. It takes no memory.
-#[tactic(auto, using(crate::proofs::OneEntry::entry_of_parts, crate::proofs::OneEntry::shorter, crate::proofs::OneEntry::no_mode, crate::proofs::OneEntry::no_space, crate::proofs::OneEntry::no_name, crate::proofs::OneEntry::no_id))]
+#[tactic(auto, using(crate::proofs::OneEntry::shorter))]
 pub fn read_entry(input: &[u8], hash_kind: Kind) -> Option<(EntryRef<'_>, &[u8])>
     ensures found { IfSome result (λ it. BeginsWithEntry hash_kind input.now (entry_view it.0) it.1.now) }
     ensures none { IfNone result (BeginsWithNoEntry hash_kind input.now) }
@@ -62,7 +57,14 @@ pub fn read_entry(input: &[u8], hash_kind: Kind) -> Option<(EntryRef<'_>, &[u8])
         return None;
     };
     let filename = BStr::new(name);
-    Some((EntryRef { mode, filename, oid }, rest))
+    Some((
+        EntryRef {
+            mode,
+            filename,
+            oid,
+        },
+        rest,
+    ))
 }
 
 /// The id of this kind at the front of the input, and what follows it, or none where fewer bytes are left.

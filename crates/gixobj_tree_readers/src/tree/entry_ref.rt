@@ -32,7 +32,7 @@ impl PartialEq for EntryRef<'_> {
     fn eq(&self, other: &Self) -> bool {
         self.mode == other.mode
             && self.filename == other.filename
-            && self.oid.cmp(&other.oid).is_eq()
+            && self.oid.to_owned().cmp(&other.oid.to_owned()).is_eq()
     }
 }
 
@@ -63,7 +63,8 @@ impl Ord for EntryRef<'_> {
         let keys = key_order(name, self.mode.is_tree(), other_name, other.mode.is_tree());
         let modes = self.mode.cmp(&other.mode);
         let names = self.filename.cmp(&other.filename);
-        keys.then(modes.then(names.then(self.oid.cmp(&other.oid))))
+        let ids = self.oid.to_owned().cmp(&other.oid.to_owned());
+        keys.then(modes.then(names.then(ids)))
     }
 }
 
