@@ -2,7 +2,7 @@
 
 use crate::trees::{entry_text, is_refused, tree_text};
 use gixobj_base::hash::Kind;
-use gixobj_tree_readers::TreeRef;
+use gixobj_codec::TreeRef;
 use std::alloc::Global;
 use std::test::Fail;
 

@@ -8,8 +8,8 @@ use crate::trees::tree_text;
 use bstr::BStr;
 use gixobj_base::hash::Kind;
 use gixobj_base::tree::name_order;
-use gixobj_tree_readers::TreeRef;
-use gixobj_tree_readers::tree::EntryRef;
+use gixobj_codec::TreeRef;
+use gixobj_codec::tree::EntryRef;
 use std::alloc::Global;
 use std::test::Fail;
 

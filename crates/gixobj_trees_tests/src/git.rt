@@ -8,8 +8,8 @@ use crate::trees::is_written;
 use gixobj_base::hash::{Kind, ObjectId};
 use gixobj_base::tree::{EntryKind, EntryMode};
 use gixobj_base::{Tree, WriteTo, compute_hash};
-use gixobj_tree_readers::TreeRef;
-use gixobj_tree_readers::tree::EntryRef;
+use gixobj_codec::TreeRef;
+use gixobj_codec::tree::EntryRef;
 use odd::{
     LEADING_ZERO, NO_TYPE, ODD, ONE_BEFORE_A_FILE, SIX_DIGITS, THREE_DIGITS, TREE_WITH_PERMISSIONS,
     ZERO_BEFORE_A_FILE, ZERO_BEFORE_PERMISSIONS, ZEROS, ZEROS_BEFORE_A_TREE,

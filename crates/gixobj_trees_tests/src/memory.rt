@@ -2,7 +2,7 @@
 
 use crate::trees::is_written;
 use gixobj_base::hash::Kind;
-use gixobj_tree_readers::TreeRef;
+use gixobj_codec::TreeRef;
 use std::test::Fail;
 
 /// It holds no memory, and neither do its owned forms.

@@ -5,8 +5,8 @@ use bstr::BStr;
 use gixobj_base::WriteTo;
 use gixobj_base::hash::Kind;
 use gixobj_base::tree::EntryKind;
-use gixobj_tree_readers::TreeRef;
-use gixobj_tree_readers::tree::EntryRef;
+use gixobj_codec::TreeRef;
+use gixobj_codec::tree::EntryRef;
 use std::alloc::Global;
 use std::test::Fail;
 

@@ -4,7 +4,7 @@ use crate::trees::is_written;
 use bstr::BStr;
 use gixobj_base::hash::{Kind, ObjectId};
 use gixobj_base::{WriteTo, compute_hash};
-use gixobj_tree_readers::TreeRef;
+use gixobj_codec::TreeRef;
 use std::alloc::Global;
 use std::test::Fail;
 

@@ -2,7 +2,7 @@
 
 use gixobj_base::hash::Kind;
 use gixobj_base::{WriteTo, decode, encode};
-use gixobj_tree_readers::TreeRef;
+use gixobj_codec::TreeRef;
 use std::alloc::{AllocError, Global};
 
 /// The bytes of an id.

@@ -8,8 +8,8 @@ use gixobj_base::encode::Error;
 use gixobj_base::hash::{Kind, ObjectId};
 use gixobj_base::tree::EntryKind;
 use gixobj_base_tests::limited::Limited;
-use gixobj_tree_readers::TreeRef;
-use gixobj_tree_readers::tree::EntryRef;
+use gixobj_codec::TreeRef;
+use gixobj_codec::tree::EntryRef;
 use std::alloc::{AllocError, Global};
 use std::test::Fail;
 
