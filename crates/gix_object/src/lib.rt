@@ -13,6 +13,7 @@ pub use gixobj_base::{
     encode, hash, kind, streams,
 };
 pub use gixobj_codec::{
-    Commit, CommitRef, CommitRefIter, Data, Tag, TagRef, TagRefIter, TreeRef, TreeRefIter, commit, tag,
+    Commit, CommitRef, CommitRefIter, Data, Tag, TagRef, TagRefIter, TreeRef, TreeRefIter, commit,
+    tag,
 };
 pub use gixobj_text::signature;

@@ -3,7 +3,7 @@
 pub use gixobj_commits::laws::{
     commit_has_one_reading, commit_reads_and_writes, commit_writes_back, owned_forms_have_the_parts,
 };
-pub use gixobj_data::laws::tree_readers_read_one_language;
+pub use gixobj_data::laws::{entries_are_passed, tree_readers_read_one_language};
 pub use gixobj_extra_headers::laws::{borrowed_headers_are_found, owned_headers_are_found};
 pub use gixobj_fields::laws::header_reads_back;
 pub use gixobj_ids::laws::hex_spells_one_id;

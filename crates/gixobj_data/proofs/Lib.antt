@@ -1,1 +1,2 @@
 mod BrokenTrees
+mod Walks

@@ -2,8 +2,10 @@
 use Rattle.std.specs.Prelude.{◌≡◌, ◌++◌, ℕ, List, Option, Result, length, ⊤}
 use Rattle.std.specs.Iterator.{Count, at_most}
 use Rattle.gixobj_fields.specs.Readers.{Gives, Standing}
+use Rattle.gixobj_fields.specs.Runs as runs
 use Rattle.gixobj_ids.specs.declared.decode.Error.{Error}
 use Rattle.gixobj_ids.specs.declared.hash.kind.Kind.{Kind}
+use Rattle.gixobj_trees.specs.Entries.{EntryView}
 use Rattle.gixobj_tree_readers.specs.TreeReading.{HasEntry}
 use Rattle.gixobj_tree_readers.specs.TreeViews.{entry_view}
 use Rattle.gixobj_tree_readers.specs.declared.tree.entry_ref.EntryRef.{EntryRef}
@@ -32,6 +34,10 @@ WantsNothing kind before input = ⊥
 -- what one call answers: the next entry; an error, behind which no bytes are left; or nothing, without bytes
 abbrev pub GivesEntry : TreeRefIter → Option (Result EntryRef Error) → TreeRefIter → Type 0
 GivesEntry = Gives standing HasEntry WantsNothing entry_view (λ entry. ⊤)
+
+-- a reader of this text has gone past these entries
+abbrev pub HasPassed : Kind → List ℕ → List EntryView → TreeRefIter → Type 0
+HasPassed kind text entries reader = runs.Passes (HasEntry kind) tt text entries tt (bytes_left reader) × ((standing reader).kind ≡ kind)
 
 -- the text ends with this
 abbrev pub IsTail : List ℕ → List ℕ → Type 0
