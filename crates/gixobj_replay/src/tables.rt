@@ -1,4 +1,4 @@
-//! Tables of recorded answers: a row is a question, a tab, and the answer.
+//! The tables of this program.
 ghost use Rattle.std.specs.Prelude.{◌≡◌, ◌++◌, ◌∷◌, IfSome};
 
 use crate::actors::actor_answer;
@@ -6,8 +6,8 @@ use crate::answers::{header_answer, mode_answer, number_answer, order_answer};
 use crate::commits::{commit_answer, size_answer, token_answer};
 use crate::tags::{name_answer, tag_answer, tag_token_answer};
 use gixobj_base::parse::{split_at_byte, split_at_last_byte};
+use gixobj_recorded::tables::Recorded;
 use std::alloc::{AllocError, Global};
-use std::io::Write;
 
 /// A file of recorded answers.
 #[derive(Clone, Copy)]
@@ -51,9 +51,8 @@ pub(crate) const TABLES: [Table; 11] = [
     Table::TagNames,
 ];
 
-impl Table {
-    /// The name that is printed, and that of the file.
-    pub(crate) fn names(self) -> (&'static str, &'static str) {
+impl Recorded for Table {
+    fn names(self) -> (&'static str, &'static str) {
         match self {
             Table::Modes => ("modes", "modes.tsv"),
             Table::ModeNumbers => ("mode numbers", "mode-numbers.tsv"),
@@ -69,7 +68,6 @@ impl Table {
         }
     }
 
-    /// What the public call answers, as the file would have it.
     fn answer(self, alloc: Global, question: &[u8]) -> Result<Vec<u8>, AllocError> {
         match self {
             Table::Modes => mode_answer(alloc, question),
@@ -86,8 +84,7 @@ impl Table {
         }
     }
 
-    /// The question of a row and its answer, or none where the line is no row.
-    fn parts(self, line: &[u8]) -> Option<(&[u8], &[u8])>
+    fn parts<'a>(self, line: &'a [u8]) -> Option<(&'a [u8], &'a [u8])>
         ensures { IfSome result (λ it. line.now ≡ it.0.now ++ 9 ∷ it.1.now) }
     {
         if line.starts_with(b"#") {
@@ -98,39 +95,4 @@ impl Table {
             _ => split_at_byte(line, b'\t'),
         }
     }
-}
-
-/// How many answers agree, and how many there are.
-#[derive(Clone, Copy)]
-pub(crate) struct Count {
-    /// How many agree.
-    pub(crate) same: u64,
-    /// How many there are.
-    pub(crate) all: u64,
-}
-
-/// Compares the answers of a table, and shows each that differs.
-pub(crate) fn replay<W: Write>(
-    alloc: Global,
-    table: Table,
-    text: &[u8],
-    out: &mut W,
-) -> Result<Count, AllocError> {
-    let mut count = Count { same: 0, all: 0 };
-    for line in text.split(|byte| *byte == b'\n') {
-        let Some((question, recorded)) = table.parts(line) else {
-            continue;
-        };
-        let answer = table.answer(alloc, question)?;
-        count.all = count.all.saturating_add(1);
-        if answer.as_slice() == recorded {
-            count.same = count.same.saturating_add(1);
-        } else {
-            let _ = out.write_all(line);
-            let _ = out.write_all(b"\n  here: ");
-            let _ = out.write_all(answer.as_slice());
-            let _ = out.write_all(b"\n");
-        }
-    }
-    Ok(count)
 }

@@ -3,14 +3,17 @@
 mod told;
 
 use crate::actors::{actor_after, owned_text};
-use crate::objects::{id_text, put_sizes, written_of};
-use crate::texts::{Columns, bytes_of, fault, hex_after, hex_if_some, hex_of, name_fault, text_of};
+use crate::objects::id_text;
+use crate::texts::{hex_after, hex_if_some};
 use bstr::BStr;
 use gixobj_base::actor::{Signature, SignatureRef};
-use gixobj_base::parse::split_at_byte;
-use gixobj_base::{decode, hash};
+use gixobj_base::decode;
 use gixobj_codec::tag::write;
 use gixobj_codec::{Tag, TagRef};
+use gixobj_recorded::objects::{put_sizes, written_of};
+use gixobj_recorded::texts::{
+    Columns, bytes_of, fault, hex_of, name_fault, text_and_kind, text_of,
+};
 use gixobj_text::signature;
 use gixobj_text::signature::Format;
 use std::alloc::{AllocError, Global};
@@ -33,16 +36,6 @@ pub(crate) fn tag_answer(alloc: Global, question: &[u8]) -> Result<Vec<u8>, Allo
         Err(error) => columns.put("whole", fault(&error))?,
     }
     text_of(alloc, columns.as_str())
-}
-
-/// The text of a tag, and the kind of its ids.
-fn text_and_kind(alloc: Global, question: &[u8]) -> (Vec<u8>, hash::Kind) {
-    let (text, word) = split_at_byte(question, b' ').unwrap_or((question, b""));
-    let hash_kind = match word {
-        b"sha256" => hash::Kind::Sha256,
-        _ => hash::Kind::Sha1,
-    };
-    (bytes_of(alloc, text), hash_kind)
 }
 
 /// The columns of the fields but the target.

@@ -1,0 +1,87 @@
+//! Tables of recorded answers: a row is a question, a tab, and the answer.
+ghost use Rattle.std.specs.Prelude.{◌≡◌, ◌++◌, ◌∷◌, IfSome};
+
+use gixobj_base::parse::split_at_byte;
+use std::alloc::{AllocError, Global};
+use std::io::{ErrorKind, Write};
+use std::rt::Files;
+use std::{fs, io};
+
+/// A file of recorded answers.
+pub trait Recorded: Copy {
+    /// The name that is printed, and that of the file.
+    fn names(self) -> (&'static str, &'static str);
+
+    /// What the public calls answer, as the file would have it.
+    fn answer(self, alloc: Global, question: &[u8]) -> Result<Vec<u8>, AllocError>;
+
+    /// The question of a row and its answer, or none where the line is no row.
+    fn parts<'a>(self, line: &'a [u8]) -> Option<(&'a [u8], &'a [u8])>
+        ensures { IfSome result (λ it. line.now ≡ it.0.now ++ 9 ∷ it.1.now) }
+    {
+        if line.starts_with(b"#") {
+            return None;
+        }
+        split_at_byte(line, b'\t')
+    }
+}
+
+/// How many answers agree, and how many there are.
+#[derive(Clone, Copy)]
+struct Count {
+    /// How many agree.
+    same: u64,
+    /// How many there are.
+    all: u64,
+}
+
+/// Compares the answers of the tables, prints for each how many agree, and each answer that doesn't.
+/// Answers whether all agree.
+pub fn replay_all<R: Files + Print + AllocGlobal, T: Recorded>(
+    rt: &R,
+    tables: &[T],
+) -> io::Result<bool> {
+    let mut agrees = true;
+    for table in tables {
+        agrees = replay_one(rt, *table)? && agrees;
+    }
+    Ok(agrees)
+}
+
+/// The same for one table.
+fn replay_one<R: Files + Print + AllocGlobal, T: Recorded>(rt: &R, table: T) -> io::Result<bool> {
+    let (word, path) = table.names();
+    let text = fs::read(rt, path)?;
+    let mut out = io::writer(rt);
+    let Ok(Count { same, all }) = replay(rt.alloc(), table, text.as_slice(), &mut out) else {
+        return Err(io::Error::from(ErrorKind::OutOfMemory));
+    };
+    writeln!(out, "{word} {same} of {all}")?;
+    Ok(same == all)
+}
+
+/// Compares the answers of a table, and shows each that differs.
+fn replay<T: Recorded, W: Write>(
+    alloc: Global,
+    table: T,
+    text: &[u8],
+    out: &mut W,
+) -> Result<Count, AllocError> {
+    let mut count = Count { same: 0, all: 0 };
+    for line in text.split(|byte| *byte == b'\n') {
+        let Some((question, recorded)) = table.parts(line) else {
+            continue;
+        };
+        let answer = table.answer(alloc, question)?;
+        count.all = count.all.saturating_add(1);
+        if answer.as_slice() == recorded {
+            count.same = count.same.saturating_add(1);
+        } else {
+            let _ = out.write_all(line);
+            let _ = out.write_all(b"\n  here: ");
+            let _ = out.write_all(answer.as_slice());
+            let _ = out.write_all(b"\n");
+        }
+    }
+    Ok(count)
+}

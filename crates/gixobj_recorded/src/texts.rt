@@ -1,0 +1,130 @@
+//! How answers are spelled in the files of recorded ones.
+ghost use Rattle.std.specs.Prelude.{◌≡◌, ◌∷◌, IfOk};
+ghost use Rattle.std.specs.String.{string_bytes};
+ghost use Rattle.hex.specs.Hex.{encode_lower};
+
+use gixobj_base::encode::RefNameFault;
+use gixobj_base::parse::split_at_byte;
+use gixobj_base::{decode, encode, hash};
+use std::alloc::{AllocError, Global};
+
+/// The bytes of `x` and hex digits; none for another text.
+pub fn bytes_of(alloc: Global, field: &[u8]) -> Vec<u8> {
+    match field {
+        [b'x', digits @ ..] => match hex::decode(alloc, digits) {
+            Ok(bytes) => bytes,
+            Err(_) => Vec::new(alloc),
+        },
+        _ => Vec::new(alloc),
+    }
+}
+
+/// The bytes of a text, and behind a space the kind of its ids.
+pub fn text_and_kind(alloc: Global, question: &[u8]) -> (Vec<u8>, hash::Kind) {
+    let (text, word) = split_at_byte(question, b' ').unwrap_or((question, b""));
+    let hash_kind = match word {
+        b"sha256" => hash::Kind::Sha256,
+        _ => hash::Kind::Sha1,
+    };
+    (bytes_of(alloc, text), hash_kind)
+}
+
+/// The bytes of a text.
+pub fn text_of(alloc: Global, text: &str) -> Result<Vec<u8>, AllocError>
+    ensures { IfOk result (λ answer. answer.items ≡ text.now) }
+{
+    Vec::from_slice(alloc, text.as_bytes())
+}
+
+/// `x`, and the bytes in hex digits.
+pub fn hex_of(alloc: Global, bytes: &[u8]) -> Result<String, AllocError>
+    ensures { IfOk result (λ text. string_bytes text ≡ 120 ∷ encode_lower bytes.now) }
+{
+    let mut text = String::from_str(alloc, "x")?;
+    text.push_str(hex::encode(alloc, bytes)?.as_str())?;
+    Ok(text)
+}
+
+/// A count of bytes.
+pub fn size_text(alloc: Global, size: Option<u64>) -> Result<String, AllocError> {
+    match size {
+        Some(size) => format!(in alloc; "{size}"),
+        None => String::from_str(alloc, "-"),
+    }
+}
+
+/// How writing went, and the bytes that were written.
+pub fn written_text(
+    alloc: Global,
+    outcome: Result<(), encode::Error>,
+    written: &[u8],
+) -> Result<String, AllocError> {
+    let bytes = hex_of(alloc, written)?;
+    let word = match outcome {
+        Ok(()) => "ok",
+        Err(encode::Error::IllegalActor) => "err IllegalActor",
+        Err(encode::Error::EmptyValue) => "err EmptyValue",
+        Err(encode::Error::StartsWithDash) => "err StartsWithDash",
+        Err(encode::Error::InvalidRefName(fault)) => name_fault(fault),
+        Err(_) => "err another",
+    };
+    format!(in alloc; "{word} {bytes}")
+}
+
+/// What is wrong with the name of a tag.
+pub fn name_fault(fault: RefNameFault) -> &'static str {
+    match fault {
+        RefNameFault::Empty => "err InvalidRefName Empty",
+        RefNameFault::DotStart => "err InvalidRefName DotStart",
+        RefNameFault::LockSuffix => "err InvalidRefName LockSuffix",
+        RefNameFault::DoubleDot => "err InvalidRefName DoubleDot",
+        RefNameFault::AtBrace => "err InvalidRefName AtBrace",
+        RefNameFault::Backslash => "err InvalidRefName Backslash",
+        RefNameFault::InvalidByte => "err InvalidRefName InvalidByte",
+        RefNameFault::BadSlash => "err InvalidRefName BadSlash",
+        RefNameFault::DotEnd => "err InvalidRefName DotEnd",
+    }
+}
+
+/// Why nothing is read.
+pub fn fault(error: &decode::Error) -> &'static str {
+    match error {
+        decode::Error::Malformed => "err",
+        decode::Error::OutOfMemory => "err OutOfMemory",
+    }
+}
+
+/// The columns of an answer, apart by tabs.
+#[derive(Drop)]
+pub struct Columns {
+    text: String,
+}
+
+impl Columns {
+    /// No columns.
+    pub fn new(alloc: Global) -> Columns {
+        Columns {
+            text: String::new(alloc),
+        }
+    }
+
+    /// One more column: a word, and a value behind a space.
+    pub fn put(&mut self, word: &str, value: &str) -> Result<(), AllocError> {
+        self.put_word(word)?;
+        self.text.push_str(" ")?;
+        self.text.push_str(value)
+    }
+
+    /// One more column: a word.
+    pub fn put_word(&mut self, word: &str) -> Result<(), AllocError> {
+        if !self.text.is_empty() {
+            self.text.push_str("\t")?;
+        }
+        self.text.push_str(word)
+    }
+
+    /// Their text.
+    pub fn as_str(&self) -> &str {
+        self.text.as_str()
+    }
+}
