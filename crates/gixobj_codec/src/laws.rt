@@ -3,7 +3,9 @@
 pub use gixobj_commits::laws::{
     commit_has_one_reading, commit_reads_and_writes, commit_writes_back, owned_forms_have_the_parts,
 };
-pub use gixobj_data::laws::{entries_are_passed, tree_readers_read_one_language};
+pub use gixobj_data::laws::{
+    bytes_left_end_the_text, entries_are_passed, tree_readers_read_one_language,
+};
 pub use gixobj_extra_headers::laws::{
     borrowed_headers_are_found, borrowed_mergetags_are_found, owned_headers_are_found,
     owned_mergetags_are_found,

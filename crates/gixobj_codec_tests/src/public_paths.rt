@@ -2,8 +2,8 @@
 
 mod root {
     pub use gixobj_codec::{
-        Commit, CommitRef, CommitRefIter, Data, Tag, TagRef, TagRefIter, TreeRef, TreeRefIter, commit,
-        laws, tag, tree,
+        Commit, CommitRef, CommitRefIter, Data, Tag, TagRef, TagRefIter, TreeRef, TreeRefIter,
+        commit, laws, tag, tree,
     };
 }
 
@@ -38,8 +38,8 @@ mod of_laws_of_tags {
 
 mod of_laws_of_trees {
     pub use gixobj_codec::laws::{
-        entries_are_passed, tree_has_one_reading, tree_readers_read_one_language, tree_reads_back,
-        tree_writes_back,
+        bytes_left_end_the_text, entries_are_passed, tree_has_one_reading,
+        tree_readers_read_one_language, tree_reads_back, tree_writes_back,
     };
 }
 

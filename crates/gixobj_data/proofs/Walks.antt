@@ -1,6 +1,7 @@
 -- A reader of trees that goes through all entries.
 use Rattle.std.proofs.Common.{◌≡◌, ◌++◌, ◌∷◌, List, [], ℕ, Ok, Err, Some, None, ap, refl, subst, sym, ◌∙◌}
-use Rattle.std.specs.Prelude.{⊤}
+use Rattle.std.proofs.lemmas.List.{append-nil, append_assoc}
+use Rattle.std.specs.Prelude.{⊤, Option, Result}
 use Rattle.gixobj_fields.proofs.Runs.{passes_one, tells_passed}
 use Rattle.gixobj_fields.specs.Readers.{Standing}
 use Rattle.gixobj_fields.specs.Runs.{broken, complete, tells_end, tells_error}
@@ -11,7 +12,7 @@ use Rattle.gixobj_trees.specs.Entries.{EntryView}
 use Rattle.gixobj_tree_readers.specs.TreeReading.{HasEntry, TellsEntries}
 use Rattle.gixobj_tree_readers.specs.TreeViews.{entry_view}
 use Rattle.gixobj_tree_readers.specs.declared.tree.entry_ref.EntryRef.{EntryRef}
-use Rattle.gixobj_data.specs.EntryGiving.{GivesEntry, HasPassed, IsAtEntry, standing}
+use Rattle.gixobj_data.specs.EntryGiving.{GivesEntry, HasPassed, IsAtEntry, IsTail, bytes_left, standing}
 use Rattle.gixobj_data.specs.declared.tree.TreeRefIter.{TreeRefIter}
 
 pub starts : (kind : Kind) (text : List ℕ) (reader : TreeRefIter) → IsAtEntry kind text reader → HasPassed kind text [] reader
@@ -37,3 +38,17 @@ stops kind text entries at after error (passed, same_kind) gives =
     let none = subst (λ (it : Kind). (e : EntryView) (behind : ⊤) (rest : List ℕ) → HasEntry it tt (standing at).bytes e behind rest → ⊥) same_kind refused.1 in
     let stop : TellsEntries kind (standing at).bytes [] broken = tells_error tt (standing at).bytes refused.0 none in
     tells_passed (HasEntry kind) tt tt text (standing at).bytes entries broken passed stop
+
+-- ---- what is left is the end of the text
+
+pub tail_at_start : (kind : Kind) (text : List ℕ) (reader : TreeRefIter) → IsAtEntry kind text reader → IsTail text (bytes_left reader)
+tail_at_start kind text reader start = ([], sym (ap (λ (it : Standing Kind ⊤). it.bytes) start))
+
+tail_at_end : (text : List ℕ) → IsTail text []
+tail_at_end text = (text, sym (append-nil text))
+
+pub tail_behind : (text : List ℕ) (at after : TreeRefIter) (item : Option (Result EntryRef Error)) → IsTail text (bytes_left at) → GivesEntry at item after → IsTail text (bytes_left after)
+tail_behind text at after (Some (Ok entry)) (front, joined) (has, kept, such) =
+    (front ++ has.0, joined ∙ ap (λ (it : List ℕ). front ++ it) has.1 ∙ sym (append_assoc front has.0 (bytes_left after)))
+tail_behind text at after (Some (Err error)) is_tail gives = rw gives.2 (tail_at_end text)
+tail_behind text at after None is_tail gives = rw gives.1 (tail_at_end text)

@@ -1,5 +1,5 @@
 //! Laws of both readers of trees. Each function does nothing: its contract is the law.
-ghost use Rattle.std.specs.Prelude.{◌≡◌, ◌++◌, ◌∷◌, [], ℕ, Err, List, None, Ok, Some};
+ghost use Rattle.std.specs.Prelude.{◌≡◌, ◌++◌, ◌∷◌, [], ℕ, Err, List, None, Ok, Option, Result, Some};
 ghost use Rattle.gixobj_fields.specs.Runs.{Ending, broken, complete};
 ghost use Rattle.gixobj_ids.specs.declared.decode.Error.{Error};
 ghost use Rattle.gixobj_ids.specs.declared.hash.kind.Kind.{Kind};
@@ -7,7 +7,7 @@ ghost use Rattle.gixobj_trees.specs.Entries.{EntryView};
 ghost use Rattle.gixobj_tree_readers.specs.TreeReading.{IsTreeText, TellsEntries};
 ghost use Rattle.gixobj_tree_readers.specs.TreeViews.{entry_view};
 ghost use Rattle.gixobj_tree_readers.specs.declared.tree.entry_ref.EntryRef.{EntryRef};
-ghost use Rattle.gixobj_data.specs.EntryGiving.{GivesEntry, HasPassed, IsAtEntry};
+ghost use Rattle.gixobj_data.specs.EntryGiving.{GivesEntry, HasPassed, IsAtEntry, IsTail, bytes_left};
 ghost use Rattle.gixobj_data.specs.TreeReaders.{IsLongestFront};
 ghost use Rattle.gixobj_data.specs.declared.tree.TreeRefIter.{TreeRefIter};
 
@@ -33,4 +33,12 @@ pub fn entries_are_passed()
         HasPassed kind text entries at → GivesEntry at None after → TellsEntries kind text entries complete }
     ensures stops { (kind : Kind) (text : List ℕ) (entries : List EntryView) (at after : TreeRefIter) (error : Error) →
         HasPassed kind text entries at → GivesEntry at (Some (Err error)) after → TellsEntries kind text entries broken }
+{}
+
+/// What a reader of a text has left is the end of that text: at its start, and behind each call. So
+/// [`TreeRefIter::offset_to_next_entry`](crate::TreeRefIter::offset_to_next_entry) of the text may be asked.
+pub fn bytes_left_end_the_text()
+    ensures starts { (kind : Kind) (text : List ℕ) (reader : TreeRefIter) → IsAtEntry kind text reader → IsTail text (bytes_left reader) }
+    ensures goes_on { (text : List ℕ) (at after : TreeRefIter) (item : Option (Result EntryRef Error)) →
+        IsTail text (bytes_left at) → GivesEntry at item after → IsTail text (bytes_left after) }
 {}

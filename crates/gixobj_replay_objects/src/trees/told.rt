@@ -2,6 +2,7 @@
 
 use super::entry_text;
 use gixobj_codec::TreeRefIter;
+use gixobj_codec::laws::bytes_left_end_the_text;
 use gixobj_recorded::texts::{Columns, fault, text_and_kind, text_of};
 use std::alloc::{AllocError, Global};
 
@@ -11,6 +12,7 @@ pub(crate) fn tree_token_answer(alloc: Global, question: &[u8]) -> Result<Vec<u8
     let text = bytes.as_slice();
     let mut told = TreeRefIter::from_bytes(text, hash_kind);
     let mut columns = Columns::new(alloc);
+    bytes_left_end_the_text();
     while let Some(entry) = told.next() {
         match entry {
             Ok(entry) => {
