@@ -1,5 +1,8 @@
+pub mod Checksums
 pub use Rattle.gixobj_ids.specs.Decode
 pub use Rattle.gixobj_ids.specs.Encode
 pub use Rattle.gixobj_ids.specs.Hash
 pub use Rattle.gixobj_ids.specs.Kind
+pub use Rattle.gixobj_object_readers.specs.BorrowedObjects
+pub use Rattle.gixobj_object_readers.specs.ObjectReading
 pub use Rattle.gixobj_tokens.specs.TokenGiving

@@ -1,6 +1,6 @@
 //! Objects whose content is not yet read.
 #![tactic(auto)]
 
-mod data;
+pub mod data;
 
 pub use data::Data;

@@ -1,6 +1,6 @@
 //! Objects of any kind, read by their kind, or as loose objects (gitformat-loose, "Loose object format").
 ghost use Rattle.std.specs.Prelude.{◌≡◌, ◌≤◌, IfErr, IfOk, length, take};
-ghost use Rattle.gixobj_object_readers.specs.BorrowedObjects.{HasObjectIds};
+ghost use Rattle.gixobj_object_readers.specs.BorrowedObjects.{HasObjectIds, IsReadyToWrite};
 ghost use Rattle.gixobj_object_readers.specs.LooseObjects.{IsLooseObject, RefusesLooseObject, RefusesSize};
 ghost use Rattle.gixobj_object_readers.specs.ObjectReading.{IsObjectText, RefusesObjectText};
 
@@ -64,6 +64,7 @@ impl<'a> ObjectRef<'a> {
     ) -> Result<ObjectRef<'a>, LooseDecodeError>
         ensures found { IfOk result (IsLooseObject hash_kind input.now) }
         ensures has_ids { IfOk result HasObjectIds }
+        ensures ready { IfOk result IsReadyToWrite }
         ensures refusal { IfErr result (RefusesLooseObject hash_kind input.now) }
     {
         let (kind, size, used) = loose_header(alloc, input)?;
@@ -83,6 +84,7 @@ impl<'a> ObjectRef<'a> {
     ) -> Result<ObjectRef<'a>, Error>
         ensures found { IfOk result (IsObjectText hash_kind kind bytes.now) }
         ensures has_ids { IfOk result HasObjectIds }
+        ensures ready { IfOk result IsReadyToWrite }
         ensures refusal { IfErr result (RefusesObjectText hash_kind kind bytes.now) }
     {
         match kind {
