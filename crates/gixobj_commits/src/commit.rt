@@ -148,9 +148,7 @@ impl CommitRef<'_> {
         ensures owned { IfOk result (IsOwnedForm (commit_lines self.entry)) }
         ensures refusal { IfErr result (RefusesOwning (commit_lines self.entry)) }
     {
-        let author = actor_of_line(self.author)?;
-        let committer = actor_of_line(self.committer)?;
-        Ok(owned::commit(alloc, &self, author, committer)?)
+        owned_copy(alloc, &self)
     }
 
     /// What [`CommitRef::into_owned`] gives.
@@ -172,4 +170,15 @@ impl Commit {
     {
         ExtraHeaders::new(OwnedHeaders::new(&self.extra_headers), self.tree.kind())
     }
+}
+
+/// What [`CommitRef::into_owned`] gives, of a commit that is only borrowed.
+pub fn owned_copy(alloc: Global, commit: &CommitRef<'_>) -> Result<Commit, Error>
+    requires { HasIds (commit_lines commit.now) }
+    ensures owned { IfOk result (IsOwnedForm (commit_lines commit.now)) }
+    ensures refusal { IfErr result (RefusesOwning (commit_lines commit.now)) }
+{
+    let author = actor_of_line(commit.author)?;
+    let committer = actor_of_line(commit.committer)?;
+    Ok(owned::commit(alloc, commit, author, committer)?)
 }

@@ -1,12 +1,18 @@
 //! Objects whose content is not yet read.
-ghost use Rattle.std.specs.Prelude.{◌≡◌, ◌↔◌, IfSome, IsSome};
+ghost use Rattle.std.specs.Prelude.{◌≡◌, ◌↔◌, IfErr, IfOk, IfSome, IsSome};
 ghost use Rattle.gixobj_ids.specs.declared.kind.Kind.TheVariants as object;
 ghost use Rattle.gixobj_data.specs.EntryGiving.{IsAtEntry};
+ghost use Rattle.gixobj_object_readers.specs.BorrowedObjects.{HasObjectIds, IsReadyToWrite};
+ghost use Rattle.gixobj_object_readers.specs.ObjectReading.{IsObjectText, RefusesObjectText};
 ghost use Rattle.gixobj_tag_tokens.specs.TokenGiving.{IsAtStart as IsAtStartOfTag};
 ghost use Rattle.gixobj_tokens.specs.TokenGiving.{IsAtStart};
 
+pub mod verify;
+
 use crate::tree::TreeRefIter;
+use gixobj_ids::decode::Error;
 use gixobj_ids::{Kind, hash};
+use gixobj_object_readers::ObjectRef;
 use gixobj_tag_tokens::TagRefIter;
 use gixobj_tokens::CommitRefIter;
 use std::alloc::Global;
@@ -40,6 +46,19 @@ impl<'a> Data<'a> {
 
 /// Conversion
 impl<'a> Data<'a> {
+    /// The object with this content.
+    ///
+    /// `Malformed` where the content is no object's text of the kind. `OutOfMemory` comes only for a tree or
+    /// a commit, as their own readers say; a blob is never refused.
+    pub fn decode(&self, alloc: Global) -> Result<ObjectRef<'a>, Error>
+        ensures found { IfOk result (IsObjectText self.now.object_hash self.now.kind self.now.bytes.now) }
+        ensures has_ids { IfOk result HasObjectIds }
+        ensures ready { IfOk result IsReadyToWrite }
+        ensures refusal { IfErr result (RefusesObjectText self.now.object_hash self.now.kind self.now.bytes.now) }
+    {
+        ObjectRef::from_bytes(alloc, self.bytes, self.kind, self.object_hash)
+    }
+
     /// A reader that tells the commit token by token, or none where the object is of another kind.
     /// It takes no memory.
     pub fn try_into_commit_iter(self, alloc: Global) -> Option<CommitRefIter<'a>>

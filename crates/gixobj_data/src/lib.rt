@@ -1,7 +1,7 @@
 //! Objects whose content is not yet read, and trees told entry by entry.
 #![tactic(auto)]
 
-mod data;
+pub mod data;
 pub mod laws;
 pub mod tree;
 

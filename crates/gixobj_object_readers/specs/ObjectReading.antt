@@ -1,0 +1,30 @@
+-- Objects of any kind as they are read.
+use Rattle.std.specs.Prelude.{◌≡◌, ℕ, List}
+use Rattle.gixobj_commits.specs.CommitViews.{commit_lines}
+use Rattle.gixobj_ids.specs.declared.decode.Error.{Error}
+use Rattle.gixobj_ids.specs.declared.decode.Error.TheVariants.{Malformed}
+use Rattle.gixobj_ids.specs.declared.hash.kind.Kind as hash
+use Rattle.gixobj_ids.specs.declared.kind.Kind.{Kind}
+use Rattle.gixobj_ids.specs.declared.kind.Kind.TheVariants as kind
+use Rattle.gixobj_lines.specs.Commit.{IsCommitText, RefusesCommit}
+use Rattle.gixobj_tags.specs.TagText.{IsNoTagText, IsTagText}
+use Rattle.gixobj_tags.specs.TagViews.{tag_lines}
+use Rattle.gixobj_tree_readers.specs.TreeReading.{IsTreeText, RefusesTreeText}
+use Rattle.gixobj_tree_readers.specs.TreeViews.{tree_entries}
+use Rattle.gixobj_object_readers.specs.declared.object.ObjectRef.{ObjectRef}
+use Rattle.gixobj_object_readers.specs.declared.object.ObjectRef.TheVariants as object
+
+-- the object is of this kind, with ids of that kind, and the text is that of its tree, its commit or its tag, or a blob's bytes
+abbrev pub IsObjectText : hash.Kind → Kind → List ℕ → ObjectRef → Type 0
+IsObjectText hash kind.Tree text (object.Tree tree) = IsTreeText hash text (tree_entries tree)
+IsObjectText hash kind.Blob text (object.Blob blob) = blob.bytes.now ≡ text
+IsObjectText hash kind.Commit text (object.Commit commit) = IsCommitText hash text (commit_lines commit)
+IsObjectText hash kind.Tag text (object.Tag tag) = IsTagText hash text (tag_lines tag)
+IsObjectText hash _ text _ = ⊥
+
+-- why no object of this kind is read: why no tree or no commit is, or the text is no tag's; a blob is never refused
+abbrev pub RefusesObjectText : hash.Kind → Kind → List ℕ → Error → Type 0
+RefusesObjectText hash kind.Tree text error = RefusesTreeText hash text error
+RefusesObjectText hash kind.Blob text error = ⊥
+RefusesObjectText hash kind.Commit text error = RefusesCommit hash text error
+RefusesObjectText hash kind.Tag text error = (error ≡ Malformed) × IsNoTagText hash text
