@@ -1,20 +1,25 @@
 //! A store of objects, which writes what it has read.
 ghost use Rattle.std.specs.Prelude.{◌≢◌, ◌≡◌, ℕ, List, [], All, IfErr, IfOk, Some};
 ghost use Rattle.std.specs.List.{AllPass};
-ghost use Rattle.gixobj_base.specs.Hash.{is_lower_hex_digit};
+ghost use Rattle.gixobj_base.specs.Hash.{id_kind, id_of, is_lower_hex_digit};
+ghost use Rattle.gixobj_base.specs.Hash.Borrowed.{borrowed_id};
 ghost use Rattle.gixobj_base.specs.Entries.{EntryView};
 ghost use Rattle.gixobj_codec.specs.Commit.{CommitLines, IsCommitText};
+ghost use Rattle.gixobj_codec.specs.BorrowedObjects.{borrowed_kind, borrowed_object_text};
+ghost use Rattle.gixobj_codec.specs.LooseObjects.{IsLooseObject};
+ghost use Rattle.gixobj_codec.specs.object_readers.object.ObjectRef.{ObjectRef};
 ghost use Rattle.gixobj_codec.specs.TreeReading.{IsTreeText};
 ghost use Rattle.gixobj_codec.specs.TreeRewriting.{HasOwnModes};
 ghost use Rattle.gixobj_callers.specs.Copies.{FailsForRoom};
 
-use gixobj_base::hash::Kind;
+use gixobj_base::hash::{Kind, oid};
 use gixobj_base::laws::writers_fail_as_their_sinks;
 use gixobj_base::{WriteTo, decode, encode};
+use gixobj_codec::data::verify;
 use gixobj_codec::laws::{
     commit_has_one_reading, commit_writes_back, tree_has_one_reading, tree_writes_back,
 };
-use gixobj_codec::{CommitRef, TreeRef};
+use gixobj_codec::{CommitRef, Data, LooseDecodeError, ObjectRef, TreeRef};
 use std::alloc::Global;
 
 /// Why there is no copy.
@@ -66,5 +71,38 @@ pub fn tree_copy_of(alloc: Global, text: &[u8], kind: Kind) -> Result<Vec<u8>, C
     match tree.write_to_vec(alloc, &mut written) {
         Ok(()) => Ok(written),
         Err(error) => Err(CopyError::Write(error)),
+    }
+}
+
+/// Why a loose object isn't taken over.
+#[derive(Debug, Drop, thiserror::Error)]
+pub enum TakeError {
+    /// It is not read.
+    #[error("not read: {0}")]
+    Read(LooseDecodeError),
+    /// It is not written.
+    #[error("not written: {0}")]
+    Write(encode::Error),
+    /// What is written has another id.
+    #[error("{0}")]
+    Verify(verify::Error),
+}
+
+/// Takes over the loose object with this id, of whatever kind: what it is written as, which has the id.
+pub fn taken_over(alloc: Global, loose: &[u8], id: oid<'_>) -> Result<Vec<u8>, TakeError>
+    ensures object { IfOk result (λ copy. (object : ObjectRef) × IsLooseObject (id_kind (borrowed_id id.entry)) loose.now object × (copy.items ≡ borrowed_object_text object)
+        × (id_of (id_kind (borrowed_id id.entry)) (borrowed_kind object) copy.items ≡ borrowed_id id.entry)) }
+{
+    let object = match ObjectRef::from_loose(alloc, loose, id.kind()) {
+        Ok(object) => object,
+        Err(error) => return Err(TakeError::Read(error)),
+    };
+    let mut text = Vec::new(alloc);
+    if let Err(error) = object.write_to_vec(alloc, &mut text) {
+        return Err(TakeError::Write(error));
+    }
+    match Data::new(&text, object.kind(), id.kind()).verify_checksum(id) {
+        Ok(_) => Ok(text),
+        Err(error) => Err(TakeError::Verify(error)),
     }
 }
