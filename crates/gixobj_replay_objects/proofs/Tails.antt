@@ -1,16 +1,11 @@
 -- What a reader of trees has left is the end of the text.
 use Rattle.std.proofs.Common.{◌++◌, List, [], ℕ, Ok, Err, Some, None, ap, sym, ◌∙◌}
-use Rattle.std.specs.Prelude.{⊤, Option, Result}
+use Rattle.std.specs.Prelude.{Option, Result}
 use Rattle.std.proofs.lemmas.List.{append-nil, append_assoc}
-use Rattle.gixobj_codec.specs.EntryGiving.{GivesEntry, IsAtEntry, IsTail, bytes_left}
+use Rattle.gixobj_codec.specs.EntryGiving.{GivesEntry, IsTail, bytes_left}
 use Rattle.gixobj_codec.specs.borrowed_trees.tree.entry_ref.EntryRef.{EntryRef}
 use Rattle.gixobj_codec.specs.ids.decode.Error.{Error}
-use Rattle.gixobj_codec.specs.ids.hash.kind.Kind.{Kind}
 use Rattle.gixobj_codec.specs.unread.tree.TreeRefIter.{TreeRefIter}
-use Rattle.gixobj_fields.specs.Readers.{Standing}
-
-pub at_start : (kind : Kind) (text : List ℕ) (reader : TreeRefIter) → IsAtEntry kind text reader → IsTail text (bytes_left reader)
-at_start kind text reader start = ([], sym (ap (λ (it : Standing Kind ⊤). it.bytes) start))
 
 at_end : (text : List ℕ) → IsTail text []
 at_end text = (text, sym (append-nil text))

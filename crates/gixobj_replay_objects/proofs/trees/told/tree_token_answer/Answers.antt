@@ -1,9 +1,6 @@
 use Rattle.std.proofs.Common.{Some}
-use Rattle.gixobj_replay_objects.proofs.Tails.{at_start, behind}
+use Rattle.gixobj_replay_objects.proofs.Tails.{behind}
 use Rattle.gixobj_replay_objects.proofs.trees.told.tree_token_answer.Goals as goal
-
-pub loop-entry-init : goal.loop-entry-init
-loop-entry-init c = at_start _ _ c.from_bytes-told.result c.from_bytes-told.ensures
 
 pub offset_to_next_entry-end-requires : goal.offset_to_next_entry-end-requires
 offset_to_next_entry-end-requires c = behind _ c.loop-entry.told c.next.new.self (Some c.in-Some.entry) c.loop-entry.invariant c.in-Some.ensures.steps

@@ -1,0 +1,8 @@
+use Rattle.gixobj_trees_tests.proofs.Tails.{behind}
+use Rattle.gixobj_trees_tests.proofs.offsets.offsets.Goals as goal
+
+pub offset_to_next_entry-requires-in-loop-told : goal.offset_to_next_entry-requires-in-loop-told
+offset_to_next_entry-requires-in-loop-told c = behind _ c.loop-told.told c.next.new.self c.next.result c.loop-told.invariant c.next.ensures.steps
+
+pub loop-told-preserved : goal.loop-told-preserved
+loop-told-preserved c = behind _ c.loop-told.told c.next.new.self c.next.result c.loop-told.invariant c.next.ensures.steps
