@@ -5,11 +5,13 @@ use crate::told::told;
 use crate::trees::{entry_text, tree_text};
 use gixobj_base::hash::Kind;
 use gixobj_codec::TreeRefIter;
+use gixobj_codec::laws::bytes_left_end_the_text;
 use std::alloc::{AllocError, Global};
 use std::test::Fail;
 
 /// Where the next entry begins: at first, and after each call that gives an entry or an error.
 fn offsets(alloc: Global, text: &[u8]) -> Result<Vec<usize>, AllocError> {
+    bytes_left_end_the_text();
     let mut offsets = Vec::new(alloc);
     let mut told = TreeRefIter::from_bytes(text, Kind::Sha1);
     offsets.push(told.offset_to_next_entry(text))?;
