@@ -3,14 +3,10 @@ use Rattle.std.proofs.Common.{◌≢◌, ℕ, List, [], ◌∷◌, refl}
 use Rattle.std.specs.List.{concat}
 use Rattle.gixobj_base.specs.Entries.{EntryView}
 use Rattle.gixobj_base.specs.ids.hash.kind.Kind as hash
-use Rattle.gixobj_base.specs.ids.kind.Kind.TheVariants.{Tree}
-use Rattle.gixobj_tree_readers.specs.TreeReading.{IsTreeText}
-use Rattle.gixobj.specs.Listing.{HasFirstEntry}
-use Rattle.gixobj.specs.Object.{IsObject}
+use Rattle.gixobj_tree_readers.specs.TreeReading.{BeginsWithEntry, IsTreeText}
 
-pub first_entry : (hash : hash.Kind) (input : List ℕ) (size : ℕ) (content : List ℕ) (entries : List EntryView)
-    → IsObject input Tree size content → IsTreeText hash content entries → entries ≢ [] → HasFirstEntry hash input
-first_entry hash input size content [] is (texts, joined, each) some = absurd (some refl)
-first_entry hash input size content (e ∷ entries) is ([], joined, each) some = absurd each
-first_entry hash input size content (e ∷ entries) is (text ∷ texts, joined, each) some =
-    (size, content, e, concat texts, is, (text, joined, each.0))
+pub first_entry : (hash : hash.Kind) (content : List ℕ) (entries : List EntryView)
+    → IsTreeText hash content entries → entries ≢ [] → (e : EntryView) × (rest : List ℕ) × BeginsWithEntry hash content e rest
+first_entry hash content [] (texts, joined, each) some = absurd (some refl)
+first_entry hash content (e ∷ entries) ([], joined, each) some = absurd each
+first_entry hash content (e ∷ entries) (text ∷ texts, joined, each) some = (e, concat texts, (text, joined, each.0))

@@ -22,24 +22,40 @@ entry_line e =
 abbrev pub listing_of : List EntryView → List ℕ
 listing_of entries = flat_map entry_line entries
 
+-- the input begins with a loose object of this kind and content
+pub record BeginsWithObject (input : List ℕ) (kind : Kind) (content : List ℕ) : Type 0 where
+  pub size : ℕ
+  pub object : IsObject input kind size content
+
 -- the input begins with a loose tree whose ids are of this kind, and this text lists its entries
 abbrev pub IsListed : hash.Kind → List ℕ → List ℕ → Type 0
 IsListed hash input text =
-    (size : ℕ) × (content : List ℕ) × (entries : List EntryView)
-    × IsObject input Tree size content × IsTreeText hash content entries × (text ≡ listing_of entries)
+    (content : List ℕ) × (entries : List EntryView)
+    × BeginsWithObject input Tree content × IsTreeText hash content entries × (text ≡ listing_of entries)
 
 -- the input begins with a loose object of another kind
-abbrev pub IsOfAnotherKind : List ℕ → Type 0
-IsOfAnotherKind input = (kind : Kind) × (size : ℕ) × (content : List ℕ) × IsObject input kind size content × (kind ≢ Tree)
+pub record IsOfAnotherKind (input : List ℕ) : Type 0 where
+  pub kind : Kind
+  pub content : List ℕ
+  pub object : BeginsWithObject input kind content
+  pub other : kind ≢ Tree
 
 -- the input begins with a loose object of a tree's kind, whose content is the text of no tree with ids of this kind
 abbrev pub IsBadTree : hash.Kind → List ℕ → Type 0
-IsBadTree hash input = (size : ℕ) × (content : List ℕ) × IsObject input Tree size content × IsNoTreeText hash content
+IsBadTree hash input = (content : List ℕ) × BeginsWithObject input Tree content × IsNoTreeText hash content
 
 -- the input begins with a loose object of a tree's kind, whose content begins with an entry
 abbrev pub HasFirstEntry : hash.Kind → List ℕ → Type 0
 HasFirstEntry hash input =
-    (size : ℕ) × (content : List ℕ) × (e : EntryView) × (rest : List ℕ) × IsObject input Tree size content × BeginsWithEntry hash content e rest
+    (content : List ℕ) × (e : EntryView) × (rest : List ℕ) × BeginsWithObject input Tree content × BeginsWithEntry hash content e rest
+
+-- why the input begins with no loose object of a tree's kind. Only what a bad header hands back takes memory
+abbrev pub RefusesTree : List ℕ → Refusal → Type 0
+RefusesTree input BadHeader = HasNoHeader input
+RefusesTree input OutOfMemory = HasNoHeader input
+RefusesTree input ShortData = IsShort input
+RefusesTree input NotATree = IsOfAnotherKind input
+RefusesTree input _ = ⊥
 
 -- why no tree is listed. What a bad header hands back takes memory, and so do entries and their lines
 abbrev pub RefusesListing : hash.Kind → List ℕ → Refusal → Type 0

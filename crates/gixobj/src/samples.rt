@@ -3,6 +3,7 @@
 
 use crate::engine::engine;
 use std::alloc::{AllocError, Global};
+use std::io::Read;
 
 /// The content of `hello.txt`.
 pub const HELLO: &[u8] = b"blob 6\x00hello\n";
@@ -51,16 +52,19 @@ pub fn answer_of(
     line: &str,
     input: &[u8],
 ) -> Result<(u8, Vec<u8>, Vec<u8>), AllocError> {
-    let words = words_in(alloc, line)?;
     let mut rest = input;
+    answer_from(alloc, line, &mut rest)
+}
+
+/// The same of what a reader gives.
+pub fn answer_from<R: Read>(
+    alloc: Global,
+    line: &str,
+    reader: &mut R,
+) -> Result<(u8, Vec<u8>, Vec<u8>), AllocError> {
+    let words = words_in(alloc, line)?;
     let mut answered = Vec::new(alloc);
     let mut refused = Vec::new(alloc);
-    let status = engine(
-        alloc,
-        words.as_slice(),
-        &mut rest,
-        &mut answered,
-        &mut refused,
-    );
+    let status = engine(alloc, words.as_slice(), reader, &mut answered, &mut refused);
     Ok((status, answered, refused))
 }

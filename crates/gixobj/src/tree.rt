@@ -1,6 +1,7 @@
 //! `tree`: the entries of a loose tree, a line each.
 ghost use Rattle.std.specs.Prelude.{◌≡◌, ◌≢◌, [], ◌++◌, IfOk, IfErr, OnErr, OnOk};
-ghost use Rattle.gixobj.specs.Listing.{IsListed, RefusesListing, entry_line, listing_of};
+ghost use Rattle.gixobj.specs.Listing.{BeginsWithObject, IsListed, RefusesListing, RefusesTree, entry_line, listing_of};
+ghost use Rattle.gixobj_base.specs.ids.kind.Kind.TheVariants.{Tree};
 ghost use Rattle.gixobj_tree_readers.specs.TreeViews.{entry_view, tree_entries};
 
 #[cfg(test)]
@@ -24,17 +25,26 @@ pub fn listing(alloc: Global, hash: hash::Kind, input: &[u8]) -> Result<Vec<u8>,
     ensures found { IfOk result (λ text. IsListed hash input.now text.items) }
     ensures refusal { IfErr result (RefusesListing hash input.now) }
 {
-    let object = loose_object(alloc, input)?;
-    if object.kind != Kind::Tree {
-        return Err(Refusal::NotATree);
-    }
-    match TreeRef::from_bytes(alloc, object.content, hash) {
+    let content = tree_content(alloc, input)?;
+    match TreeRef::from_bytes(alloc, content, hash) {
         Ok(tree) => match lines(alloc, &tree) {
             Ok(text) => Ok(text),
             Err(_) => Err(Refusal::OutOfMemory),
         },
         Err(Error::Malformed) => Err(Refusal::BadTree),
         Err(Error::OutOfMemory) => Err(Refusal::OutOfMemory),
+    }
+}
+
+/// The content of the loose tree that the input begins with.
+fn tree_content(alloc: Global, input: &[u8]) -> Result<&[u8], Refusal>
+    ensures found { IfOk result (λ content. BeginsWithObject input.now Tree content.now) }
+    ensures refusal { IfErr result (RefusesTree input.now) }
+{
+    let object = loose_object(alloc, input)?;
+    match object.kind {
+        Kind::Tree => Ok(object.content),
+        _ => Err(Refusal::NotATree),
     }
 }
 

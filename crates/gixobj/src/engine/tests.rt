@@ -1,7 +1,7 @@
 //! Whole runs of the program, over readers and writers of memory that may fail.
 
 use super::{engine, run};
-use crate::samples::{ONE_ENTRY, answer_of, words_in};
+use crate::samples::{ONE_ENTRY, answer_from, answer_of, words_in};
 use std::io;
 use std::io::{ErrorKind, Read, Write};
 use std::test::Fail;
@@ -141,78 +141,73 @@ fn show_objects_and_faults(rt: HostRuntime) -> Result<(), Fail> {
     Ok(())
 }
 
+/// Inputs of each command, and what is written of each on standard output and on standard error.
+const READ: [(&str, &[u8], &str, &str); 4] = [
+    (
+        "show",
+        b"blob 6\0hello\n",
+        "blob 6 ce013625030ba8dba906f756967f9e9ca394464a\n",
+        "",
+    ),
+    (
+        "tree",
+        ONE_ENTRY,
+        "100644 blob 83baae61804e65cc73a7201a7252750c76066a30 test.txt\n",
+        "",
+    ),
+    ("tree", b"tree", "", "gixobj: bad header\n"),
+    ("tree", b"tree 6\0hello\n", "", "gixobj: bad tree\n"),
+];
+
 #[test]
-fn a_reader_in_steps_or_failing(rt: HostRuntime) -> Result<(), Fail> {
+fn readers_in_steps(rt: HostRuntime) -> Result<(), Fail> {
     let alloc = rt.alloc();
-    let runs: [(&str, &[u8], &str, &str); 4] = [
-        (
-            "show",
-            b"blob 6\0hello\n",
-            "blob 6 ce013625030ba8dba906f756967f9e9ca394464a\n",
-            "",
-        ),
-        (
-            "tree",
-            ONE_ENTRY,
-            "100644 blob 83baae61804e65cc73a7201a7252750c76066a30 test.txt\n",
-            "",
-        ),
-        ("tree", b"tree", "", "gixobj: bad header\n"),
-        ("tree", b"tree 6\0hello\n", "", "gixobj: bad tree\n"),
-    ];
-    for (line, object, answer, refusal) in runs {
-        let words = words_in(alloc, line)?;
+    for (line, object, output, errors) in READ {
         for step in [1, 5, 4096] {
-            for fails in [false, true] {
-                let mut reader = Stepping {
-                    rest: object,
-                    step,
-                    fails,
-                };
-                let mut answered = Vec::new(alloc);
-                let mut refused = Vec::new(alloc);
-                let _ = engine(
-                    alloc,
-                    words.as_slice(),
-                    &mut reader,
-                    &mut answered,
-                    &mut refused,
-                );
-                let (output, errors) = if fails {
-                    ("", "gixobj: input failed\n")
-                } else {
-                    (answer, refusal)
-                };
-                assert_eq!(rt; answered.as_slice(), output.as_bytes(), "{line} {object:?}");
-                assert_eq!(rt; refused.as_slice(), errors.as_bytes(), "{line} {object:?}");
-            }
+            let mut reader = Stepping {
+                rest: object,
+                step,
+                fails: false,
+            };
+            let got = answer_from(alloc, line, &mut reader)?;
+            assert_eq!(rt; got.1.as_slice(), output.as_bytes(), "{line} {object:?}");
+            assert_eq!(rt; got.2.as_slice(), errors.as_bytes(), "{line} {object:?}");
         }
     }
     Ok(())
 }
 
 #[test]
-fn an_interrupted_reader(rt: HostRuntime) -> Result<(), Fail> {
+fn readers_that_fail(rt: HostRuntime) -> Result<(), Fail> {
     let alloc = rt.alloc();
-    let words = words_in(alloc, "show")?;
-    let mut reader = Interrupted {
-        rest: b"blob 6\0hello\n",
-        is_next: false,
-    };
-    let mut answered = Vec::new(alloc);
-    let mut refused = Vec::new(alloc);
-    let status = engine(
-        alloc,
-        words.as_slice(),
-        &mut reader,
-        &mut answered,
-        &mut refused,
-    );
-    assert_eq!(rt; status, 0);
-    assert_eq!(rt;
-        answered.as_slice(),
-        b"blob 6 ce013625030ba8dba906f756967f9e9ca394464a\n".as_slice()
-    );
+    for (line, object, _, _) in READ {
+        for step in [1, 5, 4096] {
+            let mut reader = Stepping {
+                rest: object,
+                step,
+                fails: true,
+            };
+            let got = answer_from(alloc, line, &mut reader)?;
+            assert_eq!(rt; got.0, 1, "{line} {object:?}");
+            assert!(rt; got.1.is_empty(), "{line} {object:?}");
+            assert_eq!(rt; got.2.as_slice(), b"gixobj: input failed\n".as_slice());
+        }
+    }
+    Ok(())
+}
+
+#[test]
+fn interrupted_readers(rt: HostRuntime) -> Result<(), Fail> {
+    let alloc = rt.alloc();
+    for (line, object, output, errors) in READ {
+        let mut reader = Interrupted {
+            rest: object,
+            is_next: false,
+        };
+        let got = answer_from(alloc, line, &mut reader)?;
+        assert_eq!(rt; got.1.as_slice(), output.as_bytes(), "{line} {object:?}");
+        assert_eq!(rt; got.2.as_slice(), errors.as_bytes(), "{line} {object:?}");
+    }
     Ok(())
 }
 
