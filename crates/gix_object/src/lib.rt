@@ -1,7 +1,7 @@
 //! Git's objects as plain bytes, and an editor of trees.
 //!
 //! It hands on what `gixobj_base`, `gixobj_text` and `gixobj_codec` have for users: ids, kinds, loose headers, actors
-//! and times, trees, blobs, commits and tags, and how they are read and written. Its own is
+//! and times, trees, blobs, commits, tags and objects of any kind, and how they are read and written. Its own is
 //! [`tree::editor`].
 #![tactic(auto)]
 
@@ -13,6 +13,7 @@ pub use gixobj_base::{
     encode, hash, kind, streams,
 };
 pub use gixobj_codec::{
-    Commit, CommitRef, CommitRefIter, Data, Tag, TagRef, TagRefIter, commit, tag,
+    Commit, CommitRef, CommitRefIter, Data, LooseDecodeError, Object, ObjectRef, Tag, TagRef,
+    TagRefIter, commit, data, tag,
 };
 pub use gixobj_text::signature;

@@ -7,6 +7,7 @@ pub use Rattle.gixobj_commits.specs.CommitViews
 pub use Rattle.gixobj_commits.specs.CommitWriting
 pub use Rattle.gixobj_commits.specs.Rewriting
 pub use Rattle.gixobj_commits.specs.declared as commits
+pub use Rattle.gixobj_data.specs.Checksums
 pub use Rattle.gixobj_data.specs.declared as unread
 pub use Rattle.gixobj_extra_headers.specs.ExtraHeaders
 pub use Rattle.gixobj_extra_headers.specs.HeadersLeft
@@ -28,6 +29,12 @@ pub use Rattle.gixobj_ids.specs.declared as ids
 pub use Rattle.gixobj_lines.specs.Commit
 pub use Rattle.gixobj_lines.specs.Lines
 pub use Rattle.gixobj_lines.specs.declared as lines
+pub use Rattle.gixobj_object_readers.specs.BorrowedObjects
+pub use Rattle.gixobj_object_readers.specs.LooseObjects
+pub use Rattle.gixobj_object_readers.specs.ObjectReading
+pub use Rattle.gixobj_object_readers.specs.declared as object_readers
+pub use Rattle.gixobj_objects.specs.Objects
+pub use Rattle.gixobj_objects.specs.declared as objects
 pub use Rattle.gixobj_signing.specs.Markers
 pub use Rattle.gixobj_signing.specs.declared as signing
 pub use Rattle.gixobj_tag_names.specs.NameRule
