@@ -14,6 +14,6 @@ pub use gixobj_base::{
 };
 pub use gixobj_codec::{
     Commit, CommitRef, CommitRefIter, Data, LooseDecodeError, Object, ObjectRef, Tag, TagRef,
-    TagRefIter, commit, data, tag,
+    TagRefIter, TreeRef, TreeRefIter, commit, data, tag,
 };
 pub use gixobj_text::signature;

@@ -7,11 +7,13 @@ use Rattle.gixobj_base.specs.fields.encode.Error as encode
 use Rattle.gixobj_base.specs.fields.encode.Error.TheVariants as written
 use Rattle.gixobj_base.specs.ids.decode.Error.{Error}
 use Rattle.gixobj_base.specs.ids.decode.Error.TheVariants.{Malformed, OutOfMemory}
+use Rattle.gixobj_base.specs.Entries.{EntryView}
 use Rattle.gixobj_base.specs.Hash.{Spells}
 use Rattle.gixobj_base.specs.ids.hash.kind.Kind.{Kind}
 use Rattle.gixobj_base.specs.ids.hash.object_id.ObjectId.{ObjectId}
 use Rattle.gixobj_codec.specs.Commit.{CommitLines, IsCommitText, IsNoCommitText, RefusesCommit}
 use Rattle.gixobj_codec.specs.Rewriting.{RefusesOwnForm}
+use Rattle.gixobj_codec.specs.TreeReading.{IsTreeText, RefusesTreeText}
 use Rattle.gixobj_codec.specs.TokenPassing.{FindsFault, IsMessageToken}
 use Rattle.gixobj_codec.specs.tokens.ref_iter.CommitRefIter.{CommitRefIter}
 use Rattle.gixobj_callers.specs.Copies.{FailsForPart, FailsForRoom}
@@ -69,3 +71,8 @@ same_id a b same = cc same
 
 pub no_error : (error : Error) (id : ObjectId) → ◌≡◌ {A = Result ObjectId Error} (Err error) (Ok id) → ⊥
 no_error error id same = cc same
+
+-- what refuses a tree's text is want of memory
+pub tree_unread : (kind : Kind) (text : List ℕ) (entries : List EntryView) (error : Error) → RefusesTreeText kind text error → IsTreeText kind text entries → FailsForRoom (Read error)
+tree_unread kind text entries Malformed refused is = refused entries is
+tree_unread kind text entries OutOfMemory refused is = tt

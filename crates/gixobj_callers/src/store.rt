@@ -2,14 +2,19 @@
 ghost use Rattle.std.specs.Prelude.{◌≢◌, ◌≡◌, ℕ, List, [], All, IfErr, IfOk, Some};
 ghost use Rattle.std.specs.List.{AllPass};
 ghost use Rattle.gixobj_base.specs.Hash.{is_lower_hex_digit};
+ghost use Rattle.gixobj_base.specs.Entries.{EntryView};
 ghost use Rattle.gixobj_codec.specs.Commit.{CommitLines, IsCommitText};
+ghost use Rattle.gixobj_codec.specs.TreeReading.{IsTreeText};
+ghost use Rattle.gixobj_codec.specs.TreeRewriting.{HasOwnModes};
 ghost use Rattle.gixobj_callers.specs.Copies.{FailsForRoom};
 
 use gixobj_base::hash::Kind;
 use gixobj_base::laws::writers_fail_as_their_sinks;
 use gixobj_base::{WriteTo, decode, encode};
-use gixobj_codec::CommitRef;
-use gixobj_codec::laws::{commit_has_one_reading, commit_writes_back};
+use gixobj_codec::laws::{
+    commit_has_one_reading, commit_writes_back, tree_has_one_reading, tree_writes_back,
+};
+use gixobj_codec::{CommitRef, TreeRef};
 use std::alloc::Global;
 
 /// Why there is no copy.
@@ -40,6 +45,26 @@ pub fn copy_of(alloc: Global, text: &[u8], kind: Kind) -> Result<Vec<u8>, CopyEr
     let mut copy = Vec::new(alloc);
     match commit.write_to_vec(alloc, &mut copy) {
         Ok(()) => Ok(copy),
+        Err(error) => Err(CopyError::Write(error)),
+    }
+}
+
+/// Reads a tree and writes it: a text in which each mode stands as it is written comes back as it was. Of
+/// the text of a tree it is refused only for want of memory or room.
+pub fn tree_copy_of(alloc: Global, text: &[u8], kind: Kind) -> Result<Vec<u8>, CopyError>
+    ensures same { IfOk result (λ copy. (entries : List EntryView) → HasOwnModes kind text.now entries → copy.items ≡ text.now) }
+    ensures room { IfErr result (λ error. (entries : List EntryView) → IsTreeText kind text.now entries → FailsForRoom error) }
+{
+    tree_has_one_reading();
+    tree_writes_back();
+    let tree = match TreeRef::from_bytes(alloc, text, kind) {
+        Ok(tree) => tree,
+        Err(error) => return Err(CopyError::Read(error)),
+    };
+    writers_fail_as_their_sinks(&tree);
+    let mut written = Vec::new(alloc);
+    match tree.write_to_vec(alloc, &mut written) {
+        Ok(()) => Ok(written),
         Err(error) => Err(CopyError::Write(error)),
     }
 }

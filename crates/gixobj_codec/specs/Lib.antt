@@ -8,6 +8,8 @@ pub use Rattle.gixobj_commits.specs.CommitWriting
 pub use Rattle.gixobj_commits.specs.Rewriting
 pub use Rattle.gixobj_commits.specs.declared as commits
 pub use Rattle.gixobj_data.specs.Checksums
+pub use Rattle.gixobj_data.specs.EntryGiving
+pub use Rattle.gixobj_data.specs.TreeReaders
 pub use Rattle.gixobj_data.specs.declared as unread
 pub use Rattle.gixobj_extra_headers.specs.ExtraHeaders
 pub use Rattle.gixobj_extra_headers.specs.HeadersLeft
@@ -60,3 +62,7 @@ pub use Rattle.gixobj_tokens.specs.TokenFilters
 pub use Rattle.gixobj_tokens.specs.TokenGiving
 pub use Rattle.gixobj_tokens.specs.TokenPassing
 pub use Rattle.gixobj_tokens.specs.declared as tokens
+pub use Rattle.gixobj_tree_readers.specs.Rewriting as TreeRewriting
+pub use Rattle.gixobj_tree_readers.specs.TreeReading
+pub use Rattle.gixobj_tree_readers.specs.TreeViews
+pub use Rattle.gixobj_tree_readers.specs.declared as borrowed_trees

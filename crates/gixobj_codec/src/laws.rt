@@ -1,8 +1,9 @@
-//! Laws of commits and tags: most functions here do nothing, and their contract is the law.
+//! Laws of trees, commits and tags: most functions here do nothing, and their contract is the law.
 
 pub use gixobj_commits::laws::{
     commit_has_one_reading, commit_reads_and_writes, commit_writes_back, owned_forms_have_the_parts,
 };
+pub use gixobj_data::laws::{entries_are_passed, tree_readers_read_one_language};
 pub use gixobj_extra_headers::laws::{borrowed_headers_are_found, owned_headers_are_found};
 pub use gixobj_fields::laws::header_reads_back;
 pub use gixobj_ids::laws::hex_spells_one_id;
@@ -12,3 +13,4 @@ pub use gixobj_tags::laws::{
     tag_writes_back,
 };
 pub use gixobj_tokens::laws::{readers, tokens};
+pub use gixobj_tree_readers::laws::{tree_has_one_reading, tree_reads_back, tree_writes_back};

@@ -1,5 +1,5 @@
-//! Git's commits and tags, read and written: whole, or told token by token (gitdatamodel, "commits",
-//! "tag objects"); and objects of any kind.
+//! Git's trees, commits and tags, read and written: whole, or told piece by piece (gitdatamodel, "trees",
+//! "commits", "tag objects"); and objects of any kind.
 //!
 //! It has no code: it hands on what the crates below it have, under the names by which users know it.
 #![tactic(auto)]
@@ -7,10 +7,12 @@
 pub mod commit;
 pub mod laws;
 pub mod tag;
+pub mod tree;
 
 pub use gixobj_commits::{Commit, CommitRef};
-pub use gixobj_data::{Data, data};
+pub use gixobj_data::{Data, TreeRefIter, data};
 pub use gixobj_object_readers::{LooseDecodeError, ObjectRef};
 pub use gixobj_objects::Object;
 pub use gixobj_tags::{Tag, TagRef, TagRefIter};
 pub use gixobj_tokens::CommitRefIter;
+pub use gixobj_tree_readers::TreeRef;

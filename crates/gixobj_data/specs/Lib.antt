@@ -1,4 +1,6 @@
 pub mod Checksums
+pub mod EntryGiving
+pub mod TreeReaders
 pub use Rattle.gixobj_ids.specs.Decode
 pub use Rattle.gixobj_ids.specs.Encode
 pub use Rattle.gixobj_ids.specs.Hash
@@ -6,3 +8,5 @@ pub use Rattle.gixobj_ids.specs.Kind
 pub use Rattle.gixobj_object_readers.specs.BorrowedObjects
 pub use Rattle.gixobj_object_readers.specs.ObjectReading
 pub use Rattle.gixobj_tokens.specs.TokenGiving
+pub use Rattle.gixobj_tree_readers.specs.TreeReading
+pub use Rattle.gixobj_tree_readers.specs.TreeViews

@@ -4,10 +4,12 @@ ghost use Rattle.gixobj_ids.specs.declared.kind.Kind.TheVariants as object;
 ghost use Rattle.gixobj_object_readers.specs.BorrowedObjects.{HasObjectIds, IsReadyToWrite};
 ghost use Rattle.gixobj_object_readers.specs.ObjectReading.{IsObjectText, RefusesObjectText};
 ghost use Rattle.gixobj_tags.specs.TokenGiving.{IsAtStart as IsAtStartOfTag};
+ghost use Rattle.gixobj_data.specs.EntryGiving.{IsAtEntry};
 ghost use Rattle.gixobj_tokens.specs.TokenGiving.{IsAtStart};
 
 pub mod verify;
 
+use crate::tree::TreeRefIter;
 use gixobj_ids::decode::Error;
 use gixobj_ids::{Kind, hash};
 use gixobj_object_readers::ObjectRef;
@@ -77,6 +79,18 @@ impl<'a> Data<'a> {
     {
         match self.kind {
             Kind::Tag => Some(TagRefIter::from_bytes(self.bytes, self.object_hash)),
+            _ => None,
+        }
+    }
+
+    /// A reader that tells the tree entry by entry, or none where the object is of another kind.
+    /// It takes no memory.
+    pub fn try_into_tree_iter(self) -> Option<TreeRefIter<'a>>
+        ensures accepts { IsSome result ↔ (self.entry.kind ≡ object.Tree) }
+        ensures reader { IfSome result (IsAtEntry self.entry.object_hash self.entry.bytes.now) }
+    {
+        match self.kind {
+            Kind::Tree => Some(TreeRefIter::from_bytes(self.bytes, self.object_hash)),
             _ => None,
         }
     }

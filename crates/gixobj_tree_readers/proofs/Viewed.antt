@@ -1,15 +1,23 @@
 -- Lists compared element by element, by what is seen of each.
-use Rattle.std.proofs.Common.{◌≡◌, ◌<◌, ◌≤◌, ◌+◌, ◌++◌, ℕ, List, [], ◌∷◌, ap, arith, get_or, length, map, refl, sym, take, ◌∙◌}
+use Rattle.std.proofs.Common.{◌≡◌, ◌<◌, ◌≤◌, ◌+◌, ◌++◌, ℕ, Bool, List, [], ◌∷◌, ap, arith, get_or, length, map, refl, sym, take, ◌∙◌}
 use Rattle.std.proofs.lemmas.List.{get_or-map, length-map, take_more}
-use Rattle.std.specs.Cmp.Lexicographic.{slice_cmp}
+use Rattle.std.specs.Cmp.Derive.Mapped.{pointwise-map}
+use Rattle.std.specs.Cmp.Lexicographic.{pointwise, slice_cmp}
 use Rattle.std.specs.Ordering.{on, ordering_then}
 use Rattle.std.specs.declared.cmp.Ordering.{Ordering}
+use Rattle.gixobj_trees.specs.EntryOrder.{same_entry, same_tree}
+use Rattle.gixobj_tree_readers.specs.TreeViews.{entry_view}
+use Rattle.gixobj_tree_readers.specs.declared.tree.entry_ref.EntryRef.{EntryRef}
 
 pub compared_as_seen : {X Y : Type 0} (view : X → Y) (R : Y → Y → Ordering) (xs ys : List X) → slice_cmp (on view R) xs ys ≡ slice_cmp R (map view xs) (map view ys)
 compared_as_seen view R [] [] = refl
 compared_as_seen view R [] (y ∷ ys) = refl
 compared_as_seen view R (x ∷ xs) [] = refl
 compared_as_seen view R (x ∷ xs) (y ∷ ys) = ap (ordering_then (R (view x) (view y))) (compared_as_seen view R xs ys)
+
+-- entries that are found equal one by one are the same tree
+pub equal_as_seen : (xs ys : List EntryRef) (same : Bool) → same ≡ pointwise (λ x y. same_entry (entry_view x) (entry_view y)) xs ys → same ≡ same_tree (map entry_view xs) (map entry_view ys)
+equal_as_seen xs ys same is = is ∙ sym (pointwise-map entry_view same_entry xs ys)
 
 -- an element is seen where it stands
 pub seen_there : {X Y : Type 0} (view : X → Y) (xs : List X) (i : ℕ) (x : X) → i < length xs → x ≡ get_or xs i x → view x ≡ get_or (map view xs) i (view x)

@@ -1,15 +1,17 @@
 -- Borrowed trees written, and trees written back and read back.
 use Rattle.std.proofs.Common.{◌≡◌, ◌<◌, ◌+◌, ◌++◌, ◌∷◌, ◌==◌, ◌&&◌, ℕ, Bool, true, false, List, [], All, ap, append_assoc, arith, codes, get_or, length, length-append, if◌then◌else◌, map, refl, subst, sym, take, ◌∙◌}
 use Rattle.std.proofs.lemmas.Bool.Decides.{nat_tests}
-use Rattle.std.proofs.lemmas.List.Elements.{All-head, All-tail}
+use Rattle.std.proofs.lemmas.List.Elements.{All-cons, All-head, All-nil, All-tail}
 use Rattle.std.specs.List.{AllZip, concat}
+use Rattle.gixobj_fields.specs.Writing.{RefusesNothing}
 use Rattle.gixobj_ids.specs.Hash.{id_bytes}
 use Rattle.gixobj_ids.specs.declared.hash.kind.Kind.{Kind}
+use Rattle.gixobj_texts.specs.Parse.{IsFree}
 use Rattle.gixobj_trees.proofs.ModesBack.{mode_reads_back}
-use Rattle.gixobj_trees.proofs.TreeWrites.{text_more}
+use Rattle.gixobj_trees.proofs.TreeWrites.{AreFree, none_refused, text_more}
 use Rattle.gixobj_trees.specs.Entries.{EntryView}
 use Rattle.gixobj_trees.specs.Mode.{KeepsByteSix, first_digit, last_digits, mode_text, octal_digits, second_digit}
-use Rattle.gixobj_trees.specs.TreeText.{entry_text, tree_text}
+use Rattle.gixobj_trees.specs.TreeText.{RefusesTree, entry_text, tree_text}
 use Rattle.gixobj_tree_readers.proofs.Viewed.{seen_there, seen_within}
 use Rattle.gixobj_tree_readers.specs.Rewriting.{HasOwnModes, IsOwnEntryText, ReadsBack}
 use Rattle.gixobj_tree_readers.specs.TreeReading.{IsEntryText, IsTreeText}
@@ -35,8 +37,24 @@ all_own kind [] (text ∷ texts) are = absurd are
 all_own kind (e ∷ entries) [] are = absurd are
 all_own kind (e ∷ entries) (text ∷ texts) are = ap (λ (it : List ℕ). it ++ tree_text entries) (own_text kind e text are.0) ∙ ap (λ (it : List ℕ). text ++ it) (all_own kind entries texts are.1)
 
-pub written_back : (kind : Kind) (text : List ℕ) (entries : List EntryView) → HasOwnModes kind text entries → tree_text entries ≡ text
-written_back kind text entries (texts, joined, are) = all_own kind entries texts are ∙ sym joined
+all_texts : (kind : Kind) (entries : List EntryView) (texts : List (List ℕ)) → AllZip (IsOwnEntryText kind) entries texts → AllZip (IsEntryText kind) entries texts
+all_texts kind [] [] are = tt
+all_texts kind [] (text ∷ texts) are = absurd are
+all_texts kind (e ∷ entries) [] are = absurd are
+all_texts kind (e ∷ entries) (text ∷ texts) are = (are.0.is, all_texts kind entries texts are.1)
+
+pub written_back : (kind : Kind) (text : List ℕ) (entries : List EntryView) → HasOwnModes kind text entries → IsTreeText kind text entries × (tree_text entries ≡ text)
+written_back kind text entries (texts, joined, are) = ((texts, joined, all_texts kind entries texts are), all_own kind entries texts are ∙ sym joined)
+
+names_free : (kind : Kind) (entries : List EntryView) (texts : List (List ℕ)) → AllZip (IsEntryText kind) entries texts → AreFree entries
+names_free kind [] [] are = All-nil (λ (e : EntryView). IsFree 0 e.name)
+names_free kind [] (text ∷ texts) are = absurd are
+names_free kind (e ∷ entries) [] are = absurd are
+names_free kind (e ∷ entries) (text ∷ texts) are = All-cons (λ (it : EntryView). IsFree 0 it.name) e entries are.0.name (names_free kind entries texts are.1)
+
+-- of a tree that was read no name is refused
+pub nothing_refused : (kind : Kind) (text : List ℕ) (entries : List EntryView) → IsTreeText kind text entries → RefusesNothing (RefusesTree entries)
+nothing_refused kind text entries (texts, joined, are) = λ value parts refused. none_refused entries value parts (names_free kind entries texts are) refused
 
 -- ---- read back
 

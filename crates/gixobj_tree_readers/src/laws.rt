@@ -1,10 +1,10 @@
 //! Laws that tie the reader of trees to the writer. Each function does nothing: its contract is the law.
 ghost use Rattle.std.specs.Prelude.{◌≡◌, All, List, ℕ};
-ghost use Rattle.gixobj_fields.specs.Runs.{Ending, broken, complete};
+ghost use Rattle.gixobj_fields.specs.Writing.{RefusesNothing};
 ghost use Rattle.gixobj_ids.specs.declared.hash.kind.Kind.{Kind};
 ghost use Rattle.gixobj_trees.specs.Entries.{EntryView};
-ghost use Rattle.gixobj_trees.specs.TreeText.{tree_text};
-ghost use Rattle.gixobj_tree_readers.specs.TreeReading.{BeginsWithEntry, IsTreeText, TellsEntries};
+ghost use Rattle.gixobj_trees.specs.TreeText.{RefusesTree, tree_text};
+ghost use Rattle.gixobj_tree_readers.specs.TreeReading.{BeginsWithEntry, IsTreeText};
 ghost use Rattle.gixobj_tree_readers.specs.Rewriting.{HasOwnModes, ReadsBack};
 
 /// A text begins with the text of one entry at most, and is that of one tree at most.
@@ -14,9 +14,11 @@ pub fn tree_has_one_reading()
     ensures one_tree { (kind : Kind) (text : List ℕ) (entries entries' : List EntryView) → IsTreeText kind text entries → IsTreeText kind text entries' → entries ≡ entries' }
 {}
 
-/// A tree that was read is written as it was, where each mode stands in its text as it is written.
+/// A tree that was read is written as it was, where each mode stands in its text as it is written. Of a
+/// tree that was read nothing is refused.
 pub fn tree_writes_back()
-    ensures { (kind : Kind) (text : List ℕ) (entries : List EntryView) → HasOwnModes kind text entries → tree_text entries ≡ text }
+    ensures same_text { (kind : Kind) (text : List ℕ) (entries : List EntryView) → HasOwnModes kind text entries → IsTreeText kind text entries × (tree_text entries ≡ text) }
+    ensures not_refused { (kind : Kind) (text : List ℕ) (entries : List EntryView) → IsTreeText kind text entries → RefusesNothing (RefusesTree entries) }
 {}
 
 /// What is written of a tree is read as that tree, where no name has a zero byte, all ids are of the

@@ -35,7 +35,7 @@ cut_at items i e h is =
 text_at : (items : List EntryView) (i : ℕ) (e : EntryView) → i < length items → e ≡ get_or items i e → tree_text items ≡ tree_text (take i items) ++ (entry_text e ++ tree_text (drop (i + 1) items))
 text_at items i e h is = ap tree_text (cut_at items i e h is) ∙ flat_map-append entry_text (take i items) (e ∷ drop (i + 1) items)
 
-none_refused : (items : List EntryView) (value : Refused) (parts : List ℕ) → AreFree items → RefusesTree items value parts → ⊥
+pub none_refused : (items : List EntryView) (value : Refused) (parts : List ℕ) → AreFree items → RefusesTree items value parts → ⊥
 none_refused items value parts free r =
     let has : Contains items r.entry = rw (r.joined) (Contains-append_right r.front (r.entry ∷ r.back) r.entry (Contains-get_or (r.entry ∷ r.back) 0 r.entry (omega arith))) in
     All-contains (λ (it : ℕ). it ≡ 0 → ⊥) r.entry.name 0 (All-contains (λ (x : EntryView). IsFree 0 x.name) items r.entry free has) r.refused.0 refl

@@ -1,0 +1,22 @@
+use Rattle.std.proofs.Common.{◌++◌, ◌∷◌, Err, Ok, Result, Some, [], subst}
+use Rattle.gixobj_base.specs.Runs.{broken, complete}
+use Rattle.gixobj_base.specs.ids.decode.Error.{Error}
+use Rattle.gixobj_callers.proofs.planner.is_tree.Goals as goal
+use Rattle.gixobj_codec.specs.EntryGiving.{GivesEntry}
+use Rattle.gixobj_codec.specs.TreeViews.{entry_view}
+use Rattle.gixobj_codec.specs.borrowed_trees.tree.entry_ref.EntryRef.{EntryRef}
+
+pub returns-in-Err : goal.returns-in-Err
+returns-in-Err c = λ entries is.
+    let before = c.loop-item.invariant in
+    let gives = subst (λ (it : Result EntryRef Error). GivesEntry c.loop-item.item-iterator (Some it) c.next.new.self) c.in-Err.is c.in-Some.ensures.steps in
+    let stops = c.entries_are_passed.ensures.stops c.args.kind c.args.text.now before.0 c.loop-item.item-iterator c.next.new.self c.in-Err.field-0 before.1 gives in
+    let ends = c.tree_readers_read_one_language.ensures.told c.args.kind c.args.text.now entries is in
+    let same = c.tree_readers_read_one_language.ensures.one_run c.args.kind c.args.text.now before.0 entries broken complete stops ends in
+    cc same.1
+
+pub loop-item-preserved : goal.loop-item-preserved
+loop-item-preserved c =
+    let before = c.loop-item.invariant in
+    let gives = subst (λ (it : Result EntryRef Error). GivesEntry c.loop-item.item-iterator (Some it) c.next.new.self) c.in_default.is c.in-Some.ensures.steps in
+    (before.0 ++ entry_view c.in_default.field-0 ∷ [], c.entries_are_passed.ensures.goes_on c.args.kind c.args.text.now before.0 c.loop-item.item-iterator c.next.new.self c.in_default.field-0 before.1 gives)

@@ -1,0 +1,4 @@
+//! Trees, read (gitdatamodel, "trees").
+
+pub use gixobj_data::TreeRefIter;
+pub use gixobj_tree_readers::tree::{EntryRef, TreeRef};

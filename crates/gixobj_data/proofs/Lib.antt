@@ -1,0 +1,2 @@
+mod BrokenTrees
+mod Walks

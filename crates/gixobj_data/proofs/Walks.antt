@@ -1,0 +1,39 @@
+-- A reader of trees that goes through all entries.
+use Rattle.std.proofs.Common.{◌≡◌, ◌++◌, ◌∷◌, List, [], ℕ, Ok, Err, Some, None, ap, refl, subst, sym, ◌∙◌}
+use Rattle.std.specs.Prelude.{⊤}
+use Rattle.gixobj_fields.proofs.Runs.{passes_one, tells_passed}
+use Rattle.gixobj_fields.specs.Readers.{Standing}
+use Rattle.gixobj_fields.specs.Runs.{broken, complete, tells_end, tells_error}
+use Rattle.gixobj_ids.specs.declared.decode.Error.{Error}
+use Rattle.gixobj_ids.specs.declared.decode.Error.TheVariants.{Malformed, OutOfMemory}
+use Rattle.gixobj_ids.specs.declared.hash.kind.Kind.{Kind}
+use Rattle.gixobj_trees.specs.Entries.{EntryView}
+use Rattle.gixobj_tree_readers.specs.TreeReading.{HasEntry, TellsEntries}
+use Rattle.gixobj_tree_readers.specs.TreeViews.{entry_view}
+use Rattle.gixobj_tree_readers.specs.declared.tree.entry_ref.EntryRef.{EntryRef}
+use Rattle.gixobj_data.specs.EntryGiving.{GivesEntry, HasPassed, IsAtEntry, standing}
+use Rattle.gixobj_data.specs.declared.tree.TreeRefIter.{TreeRefIter}
+
+pub starts : (kind : Kind) (text : List ℕ) (reader : TreeRefIter) → IsAtEntry kind text reader → HasPassed kind text [] reader
+starts kind text reader start = ((refl, sym (ap (λ (it : Standing Kind ⊤). it.bytes) start)), ap (λ (it : Standing Kind ⊤). it.kind) start)
+
+pub goes_on : (kind : Kind) (text : List ℕ) (entries : List EntryView) (at after : TreeRefIter) (entry : EntryRef) → HasPassed kind text entries at → GivesEntry at (Some (Ok entry)) after → HasPassed kind text (entries ++ entry_view entry ∷ []) after
+goes_on kind text entries at after entry (passed, same_kind) (has, kept, such) =
+    let here = subst (λ (it : Kind). HasEntry it tt (standing at).bytes (entry_view entry) tt (standing after).bytes) same_kind has in
+    (passes_one (HasEntry kind) tt tt tt text (standing at).bytes (standing after).bytes entries (entry_view entry) passed here, kept ∙ same_kind)
+
+pub ends : (kind : Kind) (text : List ℕ) (entries : List EntryView) (at after : TreeRefIter) → HasPassed kind text entries at → GivesEntry at None after → TellsEntries kind text entries complete
+ends kind text entries at after (passed, same_kind) gives =
+    let end : TellsEntries kind (standing at).bytes [] complete = rw gives.0 (tells_end tt) in
+    tells_passed (HasEntry kind) tt tt text (standing at).bytes entries complete passed end
+
+malformed_only : (at after : TreeRefIter) (error : Error) → GivesEntry at (Some (Err error)) after → GivesEntry at (Some (Err Malformed)) after
+malformed_only at after Malformed gives = gives
+malformed_only at after OutOfMemory gives = absurd gives.1
+
+pub stops : (kind : Kind) (text : List ℕ) (entries : List EntryView) (at after : TreeRefIter) (error : Error) → HasPassed kind text entries at → GivesEntry at (Some (Err error)) after → TellsEntries kind text entries broken
+stops kind text entries at after error (passed, same_kind) gives =
+    let refused = malformed_only at after error gives in
+    let none = subst (λ (it : Kind). (e : EntryView) (behind : ⊤) (rest : List ℕ) → HasEntry it tt (standing at).bytes e behind rest → ⊥) same_kind refused.1 in
+    let stop : TellsEntries kind (standing at).bytes [] broken = tells_error tt (standing at).bytes refused.0 none in
+    tells_passed (HasEntry kind) tt tt text (standing at).bytes entries broken passed stop
