@@ -2,9 +2,10 @@
 
 mod root {
     pub use gix_object::{
-        Blob, BlobRef, Commit, CommitRef, CommitRefIter, Data, Header, Kind, OutOfMemory, Tag,
-        TagRef, TagRefIter, Tree, TreeRef, TreeRefIter, WriteTo, actor, commit, compute_hash, date,
-        decode, encode, hash, kind, laws, signature, streams, tag, tree,
+        Blob, BlobRef, Commit, CommitRef, CommitRefIter, Data, Header, Kind, LooseDecodeError,
+        Object, ObjectRef, OutOfMemory, Tag, TagRef, TagRefIter, Tree, TreeRef, TreeRefIter,
+        WriteTo, actor, commit, compute_hash, data, date, decode, encode, hash, kind, laws,
+        signature, streams, tag, tree,
     };
 }
 
@@ -23,6 +24,11 @@ mod of_commit {
 
 mod of_ref_iter {
     pub use gix_object::commit::ref_iter::{CommitRefIter, ParentIds, Signatures, Token};
+}
+
+mod of_data {
+    pub use gix_object::data::verify::Error;
+    pub use gix_object::data::{Data, verify};
 }
 
 mod of_decode {

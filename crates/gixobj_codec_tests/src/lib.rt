@@ -8,4 +8,6 @@ mod data;
 #[cfg(test)]
 mod laws;
 #[cfg(test)]
+mod objects;
+#[cfg(test)]
 mod public_paths;

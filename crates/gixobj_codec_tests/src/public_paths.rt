@@ -2,8 +2,8 @@
 
 mod root {
     pub use gixobj_codec::{
-        Commit, CommitRef, CommitRefIter, Data, Tag, TagRef, TagRefIter, TreeRef, TreeRefIter,
-        commit, laws, tag, tree,
+        Commit, CommitRef, CommitRefIter, Data, LooseDecodeError, Object, ObjectRef, Tag, TagRef,
+        TagRefIter, TreeRef, TreeRefIter, commit, data, laws, tag, tree,
     };
 }
 
@@ -13,6 +13,11 @@ mod of_commit {
         OwnedHeaders, Parents, SIGNATURE_FIELD_NAME, SIGNATURE_FIELD_NAME_SHA256, ref_iter,
         signature_field_name,
     };
+}
+
+mod of_data {
+    pub use gixobj_codec::data::verify::Error;
+    pub use gixobj_codec::data::{Data, verify};
 }
 
 mod of_ref_iter {
