@@ -9,7 +9,7 @@ use Rattle.gixobj_base.specs.ids.hash.kind.Kind as hash
 use Rattle.gixobj_base.specs.ids.kind.Kind.{Kind}
 use Rattle.gixobj_base.specs.ids.kind.Kind.TheVariants.{Tree}
 use Rattle.gixobj_tree_readers.specs.TreeReading.{BeginsWithEntry, IsNoTreeText, IsTreeText}
-use Rattle.gixobj.specs.Object.{HasNoHeader, IsObject, IsShort}
+use Rattle.gixobj.specs.Object.{BeginsWithObject, HasNoHeader, IsShort}
 use Rattle.gixobj.specs.declared.refusal.Refusal.{Refusal}
 use Rattle.gixobj.specs.declared.refusal.Refusal.TheVariants.{BadHeader, BadTree, NotATree, OutOfMemory, ShortData}
 
@@ -21,11 +21,6 @@ entry_line e =
 -- the lines of the entries, one after the other
 abbrev pub listing_of : List EntryView → List ℕ
 listing_of entries = flat_map entry_line entries
-
--- the input begins with a loose object of this kind and content
-pub record BeginsWithObject (input : List ℕ) (kind : Kind) (content : List ℕ) : Type 0 where
-  pub size : ℕ
-  pub object : IsObject input kind size content
 
 -- the input begins with a loose tree whose ids are of this kind, and this text lists its entries
 abbrev pub IsListed : hash.Kind → List ℕ → List ℕ → Type 0

@@ -10,6 +10,11 @@ abbrev pub IsObject : List ℕ → Kind → ℕ → List ℕ → Type 0
 IsObject input kind size content =
     (used : ℕ) × HasLooseHeader input kind size used × (used + size ≤ length input) × (content ≡ take size (drop used input))
 
+-- the input begins with a loose object of this kind and content
+pub record BeginsWithObject (input : List ℕ) (kind : Kind) (content : List ℕ) : Type 0 where
+  pub size : ℕ
+  pub object : IsObject input kind size content
+
 -- the input begins with no loose header
 abbrev pub HasNoHeader : List ℕ → Type 0
 HasNoHeader input = (kind : Kind) (size used : ℕ) → HasLooseHeader input kind size used → ⊥

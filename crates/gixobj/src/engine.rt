@@ -98,7 +98,7 @@ fn answer<S: Source, O: Sink>(
     }
 }
 
-/// What a command makes of its input, by this kind of digest. What `show` makes takes no memory.
+/// What a command makes of its input, by this kind of digest. The line of `show` takes no memory.
 fn text_for(
     alloc: Global,
     command: Command,
