@@ -1,7 +1,8 @@
-//! Asks the public calls for what the Rust crate answered about trees, as `data/` has it, and prints for
+//! Asks the public calls for what the Rust crate answered about trees and loose objects, as `data/` has it, and prints for
 //! each file how many answers agree, and the ones that don't.
 #![tactic(auto)]
 
+mod objects;
 mod tables;
 mod trees;
 

@@ -1,5 +1,6 @@
 //! The tables of this program.
 
+use crate::objects::object_answer;
 use crate::trees::{tree_answer, tree_token_answer};
 use gixobj_recorded::tables::Recorded;
 use std::alloc::{AllocError, Global};
@@ -11,16 +12,19 @@ pub(crate) enum Table {
     Trees,
     /// Trees told entry by entry.
     TreeTokens,
+    /// Loose objects read and written.
+    Objects,
 }
 
 /// All of them.
-pub(crate) const TABLES: [Table; 2] = [Table::Trees, Table::TreeTokens];
+pub(crate) const TABLES: [Table; 3] = [Table::Trees, Table::TreeTokens, Table::Objects];
 
 impl Recorded for Table {
     fn names(self) -> (&'static str, &'static str) {
         match self {
             Table::Trees => ("trees", "trees.tsv"),
             Table::TreeTokens => ("tree tokens", "tree-tokens.tsv"),
+            Table::Objects => ("objects", "objects.tsv"),
         }
     }
 
@@ -28,6 +32,7 @@ impl Recorded for Table {
         match self {
             Table::Trees => tree_answer(alloc, question),
             Table::TreeTokens => tree_token_answer(alloc, question),
+            Table::Objects => object_answer(alloc, question),
         }
     }
 }
