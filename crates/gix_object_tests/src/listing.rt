@@ -29,11 +29,12 @@ pub(crate) struct Listed {
 
 impl Model for Listed {
     ghost use Rattle.gix_object.specs.EditorCalls.{names_of};
+    ghost use Rattle.gixobj_base.specs.Mode.{mode_bits};
     ghost use Rattle.gix_object_tests.specs.Lists.{FileView};
 
     ghost Value = { FileView };
 
-    ghost view = { λ file. record { path = names_of file.path.items; mode = file.mode; id = file.id } };
+    ghost view = { λ file. record { path = names_of file.path.items; mode = mode_bits file.mode; id = file.id } };
 }
 
 /// The files of the tree, with paths of at most so many names. An id names the first tree of the table
