@@ -9,6 +9,8 @@ pub use Rattle.gixobj_commits.specs.Rewriting
 pub use Rattle.gixobj_commits.specs.declared as commits
 pub use Rattle.gixobj_data.specs.Checksums
 pub use Rattle.gixobj_data.specs.EntryGiving
+pub use Rattle.gixobj_data.specs.Lookups
+pub use Rattle.gixobj_data.specs.Stores
 pub use Rattle.gixobj_data.specs.TreeReaders
 pub use Rattle.gixobj_data.specs.declared as unread
 pub use Rattle.gixobj_extra_headers.specs.ExtraHeaders

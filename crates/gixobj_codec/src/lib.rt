@@ -1,5 +1,5 @@
 //! Git's trees, commits and tags, read and written: whole, or told piece by piece (gitdatamodel, "trees",
-//! "commits", "tag objects"); and objects of any kind.
+//! "commits", "tag objects"); objects of any kind; and what a store of objects is.
 //!
 //! It has no code: it hands on what the crates below it have, under the names by which users know it.
 #![tactic(auto)]
@@ -10,7 +10,9 @@ pub mod tag;
 pub mod tree;
 
 pub use gixobj_commits::{Commit, CommitRef};
-pub use gixobj_data::{Data, TreeRefIter, data};
+pub use gixobj_data::{
+    Data, Exists, Find, FindHeader, FindObjectOrHeader, Store, TreeRefIter, data, find,
+};
 pub use gixobj_object_readers::{LooseDecodeError, ObjectRef};
 pub use gixobj_objects::Object;
 pub use gixobj_tag_tokens::TagRefIter;

@@ -1,4 +1,5 @@
 //! Trees, read (gitdatamodel, "trees").
 
 pub use gixobj_data::TreeRefIter;
+pub use gixobj_data::tree::next_entry;
 pub use gixobj_tree_readers::tree::{EntryRef, TreeRef};

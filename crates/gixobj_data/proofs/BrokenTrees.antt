@@ -1,7 +1,7 @@
 -- Of a text that is no tree's the longest front is told that is one.
-use Rattle.std.proofs.Common.{◌≡◌, ◌≢◌, ◌≤◌, ◌++◌, ◌∷◌, ℕ, List, [], ap, append_assoc, arith, length, length-append, refl, subst, sym, ◌∙◌}
+use Rattle.std.proofs.Common.{◌≡◌, ◌≢◌, ◌≤◌, ◌++◌, ◌∷◌, ℕ, List, [], ap, append_assoc, arith, length, length-append, refl, sym, ◌∙◌}
 use Rattle.std.specs.List.{AllZip, concat}
-use Rattle.gixobj_fields.specs.Runs.{Ending, broken, complete, tells_end, tells_error, tells_piece}
+use Rattle.gixobj_fields.specs.Runs.{Ending, broken, tells_end, tells_error, tells_piece}
 use Rattle.gixobj_ids.specs.declared.hash.kind.Kind.{Kind}
 use Rattle.gixobj_trees.specs.Entries.{EntryView}
 use Rattle.gixobj_tree_readers.proofs.OneEntry.{one_entry}

@@ -1,5 +1,5 @@
 -- A reader of trees that goes through all entries.
-use Rattle.std.proofs.Common.{◌≡◌, ◌++◌, ◌∷◌, List, [], ℕ, Ok, Err, Some, None, ap, refl, subst, sym, ◌∙◌}
+use Rattle.std.proofs.Common.{◌++◌, ◌∷◌, List, [], ℕ, Ok, Err, Some, None, ap, refl, subst, sym, ◌∙◌}
 use Rattle.std.proofs.lemmas.List.{append-nil, append_assoc}
 use Rattle.std.specs.Prelude.{⊤, Option, Result}
 use Rattle.gixobj_fields.proofs.Runs.{passes_one, tells_passed}

@@ -1,5 +1,7 @@
 pub mod Checksums
 pub mod EntryGiving
+pub mod Lookups
+pub mod Stores
 pub mod TreeReaders
 pub use Rattle.gixobj_ids.specs.Decode
 pub use Rattle.gixobj_ids.specs.Encode

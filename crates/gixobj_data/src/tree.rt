@@ -4,11 +4,14 @@ ghost use Rattle.gixobj_data.specs.EntryGiving.{GivesEntry, IsAtEntry, IsTail, b
 ghost use Rattle.gixobj_tree_readers.specs.TreeReading.{IsTreeText, RefusesTreeText};
 ghost use Rattle.gixobj_tree_readers.specs.TreeViews.{entry_view};
 
+mod lookup;
+
 use gixobj_ids::decode::Error;
 use gixobj_ids::hash;
 use gixobj_tree_readers::TreeRef;
 use gixobj_tree_readers::tree::EntryRef;
 use gixobj_tree_readers::tree::decode::read_entry;
+pub use lookup::next_entry;
 use std::alloc::Global;
 
 /// A reader of a tree that tells it entry by entry.

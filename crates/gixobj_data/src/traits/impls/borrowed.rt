@@ -1,0 +1,35 @@
+//! A store that is borrowed means what the store means.
+
+use crate::data::Data;
+use crate::find::Error;
+use crate::traits::{Exists, Find, FindHeader, Store};
+use gixobj_ids::Header;
+use gixobj_ids::hash::oid;
+
+impl<T: Store> Store for &T {
+    ghost objects = { λ store. T.objects store.now };
+
+    ghost may_fail = { λ store. T.may_fail store.now };
+}
+
+impl<T: Find> Find for &T {
+    fn try_find<'a>(
+        &self,
+        id: oid<'_>,
+        buffer: &'a mut Vec<u8>,
+    ) -> Result<Option<Data<'a>>, Error> {
+        (**self).try_find(id, buffer)
+    }
+}
+
+impl<T: FindHeader> FindHeader for &T {
+    fn try_header(&self, id: oid<'_>) -> Result<Option<Header>, Error> {
+        (**self).try_header(id)
+    }
+}
+
+impl<T: Exists> Exists for &T {
+    fn exists(&self, id: oid<'_>) -> bool {
+        (**self).exists(id)
+    }
+}

@@ -1,0 +1,34 @@
+-- The map of the store in memory, read and written.
+use Rattle.std.proofs.Common.{◌≡◌, ℕ, Bool, List, Some, true, false, ap, refl, sym, ◌∙◌}
+use Rattle.std.specs.BTreeMap.{Updates, get, is_at}
+use Rattle.std.specs.FinMap as finite
+use Rattle.std.specs.Option.{option_map}
+use Rattle.std.specs.Prelude.{Option, cond}
+use Rattle.gixobj_data.proofs.Keeping.{looked_up, put_in}
+use Rattle.gixobj_data.specs.Stores.{StoredObject, named}
+use Rattle.gixobj_ids.specs.Hash.Order.{id_cmp}
+use Rattle.gixobj_ids.specs.declared.hash.object_id.ObjectId.{ObjectId}
+use Rattle.gixobj_store.specs.Memory.{memory_objects, stored_object}
+use Rattle.gixobj_store.specs.declared.Memory.{Memory}
+use Rattle.gixobj_store.specs.declared.Stored.{Stored}
+
+-- the id names what the map has
+pub kept : (store : Memory) (id : ObjectId) → named (memory_objects store) id ≡ option_map stored_object (get id_cmp store.objects id)
+kept store id = looked_up stored_object id store.objects.entries
+
+chosen : (b : Bool) (it : Stored) (rest : Option Stored) → option_map stored_object (cond b (Some it) rest) ≡ cond b (Some (stored_object it)) (option_map stored_object rest)
+chosen true it rest = refl
+chosen false it rest = refl
+
+put : (before after : Memory) (id : ObjectId) (it : Stored) → Updates id_cmp before.objects after.objects id (Some it) → memory_objects after ≡ finite.insert (memory_objects before) id (stored_object it)
+put before after id it updates =
+    put_in (memory_objects before) (memory_objects after) id (stored_object it)
+    (λ q. kept after q ∙ ap (option_map stored_object) (updates.0 q) ∙ chosen (is_at (id_cmp id) q) it (get id_cmp before.objects q) ∙ ap (cond (is_at (id_cmp id) q) (Some (stored_object it))) (sym (kept before q)))
+
+same_object : (it : Stored) (bytes : List ℕ) → it.bytes.items ≡ bytes → ◌≡◌ {A = StoredObject} (stored_object it) (record { kind = it.kind; object_hash = it.object_hash; bytes = bytes })
+same_object it bytes same i = record { kind = it.kind; object_hash = it.object_hash; bytes = same i }
+
+-- an object of these bytes was put in
+pub put_object : (before after : Memory) (id : ObjectId) (it : Stored) (bytes : List ℕ) → Updates id_cmp before.objects after.objects id (Some it) → it.bytes.items ≡ bytes
+    → memory_objects after ≡ finite.insert (memory_objects before) id (record { kind = it.kind; object_hash = it.object_hash; bytes = bytes })
+put_object before after id it bytes updates same = put before after id it updates ∙ ap (finite.insert (memory_objects before) id) (same_object it bytes same)
