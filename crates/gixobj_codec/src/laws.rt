@@ -1,10 +1,11 @@
-//! Laws of trees, commits and tags: most functions here do nothing, and their contract is the law.
+//! Laws of trees, commits, tags and stores: most functions here do nothing, and their contract is the law.
 
 pub use gixobj_commits::laws::{
     commit_has_one_reading, commit_reads_and_writes, commit_writes_back, owned_forms_have_the_parts,
 };
 pub use gixobj_data::laws::{
-    bytes_left_end_the_text, entries_are_passed, tree_readers_read_one_language,
+    an_object_is_put_in, bytes_left_end_the_text, entries_are_passed,
+    tree_readers_read_one_language,
 };
 pub use gixobj_extra_headers::laws::{
     borrowed_headers_are_found, borrowed_mergetags_are_found, owned_headers_are_found,

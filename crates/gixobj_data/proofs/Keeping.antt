@@ -1,5 +1,5 @@
 -- Stores that keep their objects in lists or maps, by their ids.
-use Rattle.std.proofs.Common.{◌≡◌, ◌∷◌, ℕ, Bool, true, false, List, [], Some, ap, map, refl, sym, ◌∙◌}
+use Rattle.std.proofs.Common.{◌≡◌, ◌≢◌, ◌∷◌, ℕ, Bool, true, false, List, [], Some, ap, map, refl, sym, ◌∙◌}
 use Rattle.std.specs.Prelude.{Option, cond}
 use Rattle.std.specs.BTreeMap.{is_at}
 use Rattle.std.specs.Cmp.{eq_by_cmp_equiv}
@@ -8,7 +8,7 @@ use Rattle.std.specs.FinMap as finite
 use Rattle.std.specs.FinMap.{IsAntisymmetric, find, nat_cmp-IsAntisymmetric, slice_cmp-IsAntisymmetric}
 use Rattle.std.specs.Map.{lookup}
 use Rattle.std.specs.Option.{option_map}
-use Rattle.std.specs.Ordering.{eq_by_cmp, nat_cmp, ordering_then}
+use Rattle.std.specs.Ordering.{eq_by_cmp, is_eq, nat_cmp, ordering_then}
 use Rattle.std.specs.declared.cmp.Ordering.{Ordering}
 use Rattle.std.specs.declared.cmp.Ordering.TheVariants.{Less, Equal, Greater}
 use Rattle.gixobj_ids.specs.Hash.Order.{id_cmp}
@@ -59,3 +59,18 @@ pub put_in : (before after : Objects) (id : ObjectId) (it : StoredObject) → ((
 put_in before after id it changed =
     finite.same_map id_cmp_total id_ties_itself after (finite.insert before id it)
     (λ q. changed q ∙ ap (λ (b : Bool). cond b (Some it) (named before q)) ((eq_by_cmp_equiv id_cmp_total).symm id q) ∙ sym (finite.get-insert id_cmp_total before id it q))
+
+tied : (o : Ordering) → is_eq o ≡ true → o ≡ Equal
+tied Less same = cc same
+tied Equal same = refl
+tied Greater same = cc same
+
+pub there : (objects : Objects) (id : ObjectId) (it : StoredObject) → named (finite.insert objects id it) id ≡ Some it
+there objects id it = finite.get-insert id_cmp_total objects id it id ∙ ap (λ (b : Bool). cond b (Some it) (named objects id)) ((eq_by_cmp_equiv id_cmp_total).refl id)
+
+apart : (id other : ObjectId) → other ≢ id → (b : Bool) → eq_by_cmp id_cmp other id ≡ b → b ≡ false
+apart id other differ true same = absurd (differ (id_ties_itself other id (tied (id_cmp other id) same)))
+apart id other differ false same = refl
+
+pub elsewhere : (objects : Objects) (id other : ObjectId) (it : StoredObject) → other ≢ id → named (finite.insert objects id it) other ≡ named objects other
+elsewhere objects id other it differ = finite.get-insert id_cmp_total objects id it other ∙ ap (λ (b : Bool). cond b (Some it) (named objects other)) (apart id other differ (eq_by_cmp id_cmp other id) refl)

@@ -1,13 +1,16 @@
-//! Laws of both readers of trees. Each function does nothing: its contract is the law.
-ghost use Rattle.std.specs.Prelude.{◌≡◌, ◌++◌, ◌∷◌, [], ℕ, Err, List, None, Ok, Option, Result, Some};
+//! Laws of both readers of trees, and of what stores mean. Each function does nothing: its contract is the law.
+ghost use Rattle.std.specs.Prelude.{◌≡◌, ◌≢◌, ◌++◌, ◌∷◌, [], ℕ, Err, List, None, Ok, Option, Result, Some};
+ghost use Rattle.std.specs.FinMap as finite;
 ghost use Rattle.gixobj_fields.specs.Runs.{Ending, broken, complete};
 ghost use Rattle.gixobj_ids.specs.declared.decode.Error.{Error};
 ghost use Rattle.gixobj_ids.specs.declared.hash.kind.Kind.{Kind};
+ghost use Rattle.gixobj_ids.specs.declared.hash.object_id.ObjectId.{ObjectId};
 ghost use Rattle.gixobj_trees.specs.Entries.{EntryView};
 ghost use Rattle.gixobj_tree_readers.specs.TreeReading.{IsTreeText, TellsEntries};
 ghost use Rattle.gixobj_tree_readers.specs.TreeViews.{entry_view};
 ghost use Rattle.gixobj_tree_readers.specs.declared.tree.entry_ref.EntryRef.{EntryRef};
 ghost use Rattle.gixobj_data.specs.EntryGiving.{GivesEntry, HasPassed, IsAtEntry, IsTail, bytes_left};
+ghost use Rattle.gixobj_data.specs.Stores.{Objects, StoredObject, named};
 ghost use Rattle.gixobj_data.specs.TreeReaders.{IsLongestFront};
 ghost use Rattle.gixobj_data.specs.declared.tree.TreeRefIter.{TreeRefIter};
 
@@ -41,4 +44,13 @@ pub fn bytes_left_end_the_text()
     ensures starts { (kind : Kind) (text : List ℕ) (reader : TreeRefIter) → IsAtEntry kind text reader → IsTail text (bytes_left reader) }
     ensures goes_on { (text : List ℕ) (at after : TreeRefIter) (item : Option (Result EntryRef Error)) →
         IsTail text (bytes_left at) → GivesEntry at item after → IsTail text (bytes_left after) }
+{}
+
+/// What ids name in a store into which an object was put: its id that object, each other id what it named before;
+/// in an empty one no id names any. So of objects that are put in out of a list, the last first, each id names the first
+/// one of the list that stands there with it.
+pub fn an_object_is_put_in()
+    ensures nothing { (id : ObjectId) → named finite.empty id ≡ None }
+    ensures there { (objects : Objects) (id : ObjectId) (it : StoredObject) → named (finite.insert objects id it) id ≡ Some it }
+    ensures elsewhere { (objects : Objects) (id other : ObjectId) (it : StoredObject) → other ≢ id → named (finite.insert objects id it) other ≡ named objects other }
 {}
