@@ -4,7 +4,8 @@ ghost use Rattle.gixobj_ids.specs.Encode.{loose_header_text};
 ghost use Rattle.gixobj_ids.specs.Hash.{id_of};
 ghost use Rattle.gixobj_ids.specs.Hash.Hasher.{Holds};
 
-use crate::hash::{Hasher, ObjectId};
+use crate::hash::ObjectId;
+pub use crate::hash::hasher::Hasher;
 use crate::{Kind, hash};
 use itoa::Buffer;
 
@@ -18,8 +19,9 @@ pub fn compute_hash(hash: hash::Kind, kind: Kind, content: &[u8]) -> ObjectId
     hasher.finalize()
 }
 
-/// The digest of the loose header of an object of this kind and size, to go on with its content.
-fn object_hasher(hash: hash::Kind, kind: Kind, size: u64) -> Hasher
+/// The digest of the loose header of an object of this kind and size, to go on with its content. It
+/// takes no memory.
+pub fn object_hasher(hash: hash::Kind, kind: Kind, size: u64) -> Hasher
     ensures { Holds hash result (loose_header_text kind size) }
 {
     let mut digits = Buffer::new();

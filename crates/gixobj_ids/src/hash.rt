@@ -1,12 +1,11 @@
 //! Object ids: the kinds of digest, ids that are owned or borrowed, and the test that two agree.
 
 mod borrowed;
-mod hasher;
+pub(crate) mod hasher;
 mod kind;
 mod object_id;
 pub mod verify;
 
 pub use borrowed::oid;
-pub(crate) use hasher::Hasher;
 pub use kind::Kind;
 pub use object_id::ObjectId;

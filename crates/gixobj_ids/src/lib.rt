@@ -5,7 +5,7 @@
 #![tactic(auto)]
 
 pub mod decode;
-mod digest;
+pub mod digest;
 pub mod encode;
 pub mod hash;
 mod header;
