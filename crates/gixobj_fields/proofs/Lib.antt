@@ -7,3 +7,4 @@ pub mod Readers
 pub mod Refusals
 pub mod Runs
 pub mod Steps
+mod StreamReads

@@ -2,7 +2,7 @@
 use Rattle.std.proofs.Common.{◌≡◌, ℕ, List, [], ◌∷◌, ◌++◌, refl, sym, ap, subst, ◌∙◌}
 use Rattle.std.proofs.lemmas.List.Elements.{All-head, All-tail}
 use Rattle.std.specs.List.{AllZip, concat}
-use Rattle.gixobj_fields.specs.Runs.{Ending, FindsFirst, HasNone, LacksAll, Passes, Tells, complete, tells_end, tells_error, tells_piece}
+use Rattle.gixobj_fields.specs.Runs.{Ending, HasNone, Passes, Tells, complete, tells_end, tells_error, tells_piece}
 
 -- ---- a piece of a sort
 

@@ -3,6 +3,7 @@ pub mod HeaderReading
 pub mod HeaderText
 pub mod Readers
 pub mod Runs
+pub mod StreamHash
 pub mod Streams
 pub mod Writing
 pub use Rattle.gixobj_ids.specs.Decode

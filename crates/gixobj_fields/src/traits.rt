@@ -94,3 +94,26 @@ pub trait WriteTo {
         Some(loose_header(alloc, self.kind(), self.size()?))
     }
 }
+
+/// A reference writes what it refers to.
+impl<T: WriteTo> WriteTo for &T {
+    ghost can_write = { λ it. T.can_write it.now };
+
+    ghost object_kind = { λ it. T.object_kind it.now };
+
+    ghost text = { λ it. T.text it.now };
+
+    ghost refuses = { λ it. T.refuses it.now };
+
+    fn write_into<S: Sink>(&self, alloc: Global, sink: &mut S) -> Result<(), encode::Error> {
+        <T as WriteTo>::write_into(self, alloc, sink)
+    }
+
+    fn kind(&self) -> Kind {
+        <T as WriteTo>::kind(self)
+    }
+
+    fn size(&self) -> Option<u64> {
+        <T as WriteTo>::size(self)
+    }
+}

@@ -1,0 +1,136 @@
+//! The ids of objects whose content comes from a stream (gitformat-loose, "Loose object format").
+ghost use Rattle.std.specs.Prelude.{◌≡◌, ◌≤◌, ◌<◌, ◌↔◌, [], ℕ, List, IfErr, IfOk, IsOk, OnOk, ⊤, drop, length, take};
+ghost use Rattle.std.specs.Io.{ReadsAtMost};
+ghost use Rattle.std.specs.Io.KnownBytes.{Consumes};
+ghost use Rattle.gixobj_ids.specs.Hash.{id_of};
+ghost use Rattle.gixobj_fields.specs.StreamHash.{AddsBytes, ReadsExactly, ReadsObject, RefusesStream};
+ghost use Rattle.gixobj_fields.specs.declared.stream_hash.Error.TheVariants.{UnexpectedEof};
+
+use crate::streams::{FromRead, Source};
+use gixobj_ids::digest::{Hasher, object_hasher};
+use gixobj_ids::hash::ObjectId;
+use gixobj_ids::{Kind, hash};
+use std::io;
+use std::io::Read;
+
+/// How many bytes are read at once.
+const BUFFER_LEN: usize = 8192;
+
+/// Why a stream gives no id.
+///
+/// A front of the content has been read, but not all of it.
+#[derive(Debug, Drop, thiserror::Error)]
+pub enum Error {
+    /// The stream failed.
+    #[error("the stream failed: {0}")]
+    Io(io::Error),
+    /// The stream ended before the content did.
+    #[error("the stream ended before the content did")]
+    UnexpectedEof,
+}
+
+impl From<io::Error> for Error {
+    ghost use Rattle.gixobj_fields.specs.declared.stream_hash.Error.TheVariants.{Io};
+
+    ghost from_gives = { λ cause error. error ≡ Io cause };
+
+    fn from(error: io::Error) -> Error {
+        Error::Io(error)
+    }
+}
+
+/// The id of an object of this kind whose content is the next `len` bytes of a reader: the digest of
+/// its loose header and its content.
+///
+/// Exactly these bytes are read, in pieces of at most 8192, which lie on the stack: it takes no memory.
+/// `UnexpectedEof` where the reader ends before them, and `Io` where it fails. A read that was
+/// interrupted is tried again.
+pub fn compute_stream_hash<R: Read>(
+    hash: hash::Kind,
+    kind: Kind,
+    stream: &mut R,
+    len: u64,
+) -> Result<ObjectId, Error>
+    ensures found { IfOk result (ReadsObject hash kind (R.remaining stream.old) (R.remaining stream.new) len) }
+    ensures refusal { IfErr result (RefusesStream ⊤ (R.remaining stream.old) (R.remaining stream.new) len) }
+{
+    compute_source_hash(hash, kind, &mut FromRead(stream), len)
+}
+
+/// As [`compute_stream_hash`], of the next `len` bytes of a slice, which goes on behind them.
+///
+/// `UnexpectedEof` exactly where the slice has fewer, and then it is at its end. It takes no memory.
+#[tactic(auto, using(crate::proofs::StreamReads::slice_accepts, crate::proofs::StreamReads::slice_value, crate::proofs::StreamReads::slice_rest, crate::proofs::StreamReads::slice_refusal))]
+pub fn compute_slice_hash(
+    hash: hash::Kind,
+    kind: Kind,
+    input: &mut &[u8],
+    len: u64,
+) -> Result<ObjectId, Error>
+    ensures accepts { IsOk result ↔ (len ≤ length input.old.now) }
+    ensures value { IfOk result (λ id. id ≡ id_of hash kind (take len input.old.now)) }
+    ensures rest { OnOk result (input.new.now ≡ drop len input.old.now) }
+    ensures refusal { IfErr result (λ error. (error ≡ UnexpectedEof) × (input.new.now ≡ [])) }
+{
+    compute_source_hash(hash, kind, input, len)
+}
+
+/// As [`compute_stream_hash`], of the next `len` bytes of a source.
+///
+/// `UnexpectedEof` where the source ends before them, and `Io` only where it may fail. It takes no
+/// memory.
+#[tactic(auto, using(crate::proofs::StreamReads::id_of_content))]
+pub fn compute_source_hash<S: Source>(
+    hash: hash::Kind,
+    kind: Kind,
+    source: &mut S,
+    len: u64,
+) -> Result<ObjectId, Error>
+    ensures found { IfOk result (ReadsObject hash kind (S.rest source.old) (S.rest source.new) len) }
+    ensures refusal { IfErr result (RefusesStream (S.may_fail source.old) (S.rest source.old) (S.rest source.new) len) }
+    ensures lasting { S.may_fail source.new → S.may_fail source.old }
+    ensures same_loan { S.loan source.new ≡ S.loan source.old }
+{
+    let mut hasher = object_hasher(hash, kind, len);
+    update_from(&mut hasher, source, len)?;
+    Ok(hasher.finalize())
+}
+
+/// Adds the next `len` bytes of a source at the end of the message.
+#[tactic(auto, using(crate::proofs::StreamReads::nothing_digested, crate::proofs::StreamReads::piece_digested, crate::proofs::StreamReads::all_digested, crate::proofs::StreamReads::refused_behind))]
+fn update_from<S: Source>(hasher: &mut Hasher, source: &mut S, len: u64) -> Result<(), Error>
+    ensures read { OnOk result ((content : List ℕ) × ReadsExactly (S.rest source.old) (S.rest source.new) len content × AddsBytes hasher.old hasher.new content) }
+    ensures refusal { IfErr result (RefusesStream (S.may_fail source.old) (S.rest source.old) (S.rest source.new) len) }
+    ensures lasting { S.may_fail source.new → S.may_fail source.old }
+    ensures same_loan { S.loan source.new ≡ S.loan source.old }
+{
+    let mut buffer = [0; BUFFER_LEN];
+    let mut missing = len;
+    while missing > 0 {
+        let count = read_piece(source, &mut buffer, missing)?;
+        hasher.update(&buffer[..count]);
+        missing -= count as u64;
+    }
+    Ok(())
+}
+
+/// Reads some of the next `most` bytes of a source into the front of the buffer, and answers how many:
+/// one at least.
+#[tactic(auto, using(crate::proofs::StreamReads::failed_at_once, crate::proofs::StreamReads::ended_at_once, crate::proofs::StreamReads::front_of_buffer))]
+fn read_piece<S: Source>(source: &mut S, buffer: &mut [u8], most: u64) -> Result<usize, Error>
+    requires some { 0 < most }
+    requires room { 0 < length buffer.old }
+    ensures count { IfOk result (λ count. (0 < count) × (count ≤ most)) }
+    ensures bound { ReadsAtMost result buffer.new }
+    ensures taken { IfOk result (λ count. Consumes (S.rest source.old) (S.rest source.new) (take count buffer.new)) }
+    ensures refusal { IfErr result (RefusesStream (S.may_fail source.old) (S.rest source.old) (S.rest source.new) most) }
+    ensures lasting { S.may_fail source.new → S.may_fail source.old }
+    ensures same_loan { S.loan source.new ≡ S.loan source.old }
+{
+    let room = most.min(buffer.len() as u64) as usize;
+    let count = source.read_some(&mut buffer[..room])?;
+    if count == 0 {
+        return Err(Error::UnexpectedEof);
+    }
+    Ok(count)
+}
