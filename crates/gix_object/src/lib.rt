@@ -1,8 +1,8 @@
 //! Git's objects as plain bytes, and an editor of trees.
 //!
 //! It hands on what `gixobj_base`, `gixobj_text` and `gixobj_codec` have for users: ids, kinds, loose headers, actors
-//! and times, trees, blobs, commits, tags and objects of any kind, and how they are read and written. Its own is
-//! [`tree::editor`].
+//! and times, trees, blobs, commits, tags and objects of any kind, how they are read and written, and how they are looked up
+//! in stores. Its own is [`tree::editor`].
 #![tactic(auto)]
 
 pub mod laws;
@@ -13,7 +13,9 @@ pub use gixobj_base::{
     encode, hash, kind, streams,
 };
 pub use gixobj_codec::{
-    Commit, CommitRef, CommitRefIter, Data, LooseDecodeError, Object, ObjectRef, Tag, TagRef,
-    TagRefIter, TreeRef, TreeRefIter, commit, data, tag,
+    Commit, CommitRef, CommitRefIter, Data, Exists, Find, FindHeader, FindObjectOrHeader,
+    LooseDecodeError, Object, ObjectRef, Store, Tag, TagRef, TagRefIter, TreeRef, TreeRefIter,
+    commit, data, tag,
 };
+pub use gixobj_lookups::{FindExt, HeaderExt, Write, find, write};
 pub use gixobj_text::signature;

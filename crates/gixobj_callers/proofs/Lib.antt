@@ -1,2 +1,4 @@
+mod Commits
+mod Listed
 mod Refusals
 mod Told

@@ -1,2 +1,4 @@
+pub mod Ancestors
 pub mod Copies
+pub mod Shelves
 pub mod Told

@@ -1,12 +1,14 @@
 //! Callers of the public calls, each proved on their contracts alone: what a store of objects, a walker
-//! of commits, a planner of checkouts, an auditor and a publisher of releases, a verifier of tags, and an
-//! importer of history can rely on.
+//! of commits, a planner of checkouts, an auditor and a publisher of releases, a verifier of tags, a reader and an
+//! importer of history, and who writes a store of objects, can rely on.
 #![tactic(auto)]
 
 pub mod auditor;
+pub mod history;
 pub mod importer;
 pub mod planner;
 pub mod publisher;
+pub mod shelf;
 pub mod store;
 pub mod verifier;
 pub mod walker;

@@ -1,4 +1,4 @@
-use Rattle.std.proofs.Common.{◌++◌, ◌∷◌, Err, Ok, Result, Some, [], subst}
+use Rattle.std.proofs.Common.{◌++◌, ◌∷◌, Result, Some, [], subst}
 use Rattle.gixobj_base.specs.Runs.{broken, complete}
 use Rattle.gixobj_base.specs.ids.decode.Error.{Error}
 use Rattle.gixobj_callers.proofs.planner.is_tree.Goals as goal

@@ -1,4 +1,4 @@
-use Rattle.std.proofs.Common.{◌≡◌, ℕ, List, ◌++◌, ap, subst, sym, ◌∙◌}
+use Rattle.std.proofs.Common.{◌≡◌, ℕ, List, ◌++◌, ap, subst, ◌∙◌}
 use Rattle.gixobj_base.specs.Streams.{list_view}
 use Rattle.gixobj_base.specs.TreeText.{tree_text}
 use Rattle.gixobj_callers.proofs.Refusals.{tree_unread, unwritten}

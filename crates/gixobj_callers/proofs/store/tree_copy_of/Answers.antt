@@ -1,8 +1,6 @@
-use Rattle.std.proofs.Common.{ℕ, List, ◌++◌, ap, subst, sym, ◌∙◌}
-use Rattle.gixobj_base.specs.Entries.{EntryView}
+use Rattle.std.proofs.Common.{ℕ, List, ◌++◌, ap, sym, ◌∙◌}
 use Rattle.gixobj_base.specs.Streams.{list_view}
-use Rattle.gixobj_base.specs.TreeText.{RefusesTree, tree_text}
-use Rattle.gixobj_base.specs.Writing.{RefusesNothing}
+use Rattle.gixobj_base.specs.TreeText.{tree_text}
 use Rattle.gixobj_codec.specs.TreeViews.{tree_entries}
 use Rattle.gixobj_callers.proofs.Refusals.{tree_unread, unwritten}
 use Rattle.gixobj_callers.proofs.store.tree_copy_of.Goals as goal

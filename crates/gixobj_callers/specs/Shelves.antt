@@ -1,0 +1,15 @@
+-- What a shelf means as a store.
+use Rattle.std.specs.Prelude.{List, map}
+use Rattle.std.specs.FinMap as finite
+use Rattle.gixobj_base.specs.ids.hash.object_id.ObjectId.{ObjectId}
+use Rattle.gixobj_codec.specs.Stores.{Objects, stored}
+use Rattle.gixobj_codec.specs.unread.«data».Data.{Data}
+use Rattle.gixobj_callers.specs.declared.shelf.Shelf.{Shelf}
+
+-- what these objects mean: of an id that stands twice, the first one
+abbrev pub listed_objects : List (ObjectId × Data) → Objects
+listed_objects objects = finite.from_entries (map (λ pair. (pair.0, stored pair.1)) objects)
+
+-- the objects that lie on the shelf, by their ids
+abbrev pub shelf_objects : Shelf → Objects
+shelf_objects shelf = listed_objects shelf.objects.now

@@ -1,0 +1,100 @@
+//! A reader of history, who walks from a commit to its ancestors and looks up files in their trees.
+ghost use Rattle.std.specs.Prelude.{IfOk, Some, map};
+ghost use Rattle.bstr.specs.Owned.{bstring_bytes};
+ghost use Rattle.gixobj_codec.specs.Lookups.{IsAtPath};
+ghost use Rattle.gixobj_codec.specs.Stores.{StoredObject};
+ghost use Rattle.gixobj_callers.specs.Ancestors.{HasTree, IsAncestor, IsFirstParent};
+
+use bstr::BString;
+use gixobj_base::hash::ObjectId;
+use gixobj_base::tree::Entry;
+use gixobj_codec::{Find, find};
+use gixobj_lookups::FindExt;
+use gixobj_lookups::find::{existing_iter, existing_object};
+use std::alloc::Global;
+
+/// Why a walk stops.
+#[derive(Debug, Drop, thiserror::Error)]
+pub enum Error {
+    /// A commit isn't found.
+    #[error("{0}")]
+    Commit(existing_object::Error),
+    /// The tree of a commit isn't found.
+    #[error("{0}")]
+    Tree(existing_iter::Error),
+    /// A lookup on the path failed.
+    #[error("{0}")]
+    Path(find::Error),
+    /// A commit has no parent.
+    #[error("{0} has no parent")]
+    NoParent(ObjectId),
+}
+
+impl From<existing_object::Error> for Error {
+    fn from(error: existing_object::Error) -> Error {
+        Error::Commit(error)
+    }
+}
+
+impl From<existing_iter::Error> for Error {
+    fn from(error: existing_iter::Error) -> Error {
+        Error::Tree(error)
+    }
+}
+
+impl From<find::Error> for Error {
+    fn from(error: find::Error) -> Error {
+        Error::Path(error)
+    }
+}
+
+/// The id of the commit so many generations before the first one, from first parent to first parent.
+pub fn ancestor<S: Find>(
+    alloc: Global,
+    store: &S,
+    start: ObjectId,
+    generations: u32,
+) -> Result<ObjectId, Error>
+    ensures { IfOk result (IsAncestor (S.objects store.now) generations start) }
+{
+    let mut buffer = Vec::new(alloc);
+    let mut id = start;
+    for _ in 0..generations {
+        id = first_parent(alloc, store, &mut buffer, id)?;
+    }
+    Ok(id)
+}
+
+/// The id of the first parent of a commit.
+fn first_parent<S: Find>(
+    alloc: Global,
+    store: &S,
+    buffer: &mut Vec<u8>,
+    id: ObjectId,
+) -> Result<ObjectId, Error>
+    ensures { IfOk result (IsFirstParent (S.objects store.now) id) }
+{
+    let commit = store.find_commit(alloc, id.as_oid(), buffer)?;
+    match commit.parents().next() {
+        Some(parent) => Ok(parent),
+        None => Err(Error::NoParent(id)),
+    }
+}
+
+/// The entry at a path in the tree of a commit, or none where there is none.
+pub fn entry_of<S: Find>(
+    alloc: Global,
+    store: &S,
+    commit: ObjectId,
+    path: &[BString],
+) -> Result<Option<Entry>, Error>
+    ensures { IfOk result (λ found. (tree : StoredObject) × HasTree (S.objects store.now) commit tree × IsAtPath (S.objects store.now) (Some tree) (map bstring_bytes path.now) found) }
+{
+    let mut buffer = Vec::new(alloc);
+    let tree = store
+        .find_commit(alloc, commit.as_oid(), &mut buffer)?
+        .tree();
+    let mut text = Vec::new(alloc);
+    let reader = store.find_tree_iter(tree.as_oid(), &mut text)?;
+    Ok(reader.lookup_entry(alloc, store, &mut buffer, path)?)
+}

@@ -1,0 +1,72 @@
+//! A store of one's own: objects that lie in memory already, in no order.
+ghost use Rattle.gixobj_callers.specs.Shelves.{shelf_objects};
+ghost use Rattle.gixobj_codec.specs.Stores.{IsFound};
+
+use gixobj_base::Header;
+use gixobj_base::hash::{ObjectId, oid};
+use gixobj_codec::laws::an_object_is_put_in;
+use gixobj_codec::{Data, Exists, Find, FindHeader, Store, find};
+
+/// Objects with their ids. Where an id stands twice, the first one counts.
+#[derive(Clone, Copy, Debug)]
+pub struct Shelf<'a> {
+    /// Each id, and the object that it names.
+    pub objects: &'a [(ObjectId, Data<'a>)],
+}
+
+impl<'a> Shelf<'a> {
+    /// The first object of this id.
+    fn first(&self, id: ObjectId) -> Option<Data<'a>>
+        ensures { IsFound (shelf_objects self.now) id result }
+    {
+        an_object_is_put_in();
+        for (at, object) in self.objects {
+            if *at == id {
+                return Some(*object);
+            }
+        }
+        None
+    }
+}
+
+/// No lookup fails.
+impl Store for Shelf<'_> {
+    ghost use Rattle.std.specs.Prelude.{false};
+
+    ghost objects = { shelf_objects };
+
+    ghost may_fail = { λ shelf id. false };
+}
+
+impl Find for Shelf<'_> {
+    fn try_find<'b>(
+        &self,
+        id: oid<'_>,
+        buffer: &'b mut Vec<u8>,
+    ) -> Result<Option<Data<'b>>, find::Error> {
+        let Some(object) = self.first(id.to_owned()) else {
+            return Ok(None);
+        };
+        buffer.clear();
+        buffer.extend_from_slice(object.bytes)?;
+        Ok(Some(Data::new(buffer.as_slice(), object.kind, object.object_hash)))
+    }
+}
+
+impl FindHeader for Shelf<'_> {
+    fn try_header(&self, id: oid<'_>) -> Result<Option<Header>, find::Error> {
+        let Some(object) = self.first(id.to_owned()) else {
+            return Ok(None);
+        };
+        Ok(Some(Header {
+            kind: object.kind,
+            size: object.bytes.len() as u64,
+        }))
+    }
+}
+
+impl Exists for Shelf<'_> {
+    fn exists(&self, id: oid<'_>) -> bool {
+        self.first(id.to_owned()).is_some()
+    }
+}
