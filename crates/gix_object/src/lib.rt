@@ -9,8 +9,8 @@ pub mod laws;
 pub mod tree;
 
 pub use gixobj_base::{
-    Blob, BlobRef, Header, Kind, OutOfMemory, Tree, WriteTo, actor, compute_hash, date, decode,
-    encode, hash, kind, streams,
+    Blob, BlobRef, Header, Kind, OutOfMemory, Tree, WriteTo, actor, compute_hash,
+    compute_stream_hash, date, decode, encode, hash, kind, stream_hash, streams,
 };
 pub use gixobj_codec::{
     Commit, CommitRef, CommitRefIter, Data, Exists, Find, FindHeader, FindObjectOrHeader,

@@ -4,8 +4,8 @@ mod root {
     pub use gix_object::{
         Blob, BlobRef, Commit, CommitRef, CommitRefIter, Data, Header, Kind, LooseDecodeError,
         Object, ObjectRef, OutOfMemory, Tag, TagRef, TagRefIter, Tree, TreeRef, TreeRefIter,
-        WriteTo, actor, commit, compute_hash, data, date, decode, encode, hash, kind, laws,
-        signature, streams, tag, tree,
+        WriteTo, actor, commit, compute_hash, compute_stream_hash, data, date, decode, encode,
+        hash, kind, laws, signature, stream_hash, streams, tag, tree,
     };
 }
 
@@ -56,6 +56,12 @@ mod of_laws {
 
 mod of_signature {
     pub use gix_object::signature::{Format, SignatureRef};
+}
+
+mod of_stream_hash {
+    pub use gix_object::stream_hash::{
+        Error, compute_slice_hash, compute_source_hash, compute_stream_hash,
+    };
 }
 
 mod of_tag {

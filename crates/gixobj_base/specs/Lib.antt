@@ -6,6 +6,7 @@ pub use Rattle.gixobj_fields.specs.FieldWriting
 pub use Rattle.gixobj_fields.specs.HeaderReading
 pub use Rattle.gixobj_fields.specs.HeaderText
 pub use Rattle.gixobj_fields.specs.Runs
+pub use Rattle.gixobj_fields.specs.StreamHash
 pub use Rattle.gixobj_fields.specs.Streams
 pub use Rattle.gixobj_fields.specs.Writing
 pub use Rattle.gixobj_fields.specs.declared as fields

@@ -11,6 +11,7 @@ pub mod parse;
 pub mod tree;
 
 pub use gixobj_actors::{actor, date};
-pub use gixobj_fields::{WriteTo, streams, traits};
+pub use gixobj_fields::stream_hash::compute_stream_hash;
+pub use gixobj_fields::{WriteTo, stream_hash, streams, traits};
 pub use gixobj_ids::{Header, Kind, OutOfMemory, compute_hash, decode, hash, kind};
 pub use gixobj_trees::{Blob, BlobRef, Tree};

@@ -25,6 +25,8 @@ mod parse;
 #[cfg(test)]
 mod public_paths;
 #[cfg(test)]
+mod stream_hash;
+#[cfg(test)]
 mod streams;
 #[cfg(test)]
 mod traits;

@@ -2,8 +2,9 @@
 
 mod root {
     pub use gixobj_base::{
-        Blob, BlobRef, Header, Kind, OutOfMemory, Tree, WriteTo, actor, compute_hash, date, decode,
-        encode, hash, kind, laws, parse, streams, traits, tree,
+        Blob, BlobRef, Header, Kind, OutOfMemory, Tree, WriteTo, actor, compute_hash,
+        compute_stream_hash, date, decode, encode, hash, kind, laws, parse, stream_hash, streams,
+        traits, tree,
     };
 }
 
@@ -43,6 +44,12 @@ mod of_parse {
     pub use gixobj_base::parse::{
         after_name, any_header_field, has_byte, header_field, hex_hash, signature, split_at_byte,
         split_at_last_byte,
+    };
+}
+
+mod of_stream_hash {
+    pub use gixobj_base::stream_hash::{
+        Error, compute_slice_hash, compute_source_hash, compute_stream_hash,
     };
 }
 

@@ -3,7 +3,9 @@ ghost use Rattle.std.specs.Prelude.{◌≡◌, ◌++◌, ℕ, List, IfOk};
 ghost use Rattle.gixobj_base.specs.Encode.{loose_header_text};
 ghost use Rattle.gixobj_base.specs.Writing.{RefusesNothing};
 
+use bstr::BString;
 use gixobj_base::hash::{self, ObjectId};
+use gixobj_base::tree::{Entry, EntryKind};
 use gixobj_base::{Blob, BlobRef, Kind, Tree, WriteTo, compute_hash, encode};
 use std::alloc::Global;
 use std::test::Fail;
@@ -74,5 +76,26 @@ fn objects_without_content(rt: HostRuntime) -> Result<(), Fail> {
     let loose_tree = loose(alloc, &tree)?.ok_or("a size")?;
     assert_eq!(rt; loose_blob.as_slice(), b"blob 0\0".as_slice());
     assert_eq!(rt; loose_tree.as_slice(), b"tree 0\0".as_slice());
+    Ok(())
+}
+
+/// A reference writes what it refers to: the tree of `git mktree` with one empty file.
+#[test]
+fn references(rt: HostRuntime) -> Result<(), Fail> {
+    let alloc = rt.alloc();
+    let mut tree = Tree::empty(alloc);
+    tree.entries.push(Entry {
+        mode: EntryKind::Blob.into(),
+        filename: BString::from_slice(alloc, b"empty")?,
+        oid: ObjectId::empty_blob(hash::Kind::Sha1),
+    })?;
+    let id = id_of(alloc, &&tree)?.to_string(alloc)?;
+    assert_eq!(rt; id.as_str(), "417c01c8795a35b8e835113a85a5c0c1c77f67fb");
+    let header = loose(alloc, &&tree)?.ok_or("a size")?;
+    assert!(rt; header.starts_with(b"tree 33\0100644 empty\0"));
+    assert!(rt; <&Tree as WriteTo>::size(&&tree) == Some(33));
+    let hello = BlobRef::from_bytes(b"hello");
+    assert_eq!(rt; text_of(alloc, &&hello)?.as_slice(), b"hello".as_slice());
+    assert!(rt; <&BlobRef as WriteTo>::kind(&&hello) == Kind::Blob);
     Ok(())
 }
