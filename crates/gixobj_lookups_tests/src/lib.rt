@@ -1,0 +1,21 @@
+//! Tests of stores, and of what is looked up in them and written into them.
+#![tactic(auto)]
+
+#[cfg(test)]
+mod existing;
+#[cfg(test)]
+mod failing;
+#[cfg(test)]
+mod never;
+#[cfg(test)]
+mod paths;
+#[cfg(test)]
+mod recording;
+#[cfg(test)]
+mod samples;
+#[cfg(test)]
+mod steps;
+#[cfg(test)]
+mod stores;
+#[cfg(test)]
+mod written;

@@ -1,0 +1,97 @@
+//! A store that keeps what it is handed, for tests.
+
+use bstr::BString;
+use gix_object::hash::{Kind as HashKind, ObjectId};
+use gix_object::{Kind, Write, stream_hash, write};
+use std::alloc::Global;
+use std::cell::RefCell;
+use std::io::Read;
+
+/// What was handed to a store: the kind, the size that was said, and the bytes of the stream.
+#[derive(Debug, Drop, PartialEq, Eq)]
+pub(crate) struct Stream {
+    pub(crate) kind: Kind,
+    pub(crate) size: u64,
+    pub(crate) bytes: Vec<u8>,
+}
+
+/// A store that keeps each stream, reads it to its end, and answers the null id.
+#[derive(Drop)]
+pub(crate) struct Recorder {
+    streams: RefCell<Vec<Stream>>,
+}
+
+impl Recorder {
+    /// A store that was handed nothing yet.
+    pub(crate) fn new(alloc: Global) -> Recorder {
+        Recorder {
+            streams: RefCell::new(Vec::new(alloc)),
+        }
+    }
+
+    /// Whether it was handed exactly these streams.
+    pub(crate) fn has(&self, wanted: &[Stream]) -> bool {
+        match self.streams.try_borrow() {
+            Ok(streams) => streams.as_slice() == wanted,
+            Err(_) => false,
+        }
+    }
+
+    /// Keeps a stream.
+    fn keep(&self, stream: Stream) -> Result<(), write::Error> {
+        match self.streams.try_borrow_mut() {
+            Ok(mut streams) => match streams.push(stream) {
+                Ok(()) => Ok(()),
+                Err(_) => Err(write::Error::OutOfMemory),
+            },
+            Err(_) => Err(write::Error::OutOfMemory),
+        }
+    }
+}
+
+impl Write for Recorder {
+    ghost use Rattle.std.specs.Prelude.{⊤};
+
+    ghost answers = { λ store kind size bytes result. ⊤ };
+
+    ghost answers_known = { λ store id kind size bytes result. ⊤ };
+
+    fn write_buf_with_known_id(
+        &self,
+        alloc: Global,
+        kind: Kind,
+        from: &[u8],
+        id: ObjectId,
+    ) -> Result<ObjectId, write::Error> {
+        self.write_buf(alloc, kind, from)?;
+        Ok(id)
+    }
+
+    fn write_stream<R: Read>(
+        &self,
+        alloc: Global,
+        kind: Kind,
+        size: u64,
+        from: &mut R,
+    ) -> Result<ObjectId, write::Error> {
+        let mut bytes = Vec::new(alloc);
+        match from.read_to_end(&mut bytes) {
+            Ok(_) => {}
+            Err(error) => return Err(write::Error::Read(stream_hash::Error::Io(error))),
+        }
+        self.keep(Stream { kind, size, bytes })?;
+        Ok(ObjectId::null(HashKind::Sha1))
+    }
+
+    fn write_stream_with_known_id<R: Read>(
+        &self,
+        alloc: Global,
+        kind: Kind,
+        size: u64,
+        from: &mut R,
+        id: ObjectId,
+    ) -> Result<ObjectId, write::Error> {
+        self.write_stream(alloc, kind, size, from)?;
+        Ok(id)
+    }
+}
