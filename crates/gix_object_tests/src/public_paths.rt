@@ -2,10 +2,11 @@
 
 mod root {
     pub use gix_object::{
-        Blob, BlobRef, Commit, CommitRef, CommitRefIter, Data, Header, Kind, LooseDecodeError,
-        Object, ObjectRef, OutOfMemory, Tag, TagRef, TagRefIter, Tree, TreeRef, TreeRefIter,
-        WriteTo, actor, commit, compute_hash, compute_stream_hash, data, date, decode, encode,
-        hash, kind, laws, signature, stream_hash, streams, tag, tree,
+        Blob, BlobRef, Commit, CommitRef, CommitRefIter, Data, Exists, Find, FindExt, FindHeader,
+        FindObjectOrHeader, Header, HeaderExt, Kind, LooseDecodeError, Object, ObjectRef,
+        OutOfMemory, Store, Tag, TagRef, TagRefIter, Tree, TreeRef, TreeRefIter, Write, WriteTo,
+        actor, commit, compute_hash, compute_stream_hash, data, date, decode, encode, find, hash,
+        kind, laws, signature, stream_hash, streams, tag, tree, write,
     };
 }
 
@@ -41,6 +42,22 @@ mod of_encode {
     pub use gix_object::encode::{Error, RefNameFault, loose_header};
 }
 
+mod of_find {
+    pub use gix_object::find::{Error, Never, existing, existing_iter, existing_object};
+}
+
+mod of_existing {
+    pub use gix_object::find::existing::Error;
+}
+
+mod of_existing_iter {
+    pub use gix_object::find::existing_iter::Error;
+}
+
+mod of_existing_object {
+    pub use gix_object::find::existing_object::Error;
+}
+
 mod of_hash {
     pub use gix_object::hash::verify::Error;
     pub use gix_object::hash::{Kind, ObjectId, oid, verify};
@@ -72,5 +89,11 @@ mod of_tag {
 
 mod of_tree {
     pub use gix_object::tree::editor::{Editor, Error, WriteError, Written};
-    pub use gix_object::tree::{Entry, EntryKind, EntryMode, EntryRef, editor, name_order};
+    pub use gix_object::tree::{
+        Entry, EntryKind, EntryMode, EntryRef, editor, name_order, next_entry,
+    };
+}
+
+mod of_write {
+    pub use gix_object::write::Error;
 }

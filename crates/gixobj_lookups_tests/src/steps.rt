@@ -20,7 +20,7 @@ enum Step {
 }
 
 /// A step by these names into an object of this kind.
-fn step(alloc: Global, kind: Kind, path: &[&str]) -> Result<Step, AllocError> {
+fn step_by(alloc: Global, kind: Kind, path: &[&str]) -> Result<Step, AllocError> {
     let names = names(alloc, path)?;
     let mut left = names.as_slice();
     let step = next_entry(&mut left, Data::new(TREE, kind, HashKind::Sha1));
@@ -46,7 +46,7 @@ fn steps_into_a_tree(rt: HostRuntime) -> Result<(), Fail> {
         (&["", "a"], Step::Break(None, 1)),
     ];
     for (path, wanted) in rows {
-        let came_to = step(rt.alloc(), Kind::Tree, path)?;
+        let came_to = step_by(rt.alloc(), Kind::Tree, path)?;
         assert!(rt; came_to == wanted, "{path:?}: {came_to:?}");
     }
     Ok(())
@@ -56,7 +56,7 @@ fn steps_into_a_tree(rt: HostRuntime) -> Result<(), Fail> {
 #[test]
 fn steps_into_others(rt: HostRuntime) -> Result<(), Fail> {
     for kind in [Kind::Blob, Kind::Commit, Kind::Tag] {
-        let came_to = step(rt.alloc(), kind, &["a", "b"])?;
+        let came_to = step_by(rt.alloc(), kind, &["a", "b"])?;
         assert!(rt; came_to == Step::Break(None, 2), "{kind:?}");
     }
     Ok(())
