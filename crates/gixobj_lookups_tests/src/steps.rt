@@ -2,7 +2,7 @@
 
 use crate::samples::{id_of_bytes, names};
 use gix_object::hash::Kind as HashKind;
-use gix_object::tree::next_entry;
+use gix_object::tree::{EntryRef, next_entry};
 use gix_object::{Data, Kind};
 use std::alloc::{AllocError, Global};
 use std::ops::ControlFlow;
@@ -19,17 +19,21 @@ enum Step {
     Continue(u8, usize),
 }
 
+/// The first byte of the id of an entry that was found.
+fn first_byte(found: Option<EntryRef<'_>>) -> Option<u8> {
+    match found {
+        Some(entry) => entry.oid.as_bytes().first().copied(),
+        None => None,
+    }
+}
+
 /// A step by these names into an object of this kind.
 fn step_by(alloc: Global, kind: Kind, path: &[&str]) -> Result<Step, AllocError> {
     let names = names(alloc, path)?;
     let mut left = names.as_slice();
     let step = next_entry(&mut left, Data::new(TREE, kind, HashKind::Sha1));
     Ok(match step {
-        ControlFlow::Break(None) => Step::Break(None, left.len()),
-        ControlFlow::Break(Some(entry)) => Step::Break(
-            entry.oid.as_bytes().first().copied(),
-            left.len(),
-        ),
+        ControlFlow::Break(found) => Step::Break(first_byte(found), left.len()),
         ControlFlow::Continue(id) => Step::Continue(id.as_bytes()[0], left.len()),
     })
 }
