@@ -117,7 +117,7 @@ const BAK: &[u8] = b"d8329fc1cc938780ffdd9f94e0d364e0ea74f579";
 fn files_and_a_tree(rt: HostRuntime) -> Result<(), Fail> {
     let alloc = rt.alloc();
     let mut editor = empty_editor(alloc);
-    let rows: [(EntryKind, &[u8], &[u8], &[u8], &[u8]); 3] = [
+    let rows: &[(EntryKind, &[u8], &[u8], &[u8], &[u8])] = &[
         (
             EntryKind::Blob,
             b"test.txt",
@@ -140,7 +140,7 @@ fn files_and_a_tree(rt: HostRuntime) -> Result<(), Fail> {
             b"3c4e9cd789d88d8d89c1073707c3585e41b0e614",
         ),
     ];
-    for (kind, name, named, names, root) in rows {
+    for &(kind, name, named, names, root) in rows {
         editor.upsert(&path(alloc, name)?, kind, id(named)?)?;
         let (written, handed) = one_tree(alloc, &mut editor)?;
         assert_eq!(rt; handed.as_slice(), names);
@@ -309,12 +309,12 @@ fn removed_entries(rt: HostRuntime) -> Result<(), Fail> {
         (EntryKind::Tree, b"b", BAK),
     ];
     let mut editor = editor_with(alloc, &rows)?;
-    let rows: [(&[u8], &[u8], &[u8]); 3] = [
+    let rows: &[(&[u8], &[u8], &[u8])] = &[
         (b"b", b"a ", b"a18166ad9dc2c46e84c28b674ab8be1e202f6f82"),
         (b"c", b"a ", b"a18166ad9dc2c46e84c28b674ab8be1e202f6f82"),
         (b"a", b"", b"4b825dc642cb6eb9a060e54bf8d69288fbee4904"),
     ];
-    for (name, names, root) in rows {
+    for &(name, names, root) in rows {
         editor.remove(&path(alloc, name)?)?;
         let (written, handed) = one_tree(alloc, &mut editor)?;
         assert_eq!(rt; handed.as_slice(), names);

@@ -34,7 +34,7 @@ fn offsets_of_times(rt: HostRuntime) {
 
 #[test]
 fn texts_that_say_a_time(rt: HostRuntime) -> Result<(), Fail> {
-    let rows: [(&str, i64, i32); 26] = [
+    let rows: &[(&str, i64, i32)] = &[
         ("0 +0000", 0, 0),
         ("-0 +0000", 0, 0),
         ("-0 -0000", 0, 0),
@@ -62,7 +62,7 @@ fn texts_that_say_a_time(rt: HostRuntime) -> Result<(), Fail> {
         ("-9223372036854775808 -9959", i64::MIN, -359_940),
         ("000000000000000000000000000001 +0000", 1, 0),
     ];
-    for (text, seconds, offset) in rows {
+    for &(text, seconds, offset) in rows {
         let read = parse_header(text.as_bytes());
         assert!(rt; read == Some(time_of(seconds, offset)?), "{text}");
     }
@@ -71,7 +71,7 @@ fn texts_that_say_a_time(rt: HostRuntime) -> Result<(), Fail> {
 
 #[test]
 fn texts_that_say_no_time(rt: HostRuntime) {
-    let rows: [&str; 40] = [
+    let rows: &[&str] = &[
         "",
         " ",
         "-",
@@ -113,14 +113,14 @@ fn texts_that_say_no_time(rt: HostRuntime) {
         "1 +9960",
         "1 +00:0",
     ];
-    for text in rows {
+    for &text in rows {
         assert!(rt; parse_header(text.as_bytes()).is_none(), "{text}");
     }
 }
 
 #[test]
 fn written_times(rt: HostRuntime) -> Result<(), Fail> {
-    let rows: [(i64, i32, &str); 7] = [
+    let rows: &[(i64, i32, &str)] = &[
         (0, 0, "0 +0000"),
         (1_112_911_993, -25_200, "1112911993 -0700"),
         (-1, 60, "-1 +0001"),
@@ -130,7 +130,7 @@ fn written_times(rt: HostRuntime) -> Result<(), Fail> {
         (i64::MIN, -359_940, "-9223372036854775808 -9959"),
     ];
     let mut buf = TimeBuf::new();
-    for (seconds, offset, text) in rows {
+    for &(seconds, offset, text) in rows {
         assert_eq!(rt; time_of(seconds, offset)?.to_str(&mut buf), text);
         assert_eq!(rt; buf.as_str(), text);
         assert!(rt;

@@ -25,7 +25,7 @@ fn answer_to(alloc: Global, input: &[u8]) -> Answer {
     }
 }
 
-const ROWS: [(&[u8], Answer); 18] = [
+const ROWS: &[(&[u8], Answer)] = &[
     (b"blob +5\0hello", Answer::Header(Kind::Blob, 5, 8)),
     (b"blob -0\0", Answer::Header(Kind::Blob, 0, 8)),
     (
@@ -69,7 +69,7 @@ const ROWS: [(&[u8], Answer); 18] = [
 
 #[test]
 fn headers(rt: HostRuntime) {
-    for (input, want) in ROWS {
+    for &(input, want) in ROWS {
         assert_eq!(rt; answer_to(rt.alloc(), input), want, "{input:?}");
     }
 }
@@ -95,7 +95,7 @@ fn refusals_hand_back_what_was_read(rt: HostRuntime) -> Result<(), Fail> {
 #[test]
 fn refusals_say_why(rt: HostRuntime) -> Result<(), Fail> {
     let alloc = rt.alloc();
-    let texts: [(&[u8], &str); 4] = [
+    let texts: &[(&[u8], &str)] = &[
         (b"blob", "no space after the kind of an object"),
         (b"blob 5", "no zero byte after the size of an object"),
         (
@@ -107,7 +107,7 @@ fn refusals_say_why(rt: HostRuntime) -> Result<(), Fail> {
             "the header of a loose object: unknown object kind \"blub\"",
         ),
     ];
-    for (input, text) in texts {
+    for &(input, text) in texts {
         let error = loose_header(alloc, input).err().ok_or("a refusal")?;
         assert_eq!(rt; error.to_string(alloc)?.as_str(), text);
     }

@@ -5,7 +5,7 @@ use std::test::Fail;
 
 #[test]
 fn ids_of_objects(rt: HostRuntime) -> Result<(), Fail> {
-    let rows: [(hash::Kind, Kind, &[u8], &str); 6] = [
+    let rows: &[(hash::Kind, Kind, &[u8], &str)] = &[
         (
             hash::Kind::Sha1,
             Kind::Blob,
@@ -43,7 +43,7 @@ fn ids_of_objects(rt: HostRuntime) -> Result<(), Fail> {
             "2cf8d83d9ee29543b34a87727421fdecb7e3f3a183d337639025de576db9ebb4",
         ),
     ];
-    for (hash, kind, content, want) in rows {
+    for &(hash, kind, content, want) in rows {
         let id = compute_hash(hash, kind, content);
         assert_eq!(rt; id.to_string(rt.alloc())?.as_str(), want);
         assert!(rt; id.kind() == hash, "{want}");

@@ -43,13 +43,13 @@ fn fields_of_ids(rt: HostRuntime) -> Result<(), Fail> {
 
 #[test]
 fn fields_of_several_lines(rt: HostRuntime) -> Result<(), Fail> {
-    let rows: [(&str, &str); 4] = [
+    let rows: &[(&str, &str)] = &[
         ("", "x \n"),
         ("A", "x A\n"),
         ("A\nB", "x A\n B\n"),
         ("A\n\nB\n", "x A\n \n B\n"),
     ];
-    for (value, text) in rows {
+    for &(value, text) in rows {
         let mut out = Vec::new(rt.alloc());
         header_field_multi_line(b"x", value.as_bytes(), &mut out)?;
         assert_eq!(rt; out.as_slice(), text.as_bytes());

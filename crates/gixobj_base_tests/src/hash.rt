@@ -66,14 +66,14 @@ fn hex_of_either_case(rt: HostRuntime) -> Result<(), Fail> {
         written.as_slice(),
         b"4b825dc642cb6eb9a060e54bf8d69288fbee49044b825dc642cb6eb9a060e54bf8d69288fbee4904".as_slice()
     );
-    let refused: [&[u8]; 5] = [
+    let refused: &[&[u8]] = &[
         b"",
         b"4b825dc642cb6eb9a060e54bf8d69288fbee490",
         b"4b825dc642cb6eb9a060e54bf8d69288fbee49040",
         b"4b825dc642cb6eb9a060e54bf8d69288fbee490g",
         b"6ef19b41225c5369f1c104d45d8d85efa9b057b53b14b4b9b939dd74decc532 ",
     ];
-    for hex in refused {
+    for &hex in refused {
         assert!(rt; ObjectId::from_hex(hex).is_none(), "{hex:?}");
     }
     Ok(())

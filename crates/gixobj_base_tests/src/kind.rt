@@ -40,8 +40,8 @@ fn tests_of_kinds(rt: HostRuntime) {
 
 #[test]
 fn words_of_no_kind(rt: HostRuntime) -> Result<(), Fail> {
-    let refused: [&[u8]; 5] = [b"", b"Blob", b"blobs", b"ta", b"tags"];
-    for word in refused {
+    let refused: &[&[u8]] = &[b"", b"Blob", b"blobs", b"ta", b"tags"];
+    for &word in refused {
         match Kind::from_bytes(rt.alloc(), word) {
             Err(Error::InvalidObjectKind { kind }) => assert_eq!(rt; kind.as_bytes(), word),
             _ => return Err("a word that is no kind")?,

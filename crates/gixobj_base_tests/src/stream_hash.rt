@@ -101,7 +101,7 @@ fn content_of(alloc: Global, len: u64) -> Result<Vec<u8>, AllocError> {
 /// Contents about as long as one buffer, given whole and byte by byte.
 #[test]
 fn sizes_about_a_buffer(rt: HostRuntime) -> Result<(), Fail> {
-    let rows: [(u64, hash::Kind, &str); 8] = [
+    let rows: &[(u64, hash::Kind, &str)] = &[
         (
             0,
             hash::Kind::Sha1,
@@ -143,7 +143,7 @@ fn sizes_about_a_buffer(rt: HostRuntime) -> Result<(), Fail> {
             "9d89de7c1a9df4cc25ffe3b082cfc17d8cc4e2224d3e3f67d6abe9454c3da227",
         ),
     ];
-    for (len, hash, want) in rows {
+    for &(len, hash, want) in rows {
         let content = content_of(rt.alloc(), len)?;
         let mut stream = content.as_slice();
         let id = compute_stream_hash(hash, Kind::Blob, &mut stream, len)?;

@@ -48,13 +48,32 @@ fn hello_blob(rt: HostRuntime) -> Result<(), Fail> {
     assert_eq!(rt; text_of(alloc, &hello)?.as_slice(), b"hello".as_slice());
     assert!(rt; hello.size() == Some(5));
     assert!(rt; hello.kind() == Kind::Blob);
-    let mut blob = hello.into_owned(alloc)?;
+    Ok(())
+}
+
+/// A blob of `hello world`, made of one of `hello`.
+fn greeting(alloc: Global) -> Result<Blob, Fail> {
+    let mut blob = BlobRef::from_bytes(b"hello").into_owned(alloc)?;
     blob.bytes.extend_from_slice(b" world")?;
+    Ok(blob)
+}
+
+#[test]
+fn greeting_blob_written(rt: HostRuntime) -> Result<(), Fail> {
+    let alloc = rt.alloc();
+    let blob = greeting(alloc)?;
     let mut out = Vec::new(alloc);
     blob.write_to(alloc, &mut out)?;
     assert_eq!(rt; out.as_slice(), b"hello world".as_slice());
     blob.to_ref().write_to_vec(alloc, &mut out)?;
     assert_eq!(rt; out.as_slice(), b"hello worldhello world".as_slice());
+    Ok(())
+}
+
+#[test]
+fn greeting_blob(rt: HostRuntime) -> Result<(), Fail> {
+    let alloc = rt.alloc();
+    let blob = greeting(alloc)?;
     let header = blob.loose_header(alloc).ok_or("a header")?;
     assert_eq!(rt; header.as_slice(), b"blob 11\0".as_slice());
     assert!(rt; blob.size() == Some(11));

@@ -47,7 +47,7 @@ fn texts_that_say_no_mode(rt: HostRuntime) {
 #[test]
 fn odd_mode_texts(rt: HostRuntime) {
     let mut buffer = [0; 6];
-    let texts: [(&[u8], u16, &[u8]); 9] = [
+    let texts: &[(&[u8], u16, &[u8])] = &[
         (b"0 abc", 0, b"0"),
         (b" abc", 0, b"0"),
         (b"40000 a", 0o040000, b"40000"),
@@ -58,7 +58,7 @@ fn odd_mode_texts(rt: HostRuntime) {
         (b"100600 a", 0o100600, b"100600"),
         (b"1100644 a", 0o100644, b"100644"),
     ];
-    for (text, value, written) in texts {
+    for &(text, value, written) in texts {
         let mode = EntryMode::from_bytes(text);
         assert!(rt; mode.is_some_and(|mode| mode.value() == value), "{text:?}");
         assert!(rt;
@@ -101,7 +101,7 @@ fn number_modes(rt: HostRuntime) {
     assert!(rt; EntryMode::try_from(0o100600).is_ok_and(|mode| mode.kind() == EntryKind::Blob));
 }
 
-const KINDS: [(EntryKind, u16, &str, &str); 5] = [
+const KINDS: &[(EntryKind, u16, &str, &str)] = &[
     (EntryKind::Tree, 0o040000, "tree", "40000"),
     (EntryKind::Blob, 0o100644, "blob", "100644"),
     (EntryKind::BlobExecutable, 0o100755, "exe", "100755"),
@@ -111,7 +111,7 @@ const KINDS: [(EntryKind, u16, &str, &str); 5] = [
 
 #[test]
 fn kinds_and_their_modes(rt: HostRuntime) {
-    for (kind, _, word, _) in KINDS {
+    for &(kind, _, word, _) in KINDS {
         let mode = EntryMode::from(kind);
         assert!(rt; EntryKind::from(mode) == kind, "{word}");
         assert!(rt; mode.kind() == kind, "{word}");
@@ -120,7 +120,7 @@ fn kinds_and_their_modes(rt: HostRuntime) {
 
 #[test]
 fn values_and_words_of_kinds(rt: HostRuntime) {
-    for (kind, value, word, _) in KINDS {
+    for &(kind, value, word, _) in KINDS {
         let mode = EntryMode::from(kind);
         assert_eq!(rt; mode.value(), value);
         assert_eq!(rt; mode.as_str(), word);
@@ -130,7 +130,7 @@ fn values_and_words_of_kinds(rt: HostRuntime) {
 #[test]
 fn texts_of_kinds(rt: HostRuntime) {
     let mut buffer = [0; 6];
-    for (kind, _, word, text) in KINDS {
+    for &(kind, _, word, text) in KINDS {
         let mode = EntryMode::from(kind);
         assert!(rt; kind.as_octal_str().as_bytes() == text.as_bytes(), "{word}");
         assert!(rt;
@@ -141,7 +141,7 @@ fn texts_of_kinds(rt: HostRuntime) {
 }
 
 /// A kind's word, and whether it is a tree, is none, is a link and is a file.
-const TYPES: [(EntryKind, &str, bool, bool, bool, bool); 5] = [
+const TYPES: &[(EntryKind, &str, bool, bool, bool, bool)] = &[
     (EntryKind::Tree, "tree", true, false, false, false),
     (EntryKind::Blob, "blob", false, true, false, true),
     (EntryKind::BlobExecutable, "exe", false, true, false, true),
@@ -151,7 +151,7 @@ const TYPES: [(EntryKind, &str, bool, bool, bool, bool); 5] = [
 
 #[test]
 fn trees_links_and_files(rt: HostRuntime) {
-    for (kind, word, tree, no_tree, link, blob) in TYPES {
+    for &(kind, word, tree, no_tree, link, blob) in TYPES {
         let mode = EntryMode::from(kind);
         assert!(rt; mode.is_tree() == tree, "{word}");
         assert!(rt; mode.is_no_tree() == no_tree, "{word}");
@@ -161,7 +161,7 @@ fn trees_links_and_files(rt: HostRuntime) {
 }
 
 /// A kind's word, and whether it is a submodule, may be run, and is a file or a link.
-const USES: [(EntryKind, &str, bool, bool, bool); 5] = [
+const USES: &[(EntryKind, &str, bool, bool, bool)] = &[
     (EntryKind::Tree, "tree", false, false, false),
     (EntryKind::Blob, "blob", false, false, true),
     (EntryKind::BlobExecutable, "exe", false, true, true),
@@ -171,7 +171,7 @@ const USES: [(EntryKind, &str, bool, bool, bool); 5] = [
 
 #[test]
 fn submodules_and_programs(rt: HostRuntime) {
-    for (kind, word, commit, executable, blob_or_symlink) in USES {
+    for &(kind, word, commit, executable, blob_or_symlink) in USES {
         let mode = EntryMode::from(kind);
         assert!(rt; mode.is_commit() == commit, "{word}");
         assert!(rt; mode.is_executable() == executable, "{word}");
@@ -204,7 +204,7 @@ fn near_names(rt: HostRuntime) {
 fn ascending(alloc: Global) -> Result<Tree, AllocError> {
     let null = ObjectId::null(Kind::Sha1);
     let empty = ObjectId::empty_blob(Kind::Sha1);
-    let rows: [(EntryKind, &[u8], ObjectId); 8] = [
+    let rows: &[(EntryKind, &[u8], ObjectId)] = &[
         (EntryKind::Blob, b"a", null),
         (EntryKind::Blob, b"a", empty),
         (EntryKind::BlobExecutable, b"a", null),
@@ -215,7 +215,7 @@ fn ascending(alloc: Global) -> Result<Tree, AllocError> {
         (EntryKind::Blob, b"a0", null),
     ];
     let mut tree = Tree::empty(alloc);
-    for (kind, name, oid) in rows {
+    for &(kind, name, oid) in rows {
         tree.entries.push(entry(alloc, kind, name, oid)?)?;
     }
     Ok(tree)

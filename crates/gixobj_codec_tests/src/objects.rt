@@ -2,8 +2,8 @@
 
 use gixobj_base::decode::Error;
 use gixobj_base::hash::{Kind as HashKind, ObjectId};
-use gixobj_base::{BlobRef, Kind, WriteTo, encode};
-use gixobj_codec::{Commit, Data, LooseDecodeError, ObjectRef, Tag, data};
+use gixobj_base::{Blob, BlobRef, Kind, WriteTo, encode};
+use gixobj_codec::{Commit, Data, LooseDecodeError, Object, ObjectRef, Tag, data};
 use std::alloc::Global;
 use std::test::Fail;
 
@@ -38,14 +38,20 @@ fn written<T: WriteTo>(alloc: Global, object: &T) -> Result<Vec<u8>, encode::Err
     Ok(out)
 }
 
+/// The blob that is read of a loose object, owned.
+fn loose_blob(alloc: Global, bytes: &[u8]) -> Result<Blob, Fail> {
+    let object = ObjectRef::from_loose(alloc, bytes, HashKind::Sha1)?;
+    match object.into_owned(alloc)?.try_into_blob() {
+        Ok(blob) => Ok(blob),
+        Err(_) => Err("a blob")?,
+    }
+}
+
 #[test]
 fn a_blob_is_read_changed_and_written(rt: HostRuntime) -> Result<(), Fail> {
     let alloc = rt.alloc();
-    let object = ObjectRef::from_loose(alloc, b"blob 5\0hello", HashKind::Sha1)?;
-    assert!(rt; object.as_blob().ok_or("a blob")?.bytes == HELLO);
-    let Ok(mut blob) = object.into_owned(alloc)?.try_into_blob() else {
-        return Err("a blob")?;
-    };
+    let mut blob = loose_blob(alloc, b"blob 5\0hello")?;
+    assert!(rt; blob.bytes.as_slice() == HELLO);
     blob.bytes.extend_from_slice(b" world")?;
     assert!(rt; written(alloc, &blob)?.as_slice() == GREETING);
     assert!(rt; blob.loose_header(alloc).ok_or("a size")?.as_slice() == GREETING_HEADER);
@@ -53,46 +59,78 @@ fn a_blob_is_read_changed_and_written(rt: HostRuntime) -> Result<(), Fail> {
 }
 
 #[test]
-fn loose_objects(rt: HostRuntime) -> Result<(), Fail> {
-    let alloc = rt.alloc();
-    let longer = ObjectRef::from_loose(alloc, b"blob 3\0hello", HashKind::Sha1)?;
+fn a_loose_object_with_more_behind_it(rt: HostRuntime) -> Result<(), Fail> {
+    let longer = ObjectRef::from_loose(rt.alloc(), b"blob 3\0hello", HashKind::Sha1)?;
     assert!(rt; longer.into_blob().ok_or("a blob")?.bytes == &HELLO[..3]);
-    let short = ObjectRef::from_loose(alloc, b"blob 5\0hell", HashKind::Sha1);
-    assert!(rt; matches!(&short, Err(LooseDecodeError::InvalidHeader(_))));
-    let no_size = ObjectRef::from_loose(alloc, b"blob x\0", HashKind::Sha1);
-    assert!(rt; matches!(&no_size, Err(LooseDecodeError::InvalidHeader(_))));
-    let no_tree = ObjectRef::from_loose(alloc, b"tree 5\0hello", HashKind::Sha1);
-    assert!(rt;
-        matches!(
-            &no_tree,
-            Err(LooseDecodeError::InvalidContent(Error::Malformed))
-        )
-    );
     Ok(())
 }
 
-/// Whether this text is read as an object of this kind, which is written back, and so is its owned form.
+/// Which part of loose bytes is refused.
+fn refused_part(alloc: Global, bytes: &[u8]) -> &'static str {
+    match ObjectRef::from_loose(alloc, bytes, HashKind::Sha1) {
+        Ok(_) => "none",
+        Err(LooseDecodeError::InvalidHeader(_)) => "the header",
+        Err(LooseDecodeError::InvalidContent(Error::Malformed)) => "the content",
+        Err(_) => "memory",
+    }
+}
+
+#[test]
+fn loose_objects(rt: HostRuntime) {
+    let alloc = rt.alloc();
+    assert!(rt; refused_part(alloc, b"blob 5\0hell") == "the header");
+    assert!(rt; refused_part(alloc, b"blob x\0") == "the header");
+    assert!(rt; refused_part(alloc, b"tree 5\0hello") == "the content");
+}
+
+/// Whether this text is read as an object of this kind, which is written back.
 fn is_written_back(alloc: Global, kind: Kind, text: &[u8]) -> Result<bool, Fail> {
     let object = Data::new(text, kind, HashKind::Sha1).decode(alloc)?;
-    let owned = object.to_owned(alloc)?;
-    let borrowed_text = written(alloc, &object)?;
-    let owned_text = written(alloc, &owned)?;
-    Ok(
-        object.kind() == kind
-            && owned.kind() == kind
-            && borrowed_text.as_slice() == text
-            && owned_text.as_slice() == text,
-    )
+    let out = written(alloc, &object)?;
+    Ok(object.kind() == kind && out.as_slice() == text)
+}
+
+/// Whether the owned form of the object of this kind, which is read of this text, is written back.
+fn is_owned_and_written_back(alloc: Global, kind: Kind, text: &[u8]) -> Result<bool, Fail> {
+    let owned = Data::new(text, kind, HashKind::Sha1)
+        .decode(alloc)?
+        .to_owned(alloc)?;
+    let out = written(alloc, &owned)?;
+    Ok(owned.kind() == kind && out.as_slice() == text)
+}
+
+const TEXTS: &[(Kind, &[u8])] = &[
+    (Kind::Tree, TREE),
+    (Kind::Blob, HELLO),
+    (Kind::Commit, COMMIT),
+    (Kind::Tag, TAG),
+];
+
+#[test]
+fn each_kind_is_read_and_written(rt: HostRuntime) -> Result<(), Fail> {
+    for &(kind, text) in TEXTS {
+        assert!(rt; is_written_back(rt.alloc(), kind, text)?, "{kind:?}");
+    }
+    Ok(())
 }
 
 #[test]
 fn each_kind_is_read_copied_and_written(rt: HostRuntime) -> Result<(), Fail> {
-    let alloc = rt.alloc();
-    assert!(rt; is_written_back(alloc, Kind::Tree, TREE)?);
-    assert!(rt; is_written_back(alloc, Kind::Blob, HELLO)?);
-    assert!(rt; is_written_back(alloc, Kind::Commit, COMMIT)?);
-    assert!(rt; is_written_back(alloc, Kind::Tag, TAG)?);
+    for &(kind, text) in TEXTS {
+        assert!(rt;
+            is_owned_and_written_back(rt.alloc(), kind, text)?,
+            "{kind:?}"
+        );
+    }
     Ok(())
+}
+
+/// An owned object, where it is no tag.
+fn no_tag(object: Object) -> Result<Object, Fail> {
+    match Tag::try_from(object) {
+        Ok(_) => Err("no tag")?,
+        Err(object) => Ok(object),
+    }
 }
 
 #[test]
@@ -103,10 +141,7 @@ fn another_kind_is_given_back(rt: HostRuntime) -> Result<(), Fail> {
         return Err("no blob")?;
     };
     assert!(rt; commit.as_tag().is_none());
-    let owned = commit.into_owned(alloc)?;
-    let Err(owned) = Tag::try_from(owned) else {
-        return Err("no tag")?;
-    };
+    let owned = no_tag(commit.into_owned(alloc)?)?;
     assert!(rt; Commit::try_from(owned).is_ok());
     Ok(())
 }

@@ -46,7 +46,7 @@ fn directories(rt: HostRuntime) -> Result<(), Fail> {
 /// which is a name.
 #[test]
 fn nothing_there(rt: HostRuntime) -> Result<(), Fail> {
-    let paths: [&[u8]; 8] = [
+    let paths: &[&[u8]] = &[
         b"",
         b"/",
         b"new.txt/q",
@@ -56,7 +56,7 @@ fn nothing_there(rt: HostRuntime) -> Result<(), Fail> {
         b"./bak",
         b"bak/.",
     ];
-    for path in paths {
+    for &path in paths {
         let found = at_path(rt.alloc(), ROOT, path)?;
         assert!(rt; found.is_none(), "{path:?}");
     }
@@ -70,13 +70,13 @@ fn names_as_they_are(rt: HostRuntime) -> Result<(), Fail> {
     let mut tree = Vec::new(rt.alloc());
     let mut buffer = Vec::new(rt.alloc());
     let reader = store.find_tree_iter(id(ROOT).as_oid(), &mut tree)?;
-    let paths: [(&[&str], bool); 4] = [
+    let paths: &[(&[&str], bool)] = &[
         (&["bak", "test.txt"], true),
         (&["bak", "", "test.txt"], false),
         (&["bak/test.txt"], false),
         (&[], false),
     ];
-    for (path, is_there) in paths {
+    for &(path, is_there) in paths {
         let path = names(rt.alloc(), path)?;
         let found = reader.lookup_entry(rt.alloc(), &store, &mut buffer, &path)?;
         assert!(rt; found.is_some() == is_there, "{path:?}");

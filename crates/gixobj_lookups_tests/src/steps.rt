@@ -40,7 +40,7 @@ fn step_by(alloc: Global, kind: Kind, path: &[&str]) -> Result<Step, AllocError>
 
 #[test]
 fn steps_into_a_tree(rt: HostRuntime) -> Result<(), Fail> {
-    let rows: [(&[&str], Step); 7] = [
+    let rows: &[(&[&str], Step)] = &[
         (&[], Step::Break(None, 0)),
         (&["a"], Step::Break(Some(b'a'), 0)),
         (&["b"], Step::Break(Some(b'b'), 0)),
@@ -49,7 +49,7 @@ fn steps_into_a_tree(rt: HostRuntime) -> Result<(), Fail> {
         (&["c"], Step::Break(None, 0)),
         (&["", "a"], Step::Break(None, 1)),
     ];
-    for (path, wanted) in rows {
+    for &(path, wanted) in rows {
         let came_to = step_by(rt.alloc(), Kind::Tree, path)?;
         assert!(rt; came_to == wanted, "{path:?}: {came_to:?}");
     }

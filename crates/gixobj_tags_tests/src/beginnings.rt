@@ -44,12 +44,12 @@ fn every_beginning(rt: HostRuntime) -> Result<(), Fail> {
 }
 
 /// Lengths of beginnings, and their messages.
-const MESSAGES: [(usize, &str); 5] = [(65, ""), (66, "\n"), (67, "h"), (68, "hi"), (69, "hi\n")];
+const MESSAGES: &[(usize, &str)] = &[(65, ""), (66, "\n"), (67, "h"), (68, "hi"), (69, "hi\n")];
 
 #[test]
 fn messages(rt: HostRuntime) -> Result<(), Fail> {
     let text = tag_with(rt.alloc(), b"\nhi\n")?;
-    for (len, message) in MESSAGES {
+    for &(len, message) in MESSAGES {
         let beginning = text.get(..len).ok_or("a beginning")?;
         let tag = TagRef::from_bytes(beginning, Kind::Sha1)?;
         assert!(rt; tag.message == BStr::new(message.as_bytes()), "{len}");

@@ -115,7 +115,7 @@ fn refused_names_owned(rt: HostRuntime) -> Result<(), Fail> {
 }
 
 /// What stands behind the name, and is neither a tagger nor a body.
-const NO_BODIES: [&str; 12] = [
+const NO_BODIES: &[&str] = &[
     "x",
     " ",
     "\u{0}",
@@ -132,7 +132,7 @@ const NO_BODIES: [&str; 12] = [
 
 #[test]
 fn no_bodies(rt: HostRuntime) -> Result<(), Fail> {
-    for rest in NO_BODIES {
+    for &rest in NO_BODIES {
         let text = tag_with(rt.alloc(), rest.as_bytes())?;
         assert!(rt; is_refused(&text), "{rest}");
         assert!(rt; told_behind_an_error(&text) == Some(0), "{rest}");
@@ -141,7 +141,7 @@ fn no_bodies(rt: HostRuntime) -> Result<(), Fail> {
 }
 
 /// Tags of which a line is wrong, wanting or at the wrong place.
-const DAMAGED: [&str; 14] = [
+const DAMAGED: &[&str] = &[
     "object 4b825dc642cb6eb9a060e54bf8d69288fbee490\ntype tree\ntag v1\n",
     "object 4b825dc642cb6eb9a060e54bf8d69288fbee490g\ntype tree\ntag v1\n",
     "object 4b825dc642cb6eb9a060e54bf8d69288fbee49044\ntype tree\ntag v1\n",
@@ -160,7 +160,7 @@ const DAMAGED: [&str; 14] = [
 
 #[test]
 fn damaged_lines(rt: HostRuntime) {
-    for text in DAMAGED {
+    for &text in DAMAGED {
         assert!(rt; is_refused(text.as_bytes()), "{text}");
         assert!(rt; told_behind_an_error(text.as_bytes()) == Some(0), "{text}");
     }
@@ -177,7 +177,7 @@ fn the_other_kind_of_ids(rt: HostRuntime) {
 }
 
 /// What stands behind the name, and the message and the signature that are read in it.
-const BODIES: [(&str, &str, Option<&str>); 9] = [
+const BODIES: &[(&str, &str, Option<&str>)] = &[
     ("\n\nhi", "\nhi", None),
     ("\n\u{0}", "\u{0}", None),
     (
@@ -220,7 +220,7 @@ const BODIES: [(&str, &str, Option<&str>); 9] = [
 #[test]
 fn bodies(rt: HostRuntime) -> Result<(), Fail> {
     let alloc = rt.alloc();
-    for (rest, message, signature) in BODIES {
+    for &(rest, message, signature) in BODIES {
         let text = tag_with(alloc, rest.as_bytes())?;
         let tag = TagRef::from_bytes(&text, Kind::Sha1)?;
         assert!(rt; tag.message.as_bytes() == message.as_bytes(), "{rest}");

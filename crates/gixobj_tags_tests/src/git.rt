@@ -216,7 +216,7 @@ fn agrees(alloc: Global, shape: &Shape) -> Result<bool, Fail> {
 
 #[test]
 fn without_signature(rt: HostRuntime) -> Result<(), Fail> {
-    for shape in &PLAIN {
+    for shape in PLAIN {
         assert!(rt; agrees(rt.alloc(), shape)?, "{}", shape.name);
     }
     Ok(())
@@ -224,14 +224,14 @@ fn without_signature(rt: HostRuntime) -> Result<(), Fail> {
 
 #[test]
 fn with_signature(rt: HostRuntime) -> Result<(), Fail> {
-    for shape in &SIGNED {
+    for shape in SIGNED {
         assert!(rt; agrees(rt.alloc(), shape)?, "{}", shape.name);
     }
     Ok(())
 }
 
 /// The formats in which the first of them were signed last.
-const FORMATS: [Format; 5] = [
+const FORMATS: &[Format] = &[
     Format::OpenPgp,
     Format::OpenPgp,
     Format::X509,
@@ -251,14 +251,14 @@ fn is_signed_in(alloc: Global, shape: &Shape, format: Format) -> Result<bool, Fa
 #[test]
 fn formats(rt: HostRuntime) -> Result<(), Fail> {
     for (shape, format) in SIGNED.iter().zip(FORMATS) {
-        assert!(rt; is_signed_in(rt.alloc(), shape, format)?, "{}", shape.name);
+        assert!(rt; is_signed_in(rt.alloc(), shape, *format)?, "{}", shape.name);
     }
     Ok(())
 }
 
 #[test]
 fn of_odd_parts(rt: HostRuntime) -> Result<(), Fail> {
-    for shape in &ODD {
+    for shape in ODD {
         assert!(rt; agrees(rt.alloc(), shape)?, "{}", shape.name);
     }
     Ok(())
@@ -266,7 +266,7 @@ fn of_odd_parts(rt: HostRuntime) -> Result<(), Fail> {
 
 #[test]
 fn with_sha256(rt: HostRuntime) -> Result<(), Fail> {
-    for shape in &SHA256 {
+    for shape in SHA256 {
         assert!(rt; agrees(rt.alloc(), shape)?, "{}", shape.name);
     }
     Ok(())

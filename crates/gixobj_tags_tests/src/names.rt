@@ -29,7 +29,7 @@ fn is_accepted(name: &[u8]) -> bool {
 }
 
 /// Names without a fault.
-const ACCEPTED: [&[u8]; 24] = [
+const ACCEPTED: &[&[u8]] = &[
     b"v1.0.0",
     b"0.2.1",
     b"0-alpha1",
@@ -58,23 +58,23 @@ const ACCEPTED: [&[u8]; 24] = [
 
 #[test]
 fn accepted(rt: HostRuntime) {
-    for name in ACCEPTED {
+    for &name in ACCEPTED {
         assert!(rt; is_accepted(name), "{name:?}");
     }
 }
 
 /// Names that begin with a dash.
-const DASHED: [&[u8]; 6] = [b"-", b"-hello", b"--", b"-/a", b"-@", b"-.a"];
+const DASHED: &[&[u8]] = &[b"-", b"-hello", b"--", b"-/a", b"-@", b"-.a"];
 
 #[test]
 fn dashes(rt: HostRuntime) {
-    for name in DASHED {
+    for &name in DASHED {
         assert_eq!(rt; refusal(name), Some(Error::StartsWithDash), "{name:?}");
     }
 }
 
 /// Names of one fault.
-const ONE_FAULT: [(&[u8], RefNameFault); 57] = [
+const ONE_FAULT: &[(&[u8], RefNameFault)] = &[
     (b"", Empty),
     (b".a", DotStart),
     (b"a/.b", DotStart),
@@ -136,14 +136,14 @@ const ONE_FAULT: [(&[u8], RefNameFault); 57] = [
 
 #[test]
 fn one_fault(rt: HostRuntime) {
-    for (name, fault) in &ONE_FAULT {
+    for (name, fault) in ONE_FAULT {
         assert!(rt; has_first(name, *fault), "{name:?}");
     }
 }
 
 /// Each pair of faults that a name can have at once: the name, the earlier of them, the name without
 /// that one, and the later.
-const TWO_FAULTS: [(&[u8], RefNameFault, &[u8], RefNameFault); 28] = [
+const TWO_FAULTS: &[(&[u8], RefNameFault, &[u8], RefNameFault)] = &[
     (b".a.lock", DotStart, b"a.lock", LockSuffix),
     (b".a..b", DotStart, b"a..b", DoubleDot),
     (b".a@{", DotStart, b"a@{", AtBrace),
@@ -176,14 +176,14 @@ const TWO_FAULTS: [(&[u8], RefNameFault, &[u8], RefNameFault); 28] = [
 
 #[test]
 fn two_faults(rt: HostRuntime) {
-    for (name, earlier, rest, later) in &TWO_FAULTS {
+    for (name, earlier, rest, later) in TWO_FAULTS {
         assert!(rt; has_first(name, *earlier), "{name:?}");
         assert!(rt; has_first(rest, *later), "{rest:?}");
     }
 }
 
 /// Names of several faults, and of a dash and a fault, with the fault that decides.
-const FIRST_OF_SEVERAL: [(&[u8], RefNameFault); 18] = [
+const FIRST_OF_SEVERAL: &[(&[u8], RefNameFault)] = &[
     (b".", DotStart),
     (b"..", DotStart),
     (b".lock", DotStart),
@@ -206,7 +206,7 @@ const FIRST_OF_SEVERAL: [(&[u8], RefNameFault); 18] = [
 
 #[test]
 fn first_of_several(rt: HostRuntime) {
-    for (name, fault) in &FIRST_OF_SEVERAL {
+    for (name, fault) in FIRST_OF_SEVERAL {
         assert!(rt; has_first(name, *fault), "{name:?}");
     }
 }
@@ -229,13 +229,13 @@ fn writer_has_first(name: &[u8], fault: RefNameFault) -> bool {
 fn refusals_of_writers(rt: HostRuntime) {
     assert!(rt; writer_refusal(b"v1.0.0").is_ok());
     assert!(rt; matches!(&writer_refusal(b"-"), Err(encode::Error::StartsWithDash)));
-    for (name, fault) in &ONE_FAULT {
+    for (name, fault) in ONE_FAULT {
         assert!(rt; writer_has_first(name, *fault), "{name:?}");
     }
 }
 
 /// A refusal, and what is shown of it, also as a writer's.
-const SHOWN: [(Error, &str); 3] = [
+const SHOWN: &[(Error, &str)] = &[
     (Error::StartsWithDash, "the name of a tag begins with `-`"),
     (
         Error::InvalidRefName(Empty),
@@ -250,7 +250,7 @@ const SHOWN: [(Error, &str); 3] = [
 #[test]
 fn refusals_shown(rt: HostRuntime) -> Result<(), Fail> {
     let alloc = rt.alloc();
-    for (refusal, text) in SHOWN {
+    for &(refusal, text) in SHOWN {
         assert_eq!(rt; refusal.to_string(alloc)?.as_str(), text);
         assert_eq!(rt;
             encode::Error::from(refusal).to_string(alloc)?.as_str(),

@@ -129,11 +129,11 @@ fn tagger_twice(rt: HostRuntime) -> Result<(), Fail> {
 }
 
 /// What stands behind the name of a tag of which no tagger's line is told.
-const NO_LINES: [&str; 4] = ["\n", "\nhi\n", "\ntagger A <a@b> 0 +0000\n", "hi\n"];
+const NO_LINES: &[&str] = &["\n", "\nhi\n", "\ntagger A <a@b> 0 +0000\n", "hi\n"];
 
 #[test]
 fn no_line_of_a_tagger(rt: HostRuntime) -> Result<(), Fail> {
-    for rest in NO_LINES {
+    for &rest in NO_LINES {
         let text = tag_with(rt.alloc(), rest.as_bytes())?;
         let tagger = TagRefIter::from_bytes(&text, hash::Kind::Sha1).tagger()?;
         assert!(rt; tagger.is_none(), "{rest}");
@@ -142,7 +142,7 @@ fn no_line_of_a_tagger(rt: HostRuntime) -> Result<(), Fail> {
 }
 
 /// Tags of which no tagger is told.
-const NO_TAGGERS: [&str; 6] = [
+const NO_TAGGERS: &[&str] = &[
     "",
     "object 4b825dc642cb6eb9a060e54bf8d69288fbee4904\n",
     "object 4b825dc642cb6eb9a060e54bf8d69288fbee4904\ntype tree\n",
@@ -153,7 +153,7 @@ const NO_TAGGERS: [&str; 6] = [
 
 #[test]
 fn no_tagger_told(rt: HostRuntime) {
-    for text in NO_TAGGERS {
+    for &text in NO_TAGGERS {
         let tagger = TagRefIter::from_bytes(text.as_bytes(), hash::Kind::Sha1).tagger();
         assert!(rt; matches!(&tagger, Err(decode::Error::Malformed)), "{text}");
     }
@@ -176,7 +176,7 @@ fn ids_of_tokens(rt: HostRuntime) -> Result<(), Fail> {
 }
 
 /// Tags with an error, and what is told of them.
-const ERRORS: [(&str, &[&str]); 4] = [
+const ERRORS: &[(&str, &[&str])] = &[
     ("object\n", &["malformed", "end", "end"]),
     (
         "object 4b825dc642cb6eb9a060e54bf8d69288fbee4904\ntype x\ntag v1\n",
@@ -195,7 +195,7 @@ const ERRORS: [(&str, &[&str]); 4] = [
 /// Behind an error a reader is at its end.
 #[test]
 fn errors(rt: HostRuntime) -> Result<(), Fail> {
-    for (text, told) in ERRORS {
+    for &(text, told) in ERRORS {
         let names = names_told(rt.alloc(), text.as_bytes(), told.len())?;
         assert!(rt; names.as_slice() == told, "{text}");
     }

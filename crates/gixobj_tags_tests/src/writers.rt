@@ -10,7 +10,7 @@ use std::alloc::Global;
 use std::test::Fail;
 
 /// Names, and for what they are refused.
-const NAMES: [(&str, &str); 16] = [
+const NAMES: &[(&str, &str)] = &[
     ("-", "a dash"),
     ("-v", "a dash"),
     ("", "no byte"),
@@ -45,7 +45,7 @@ fn has_size<T: WriteTo>(alloc: Global, tag: &T, size: Option<u64>) -> Result<boo
 /// Nothing of the line of the name is written, and it is counted as it stands.
 #[test]
 fn refused_names(rt: HostRuntime) -> Result<(), Fail> {
-    for (name, wanted) in NAMES {
+    for &(name, wanted) in NAMES {
         let mut tag = TagRef::from_bytes(BARE, Kind::Sha1)?;
         tag.name = BStr::new(name.as_bytes());
         let (refused, out) = refusal(rt.alloc(), &tag);
@@ -59,7 +59,7 @@ fn refused_names(rt: HostRuntime) -> Result<(), Fail> {
 #[test]
 fn refused_names_owned(rt: HostRuntime) -> Result<(), Fail> {
     let alloc = rt.alloc();
-    for (name, wanted) in NAMES {
+    for &(name, wanted) in NAMES {
         let mut tag = TagRef::from_bytes(BARE, Kind::Sha1)?;
         tag.name = BStr::new(name.as_bytes());
         let owned = tag.into_owned(alloc)?;
@@ -72,14 +72,14 @@ fn refused_names_owned(rt: HostRuntime) -> Result<(), Fail> {
 }
 
 /// Lines of taggers whose name or email is refused.
-const TAGGERS: [&str; 3] = ["A> <b> 0 +0000", "A <<b> 0 +0000", "A <a>b> 0 +0000"];
+const TAGGERS: &[&str] = &["A> <b> 0 +0000", "A <<b> 0 +0000", "A <a>b> 0 +0000"];
 
 /// The borrowed tag has the line as it stands.
 #[test]
 fn illegal_taggers(rt: HostRuntime) -> Result<(), Fail> {
     let alloc = rt.alloc();
     let wanted = tag_with(alloc, b"tagger ")?;
-    for line in TAGGERS {
+    for &line in TAGGERS {
         let mut tag = TagRef::from_bytes(BARE, Kind::Sha1)?;
         tag.tagger = Some(BStr::new(line.as_bytes()));
         assert!(rt; has_size(alloc, &tag, size_behind(73, line))?, "{line}");
@@ -114,7 +114,7 @@ fn upper_case(rt: HostRuntime) -> Result<(), Fail> {
 }
 
 /// Messages and signatures, and how many bytes the bare tag has with them.
-const BODIES: [(&str, Option<&str>, u64); 10] = [
+const BODIES: &[(&str, Option<&str>, u64)] = &[
     ("", None, 65),
     ("\n", None, 66),
     ("\n\n", None, 67),
@@ -130,7 +130,7 @@ const BODIES: [(&str, Option<&str>, u64); 10] = [
 #[test]
 fn sizes_of_bodies(rt: HostRuntime) -> Result<(), Fail> {
     let alloc = rt.alloc();
-    for (message, signature, size) in BODIES {
+    for &(message, signature, size) in BODIES {
         let mut tag = TagRef::from_bytes(BARE, Kind::Sha1)?;
         tag.message = BStr::new(message.as_bytes());
         tag.signature = signature.map(|text| BStr::new(text.as_bytes()));

@@ -5,7 +5,7 @@ use gixobj_signing::signature::find;
 use gixobj_text::signature::{Format, SignatureRef};
 use std::test::Fail;
 
-const MARKERS: [(&str, Format); 4] = [
+const MARKERS: &[(&str, Format)] = &[
     ("-----BEGIN PGP SIGNATURE-----", Format::OpenPgp),
     ("-----BEGIN PGP MESSAGE-----", Format::OpenPgp),
     ("-----BEGIN SIGNED MESSAGE-----", Format::X509),
@@ -14,7 +14,7 @@ const MARKERS: [(&str, Format); 4] = [
 
 #[test]
 fn formats_of_markers(rt: HostRuntime) -> Result<(), Fail> {
-    for (marker, format) in MARKERS {
+    for &(marker, format) in MARKERS {
         let bytes = marker.as_bytes();
         let with_a_byte_before = format!(in rt.alloc(); "x{marker}")?;
         assert_eq!(rt; Format::from_signature(bytes), Some(format));
@@ -39,7 +39,7 @@ fn bytes_of_no_format(rt: HostRuntime) {
 
 #[test]
 fn places_of_each_marker(rt: HostRuntime) -> Result<(), Fail> {
-    for (marker, format) in MARKERS {
+    for &(marker, format) in MARKERS {
         let behind_a_line = format!(in rt.alloc(); "hi\n{marker}")?;
         let before_others = format!(in rt.alloc(); "{marker} x\nhi\n")?;
         assert_eq!(rt; find(marker.as_bytes()), Some((0, format)));

@@ -33,7 +33,7 @@ fn are_found(alloc: Global, shape: &Shape) -> Result<bool, Fail> {
 
 #[test]
 fn each_entry(rt: HostRuntime) -> Result<(), Fail> {
-    for shape in &PLAIN {
+    for shape in PLAIN {
         assert!(rt; are_found(rt.alloc(), shape)?, "{}", shape.name);
     }
     Ok(())
@@ -41,14 +41,14 @@ fn each_entry(rt: HostRuntime) -> Result<(), Fail> {
 
 #[test]
 fn each_entry_with_sha256(rt: HostRuntime) -> Result<(), Fail> {
-    for shape in &SHA256 {
+    for shape in SHA256 {
         assert!(rt; are_found(rt.alloc(), shape)?, "{}", shape.name);
     }
     Ok(())
 }
 
 /// Near names, in order: of files, and `a` of a directory.
-const NEAR: [&str; 6] = [
+const NEAR: &[&str] = &[
     "100644 A\0",
     "100644 a-\0",
     "100755 a.b\0",
@@ -58,7 +58,7 @@ const NEAR: [&str; 6] = [
 ];
 
 /// Names that none of them has, as a file's or a directory's.
-const MISSING: [(&str, bool); 16] = [
+const MISSING: &[(&str, bool)] = &[
     ("", false),
     ("", true),
     ("A", true),
@@ -80,9 +80,9 @@ const MISSING: [(&str, bool); 16] = [
 #[test]
 fn missing_names(rt: HostRuntime) -> Result<(), Fail> {
     let alloc = rt.alloc();
-    let text = tree_text(alloc, &NEAR)?;
+    let text = tree_text(alloc, NEAR)?;
     let tree = TreeRef::from_bytes(alloc, &text, Kind::Sha1)?;
-    for (name, is_dir) in MISSING {
+    for &(name, is_dir) in MISSING {
         let found = tree.bisect_entry(BStr::new(name.as_bytes()), is_dir);
         assert!(rt; found.is_none(), "{name} {is_dir}");
     }
@@ -92,7 +92,7 @@ fn missing_names(rt: HostRuntime) -> Result<(), Fail> {
 }
 
 /// Names with `/`, or of other entries.
-const SLASHED: [&str; 8] = ["/", "a/", "a/b", "a//", "a-/", "a.b/c", "b/", "z/"];
+const SLASHED: &[&str] = &["/", "a/", "a/b", "a//", "a-/", "a.b/c", "b/", "z/"];
 
 /// Whether what is found has a name that is neither before nor behind this one.
 fn is_equal_if_found(tree: &TreeRef<'_>, name: &str, is_dir: bool) -> bool {
@@ -107,9 +107,9 @@ fn is_equal_if_found(tree: &TreeRef<'_>, name: &str, is_dir: bool) -> bool {
 #[test]
 fn names_with_a_slash(rt: HostRuntime) -> Result<(), Fail> {
     let alloc = rt.alloc();
-    let text = tree_text(alloc, &NEAR)?;
+    let text = tree_text(alloc, NEAR)?;
     let tree = TreeRef::from_bytes(alloc, &text, Kind::Sha1)?;
-    for name in SLASHED {
+    for &name in SLASHED {
         assert!(rt; is_equal_if_found(&tree, name, false), "{name}");
         assert!(rt; is_equal_if_found(&tree, name, true), "{name}");
     }
@@ -120,7 +120,7 @@ fn names_with_a_slash(rt: HostRuntime) -> Result<(), Fail> {
 #[test]
 fn trees_not_in_order(rt: HostRuntime) -> Result<(), Fail> {
     let alloc = rt.alloc();
-    for shape in &ODD {
+    for shape in ODD {
         let text = shape.text(alloc)?;
         let tree = TreeRef::from_bytes(alloc, &text, shape.hash)?;
         for name in ["a", "b", "a/b", "c/", "/", " "] {

@@ -138,7 +138,7 @@ fn agrees(alloc: Global, shape: &Shape) -> Result<bool, Fail> {
 
 #[test]
 fn as_git_writes_them(rt: HostRuntime) -> Result<(), Fail> {
-    for shape in &PLAIN {
+    for shape in PLAIN {
         assert!(rt; agrees(rt.alloc(), shape)?, "{}", shape.name);
     }
     Ok(())
@@ -159,7 +159,7 @@ fn has_own_modes(alloc: Global, shape: &Shape) -> Result<bool, Fail> {
 #[test]
 fn modes_of_git(rt: HostRuntime) -> Result<(), Fail> {
     let alloc = rt.alloc();
-    for shape in &PLAIN {
+    for shape in PLAIN {
         assert!(rt; has_own_modes(alloc, shape)?, "{}", shape.name);
         let text = shape.text(alloc)?;
         let tree = TreeRef::from_bytes(alloc, &text, shape.hash)?.into_owned(alloc)?;
@@ -170,7 +170,7 @@ fn modes_of_git(rt: HostRuntime) -> Result<(), Fail> {
 
 #[test]
 fn of_odd_parts(rt: HostRuntime) -> Result<(), Fail> {
-    for shape in &ODD {
+    for shape in ODD {
         assert!(rt; agrees(rt.alloc(), shape)?, "{}", shape.name);
     }
     Ok(())
@@ -178,7 +178,7 @@ fn of_odd_parts(rt: HostRuntime) -> Result<(), Fail> {
 
 #[test]
 fn with_sha256(rt: HostRuntime) -> Result<(), Fail> {
-    for shape in &SHA256 {
+    for shape in SHA256 {
         assert!(rt; agrees(rt.alloc(), shape)?, "{}", shape.name);
     }
     Ok(())
@@ -191,7 +191,7 @@ fn becomes(alloc: Global, shape: &Shape, wanted: &Shape) -> Result<bool, Fail> {
 }
 
 /// Trees whose mode has other digits than those that are written, and the trees that have these.
-pub(crate) const REWRITTEN: [(&Shape, &Shape); 7] = [
+pub(crate) const REWRITTEN: &[(&Shape, &Shape)] = &[
     (&ZEROS_BEFORE_A_TREE, &LEADING_ZERO),
     (&ZERO_BEFORE_A_FILE, &ONE_FILE),
     (&ONE_BEFORE_A_FILE, &ONE_FILE),
@@ -203,7 +203,7 @@ pub(crate) const REWRITTEN: [(&Shape, &Shape); 7] = [
 
 #[test]
 fn rewritten(rt: HostRuntime) -> Result<(), Fail> {
-    for (shape, wanted) in REWRITTEN {
+    for &(shape, wanted) in REWRITTEN {
         assert!(rt; becomes(rt.alloc(), shape, wanted)?, "{}", shape.name);
         assert!(rt; agrees(rt.alloc(), wanted)?, "{}", wanted.name);
     }

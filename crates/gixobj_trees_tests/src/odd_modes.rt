@@ -11,7 +11,7 @@ use std::alloc::Global;
 use std::test::Fail;
 
 /// The front of an entry as it is read, its name, the value of its mode, and the front that is written.
-pub(crate) const FRONTS: [(&str, &str, u16, &str); 14] = [
+pub(crate) const FRONTS: &[(&str, &str, u16, &str)] = &[
     ("1100644 a\0", "a", 0o100644, "100644 a\0"),
     ("0100644 a\0", "a", 0o100644, "100644 a\0"),
     (" a\0", "a", 0, "0 a\0"),
@@ -45,7 +45,7 @@ fn is_read(alloc: Global, text: &[u8], name: &str, value: u16) -> Result<bool, F
 #[test]
 fn odd_entries_read(rt: HostRuntime) -> Result<(), Fail> {
     let alloc = rt.alloc();
-    for (front, name, value, _) in FRONTS {
+    for &(front, name, value, _) in FRONTS {
         let text = entry_text(alloc, front)?;
         assert!(rt; is_read(alloc, &text, name, value)?, "{front}");
     }
@@ -55,7 +55,7 @@ fn odd_entries_read(rt: HostRuntime) -> Result<(), Fail> {
 #[test]
 fn odd_entries_written(rt: HostRuntime) -> Result<(), Fail> {
     let alloc = rt.alloc();
-    for (front, _, _, written) in FRONTS {
+    for &(front, _, _, written) in FRONTS {
         let text = entry_text(alloc, front)?;
         let wanted = entry_text(alloc, written)?;
         let tree = TreeRef::from_bytes(alloc, &text, Kind::Sha1)?;
@@ -69,7 +69,7 @@ fn odd_entries_written(rt: HostRuntime) -> Result<(), Fail> {
 }
 
 /// What is written of such an entry, and how many bytes.
-const LENGTHS: [(&str, &str, usize); 5] = [
+const LENGTHS: &[(&str, &str, usize)] = &[
     ("1100644 a\0", "100644 a\0", 29),
     (" a\0", "0 a\0", 24),
     ("140000 a\0", "040000 a\0", 29),
@@ -80,7 +80,7 @@ const LENGTHS: [(&str, &str, usize); 5] = [
 #[test]
 fn lengths(rt: HostRuntime) -> Result<(), Fail> {
     let alloc = rt.alloc();
-    for (front, written, len) in LENGTHS {
+    for &(front, written, len) in LENGTHS {
         let text = entry_text(alloc, front)?;
         let tree = TreeRef::from_bytes(alloc, &text, Kind::Sha1)?;
         assert!(rt; tree.size() == Some(len as u64), "{front}");
@@ -90,7 +90,7 @@ fn lengths(rt: HostRuntime) -> Result<(), Fail> {
 }
 
 /// Kinds of odd modes, and whether a commit's.
-const KINDS: [(&str, EntryKind, bool); 6] = [
+const KINDS: &[(&str, EntryKind, bool)] = &[
     ("1100644 a\0", EntryKind::Blob, false),
     (" a\0", EntryKind::Commit, false),
     ("140000 a\0", EntryKind::Tree, false),
@@ -102,7 +102,7 @@ const KINDS: [(&str, EntryKind, bool); 6] = [
 #[test]
 fn kinds(rt: HostRuntime) -> Result<(), Fail> {
     let alloc = rt.alloc();
-    for (front, kind, is_commit) in KINDS {
+    for &(front, kind, is_commit) in KINDS {
         let text = entry_text(alloc, front)?;
         let tree = TreeRef::from_bytes(alloc, &text, Kind::Sha1)?;
         let mode = tree.entries.first().ok_or("an entry")?.mode;
@@ -113,7 +113,7 @@ fn kinds(rt: HostRuntime) -> Result<(), Fail> {
 }
 
 /// Fronts of entries that are refused.
-pub(crate) const NO_FRONTS: [&str; 12] = [
+pub(crate) const NO_FRONTS: &[&str] = &[
     "12345677 a\0",
     "00040000 a\0",
     "100648 a\0",
@@ -130,7 +130,7 @@ pub(crate) const NO_FRONTS: [&str; 12] = [
 
 #[test]
 fn no_entries(rt: HostRuntime) -> Result<(), Fail> {
-    for front in NO_FRONTS {
+    for &front in NO_FRONTS {
         let text = entry_text(rt.alloc(), front)?;
         assert!(rt; is_refused(rt.alloc(), &text)?, "{front}");
     }

@@ -22,12 +22,12 @@ fn offsets(alloc: Global, text: &[u8]) -> Result<Vec<usize>, AllocError> {
 }
 
 /// Where the entries of the tree of the folder `examples` begin, and where the last one ends.
-const EXAMPLE: [usize; 7] = [0, 36, 67, 104, 136, 170, 204];
+const EXAMPLE: &[usize] = &[0, 36, 67, 104, 136, 170, 204];
 
 #[test]
 fn behind_each_entry(rt: HostRuntime) -> Result<(), Fail> {
     let text = PLAIN[0].text(rt.alloc())?;
-    assert!(rt; offsets(rt.alloc(), &text)?.as_slice() == EXAMPLE.as_slice());
+    assert!(rt; offsets(rt.alloc(), &text)?.as_slice() == EXAMPLE);
     assert!(rt; offsets(rt.alloc(), b"")?.as_slice() == [0].as_slice());
     Ok(())
 }

@@ -22,7 +22,7 @@ fn hash_of<T: Hash>(value: &T) -> u64 {
 fn ascending(alloc: Global) -> Result<Vec<Entry>, AllocError> {
     let null = ObjectId::null(Kind::Sha1);
     let empty = ObjectId::empty_blob(Kind::Sha1);
-    let rows: [(EntryKind, &[u8], ObjectId); 8] = [
+    let rows: &[(EntryKind, &[u8], ObjectId)] = &[
         (EntryKind::Blob, b"a", null),
         (EntryKind::Blob, b"a", empty),
         (EntryKind::BlobExecutable, b"a", null),
@@ -33,7 +33,7 @@ fn ascending(alloc: Global) -> Result<Vec<Entry>, AllocError> {
         (EntryKind::Blob, b"a0", null),
     ];
     let mut entries = Vec::new(alloc);
-    for (kind, name, oid) in rows {
+    for &(kind, name, oid) in rows {
         entries.push(Entry {
             mode: kind.into(),
             filename: BString::from_slice(alloc, name)?,
@@ -93,7 +93,7 @@ fn borrowed_and_owned(rt: HostRuntime) -> Result<(), Fail> {
 }
 
 /// Fronts of entries. Each tree of them comes before the next one.
-const TREES: [&[&str]; 6] = [
+const TREES: &[&[&str]] = &[
     &[],
     &["100644 a\0"],
     &["100644 a\0", "100644 b\0"],

@@ -53,7 +53,7 @@ fn trees_of_git(rt: HostRuntime) -> Result<(), Fail> {
 
 #[test]
 fn trees_that_are_rewritten(rt: HostRuntime) -> Result<(), Fail> {
-    for (shape, wanted) in REWRITTEN {
+    for &(shape, wanted) in REWRITTEN {
         assert!(rt; is_shape_told(rt.alloc(), shape)?, "{}", shape.name);
         assert!(rt; is_shape_told(rt.alloc(), wanted)?, "{}", wanted.name);
     }
@@ -63,7 +63,7 @@ fn trees_that_are_rewritten(rt: HostRuntime) -> Result<(), Fail> {
 #[test]
 fn odd_modes(rt: HostRuntime) -> Result<(), Fail> {
     let alloc = rt.alloc();
-    for (front, _, _, _) in FRONTS {
+    for &(front, _, _, _) in FRONTS {
         let text = entry_text(alloc, front)?;
         assert!(rt; is_told(alloc, &text, Kind::Sha1)?, "{front}");
     }
@@ -102,7 +102,7 @@ fn entries_told(text: &[u8]) -> usize {
 
 #[test]
 fn no_entries(rt: HostRuntime) -> Result<(), Fail> {
-    for front in NO_FRONTS {
+    for &front in NO_FRONTS {
         let text = entry_text(rt.alloc(), front)?;
         assert!(rt; told_behind_an_error(&text) == Some(0), "{front}");
         assert!(rt; entries_told(&text) == 0, "{front}");
@@ -173,7 +173,7 @@ fn beginnings_of_three(rt: HostRuntime) -> Result<(), Fail> {
 }
 
 /// Trees with a damaged entry, and how many come before it.
-const DAMAGED: [(&[&str], usize); 6] = [
+const DAMAGED: &[(&[&str], usize)] = &[
     (&["100648 a\0"], 0),
     (&["100644 a\0", "100648 b\0"], 1),
     (&["100644 a\0", "100648 b\0", "100644 c\0"], 1),
@@ -194,7 +194,7 @@ fn gathers_none(alloc: Global, text: &[u8]) -> Result<bool, decode::Error> {
 #[test]
 fn errors(rt: HostRuntime) -> Result<(), Fail> {
     let alloc = rt.alloc();
-    for (fronts, count) in DAMAGED {
+    for &(fronts, count) in DAMAGED {
         let text = tree_text(alloc, fronts)?;
         assert!(rt; gathers_none(alloc, &text)?);
         assert!(rt; entries_told(&text) == count);

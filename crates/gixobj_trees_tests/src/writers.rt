@@ -15,13 +15,13 @@ use std::test::Fail;
 
 /// A tree of three entries with this id. The second and the third have a zero byte in their names.
 fn with_a_zero_byte<'a>(alloc: Global, id: &'a ObjectId) -> Result<TreeRef<'a>, AllocError> {
-    let rows: [(EntryKind, &[u8]); 3] = [
+    let rows: &[(EntryKind, &[u8])] = &[
         (EntryKind::Blob, b"a"),
         (EntryKind::Link, b"b\0c"),
         (EntryKind::Blob, b"d\0"),
     ];
     let mut entries = Vec::new(alloc);
-    for (kind, name) in rows {
+    for &(kind, name) in rows {
         entries.push(EntryRef {
             mode: kind.into(),
             filename: BStr::new(name),

@@ -27,7 +27,7 @@ const TREE: EntryKind = EntryKind::Tree;
 
 #[test]
 fn well_formed(rt: HostRuntime) -> Result<(), Fail> {
-    let lists: [&[Listed]; 6] = [
+    let lists: &[&[Listed]] = &[
         &[],
         &[(FILE, b"a")],
         &[(FILE, b"a"), (FILE, b"a.b"), (TREE, b"c")],
@@ -41,7 +41,7 @@ fn well_formed(rt: HostRuntime) -> Result<(), Fail> {
             (FILE, b"e"),
         ],
     ];
-    for listed in lists {
+    for &listed in lists {
         let tree = tree_of(rt.alloc(), listed)?;
         assert!(rt; tree.is_well_formed(), "{tree:?}");
     }
@@ -50,7 +50,7 @@ fn well_formed(rt: HostRuntime) -> Result<(), Fail> {
 
 #[test]
 fn not_well_formed(rt: HostRuntime) -> Result<(), Fail> {
-    let lists: [&[Listed]; 11] = [
+    let lists: &[&[Listed]] = &[
         &[(FILE, b"")],
         &[(TREE, b"")],
         &[(FILE, b"a/b")],
@@ -69,7 +69,7 @@ fn not_well_formed(rt: HostRuntime) -> Result<(), Fail> {
             (FILE, b"a0"),
         ],
     ];
-    for listed in lists {
+    for &listed in lists {
         let tree = tree_of(rt.alloc(), listed)?;
         assert!(rt; !tree.is_well_formed(), "{tree:?}");
     }

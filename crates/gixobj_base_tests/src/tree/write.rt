@@ -29,7 +29,7 @@ fn tree_of_one(
 }
 
 /// Entries as `git ls-tree` prints them, less the word of the kind.
-const SHA1: [(EntryKind, &str, &str); 6] = [
+const SHA1: &[(EntryKind, &str, &str)] = &[
     (
         EntryKind::Tree,
         "b6532456130e3225202f17e070c9b8178ef8d922",
@@ -62,7 +62,7 @@ const SHA1: [(EntryKind, &str, &str); 6] = [
     ),
 ];
 
-const SHA256: [(EntryKind, &str, &str); 6] = [
+const SHA256: &[(EntryKind, &str, &str)] = &[
     (
         EntryKind::Tree,
         "c66a2b30a22f801e33fbf564bd5e67bd21b66c7dcf1f9178b1ffa3d2eff62461",
@@ -96,7 +96,7 @@ const SHA256: [(EntryKind, &str, &str); 6] = [
 ];
 
 /// What `git cat-file tree` answers for the first of them, in hex.
-const SHA1_BYTES: [&str; 6] = [
+const SHA1_BYTES: &[&str] = &[
     "31303036343420646f63732e747874001c0faac18742a237bcae8565123acd6705d2024d",
     "343030303020646f637300b6532456130e3225202f17e070c9b8178ef8d922",
     "3130303634342068656c6c6f2e74787400ce013625030ba8dba906f756967f9e9ca394464a",
@@ -107,7 +107,7 @@ const SHA1_BYTES: [&str; 6] = [
 
 fn sha1_bytes(alloc: Global) -> Result<String, AllocError> {
     let mut hex = String::new(alloc);
-    for line in SHA1_BYTES {
+    for &line in SHA1_BYTES {
         hex.push_str(line)?;
     }
     Ok(hex)
@@ -133,7 +133,7 @@ fn written(alloc: Global, tree: &Tree) -> Result<Vec<u8>, Error> {
 #[test]
 fn trees_of_the_examples(rt: HostRuntime) -> Result<(), Fail> {
     let alloc = rt.alloc();
-    let tree = sorted_tree(alloc, &SHA1)?;
+    let tree = sorted_tree(alloc, SHA1)?;
     let out = written(alloc, &tree)?;
     let hex = hex::encode(alloc, out.as_slice())?;
     let wanted = sha1_bytes(alloc)?;
@@ -146,7 +146,7 @@ fn trees_of_the_examples(rt: HostRuntime) -> Result<(), Fail> {
 #[test]
 fn headers_of_the_examples(rt: HostRuntime) -> Result<(), Fail> {
     let alloc = rt.alloc();
-    let tree = sorted_tree(alloc, &SHA1)?;
+    let tree = sorted_tree(alloc, SHA1)?;
     assert!(rt; tree.kind() == Kind::Tree);
     assert!(rt; tree.size() == Some(204));
     let header = tree.loose_header(alloc).ok_or("a header")?;
@@ -157,7 +157,7 @@ fn headers_of_the_examples(rt: HostRuntime) -> Result<(), Fail> {
 #[test]
 fn trees_of_the_examples_in_sha256(rt: HostRuntime) -> Result<(), Fail> {
     let alloc = rt.alloc();
-    let tree = sorted_tree(alloc, &SHA256)?;
+    let tree = sorted_tree(alloc, SHA256)?;
     let out = written(alloc, &tree)?;
     let id = compute_hash(hash::Kind::Sha256, Kind::Tree, &out);
     let wanted = b"b50197883fb00da94cd610867bae1cb42a03a69c9058b0c225a8eeec98c95ba0";
@@ -168,7 +168,7 @@ fn trees_of_the_examples_in_sha256(rt: HostRuntime) -> Result<(), Fail> {
 }
 
 /// The front of an entry as it was read, its name, what is written of it, and all bytes that are.
-const ODD_ENTRIES: [(&str, &str, &str, usize); 5] = [
+const ODD_ENTRIES: &[(&str, &str, &str, usize)] = &[
     ("1100644 a\0", "a", "100644 a\0", 29),
     (" a\0", "a", "0 a\0", 24),
     ("140000 a\0", "a", "040000 a\0", 29),
@@ -196,7 +196,7 @@ fn odd_tree(alloc: Global, front: &str, name: &str) -> Result<Tree, Fail> {
 #[test]
 fn odd_entries(rt: HostRuntime) -> Result<(), Fail> {
     let alloc = rt.alloc();
-    for (front, name, written_front, len) in ODD_ENTRIES {
+    for &(front, name, written_front, len) in ODD_ENTRIES {
         let tree = odd_tree(alloc, front, name)?;
         let out = written(alloc, &tree)?;
         let wanted = odd_text(alloc, written_front)?;
@@ -225,13 +225,13 @@ fn a_thousand_files(rt: HostRuntime) -> Result<(), Fail> {
 /// Three entries. The second and the third have a zero byte in their names.
 fn with_a_zero_byte(alloc: Global) -> Result<Tree, AllocError> {
     let oid = ObjectId::empty_blob(hash::Kind::Sha1);
-    let rows: [(EntryKind, &[u8]); 3] = [
+    let rows: &[(EntryKind, &[u8])] = &[
         (EntryKind::Blob, b"a"),
         (EntryKind::Link, b"b\0c"),
         (EntryKind::Blob, b"d\0"),
     ];
     let mut entries = Vec::new(alloc);
-    for (kind, name) in rows {
+    for &(kind, name) in rows {
         entries.push(entry(alloc, kind.into(), name, oid)?)?;
     }
     Ok(Tree { entries })
@@ -260,7 +260,7 @@ fn names_with_a_zero_byte(rt: HostRuntime) -> Result<(), Fail> {
 #[test]
 fn writers_that_fail(rt: HostRuntime) -> Result<(), Fail> {
     let alloc = rt.alloc();
-    let tree = sorted_tree(alloc, &SHA1)?;
+    let tree = sorted_tree(alloc, SHA1)?;
     let text = written(alloc, &tree)?;
     for room in 0..text.len() {
         let held = Vec::with_capacity(alloc, text.len())?;

@@ -39,7 +39,7 @@ fn extreme_times(rt: HostRuntime) -> Result<(), Fail> {
 
 /// Lines of committers, and when their commits were made: in 1970 where the text is that of no time, as
 /// with white space behind it.
-const MADE: [(&str, (i64, i32)); 4] = [
+const MADE: &[(&str, (i64, i32))] = &[
     ("A <a@b> 1700000001 -0730", (1_700_000_001, -27_000)),
     ("A <a@b> 5 +0100", (5, 3600)),
     ("A <a@b> 5 +0100 ", (0, 0)),
@@ -55,7 +55,7 @@ fn made(alloc: Global, text: &[u8]) -> Result<(i64, i32), Fail> {
 #[test]
 fn times_of_commits(rt: HostRuntime) -> Result<(), Fail> {
     let alloc = rt.alloc();
-    for (line, time) in MADE {
+    for &(line, time) in MADE {
         let text = commit_of(alloc, b"B <b@b> 7 +0000", line.as_bytes())?;
         assert!(rt; made(alloc, &text)? == time, "{line}");
     }
@@ -81,15 +81,27 @@ fn author_without_a_name(rt: HostRuntime) -> Result<(), Fail> {
     Ok(())
 }
 
+/// What is written of the commit of a text.
+fn written_again(alloc: Global, text: &[u8]) -> Result<Vec<u8>, Fail> {
+    let commit = CommitRef::from_bytes(alloc, text, Kind::Sha1)?;
+    Ok(written(alloc, &commit)?)
+}
+
+/// The name of the refusal of the owned commit of a text, and what was written before.
+fn owned_refusal(alloc: Global, text: &[u8]) -> Result<(&'static str, Vec<u8>), Fail> {
+    let commit = CommitRef::from_bytes(alloc, text, Kind::Sha1)?;
+    Ok(refusal(alloc, &commit.into_owned(alloc)?))
+}
+
 /// An author's name with a `>` is read, and written as it stands; an owned author is refused.
 #[test]
 fn author_that_cannot_be_written(rt: HostRuntime) -> Result<(), Fail> {
     let alloc = rt.alloc();
-    let text = commit_by(alloc, b"A> <b> 0 +0000")?;
-    let commit = CommitRef::from_bytes(alloc, &text, Kind::Sha1)?;
-    assert!(rt; commit.author()?.name.as_bytes() == b"A>".as_slice());
-    assert!(rt; written(alloc, &commit)? == text);
-    let (name, out) = refusal(alloc, &commit.into_owned(alloc)?);
+    let line = b"A> <b> 0 +0000".as_slice();
+    let text = commit_by(alloc, line)?;
+    assert!(rt; name_and_line(alloc, &text)? == (b"A>".as_slice(), line));
+    assert!(rt; written_again(alloc, &text)? == text);
+    let (name, out) = owned_refusal(alloc, &text)?;
     assert!(rt; name == "an illegal actor");
     assert!(rt; text.get(..53) == Some(out.as_slice()));
     Ok(())

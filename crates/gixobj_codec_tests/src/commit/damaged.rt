@@ -41,7 +41,7 @@ fn every_prefix(rt: HostRuntime) -> Result<(), Fail> {
 }
 
 /// Lines behind the committer that are no headers.
-const NO_HEADERS: [&str; 7] = [
+const NO_HEADERS: &[&str] = &[
     "x A\n B",
     "x",
     "x\n",
@@ -54,7 +54,7 @@ const NO_HEADERS: [&str; 7] = [
 #[test]
 fn ends_in_no_header(rt: HostRuntime) -> Result<(), Fail> {
     let alloc = rt.alloc();
-    for lines in NO_HEADERS {
+    for &lines in NO_HEADERS {
         let mut text = Vec::from_slice(alloc, FRONT)?;
         text.extend_from_slice(lines.as_bytes())?;
         assert!(rt; is_refused(alloc, &text), "{lines}");
@@ -64,7 +64,7 @@ fn ends_in_no_header(rt: HostRuntime) -> Result<(), Fail> {
 }
 
 /// Commits of which a line is wrong, wanting or at the wrong place.
-const DAMAGED: [&str; 12] = [
+const DAMAGED: &[&str] = &[
     "author A <a@b> 0 +0000\n\
         committer A <a@b> 0 +0000\n\
         \n",
@@ -121,7 +121,7 @@ const DAMAGED: [&str; 12] = [
 #[test]
 fn damaged_lines(rt: HostRuntime) -> Result<(), Fail> {
     let alloc = rt.alloc();
-    for text in DAMAGED {
+    for &text in DAMAGED {
         assert!(rt; is_refused(alloc, text.as_bytes()), "{text}");
         assert!(rt;
             told_behind_an_error(alloc, text.as_bytes()) == Some(0),

@@ -171,7 +171,7 @@ fn is_written_as(
 
 #[test]
 fn without_headers(rt: HostRuntime) -> Result<(), Fail> {
-    for shape in &PLAIN {
+    for shape in PLAIN {
         assert!(rt; is_read(rt.alloc(), shape)?, "{}", shape.name);
         assert!(rt;
             is_written_as(rt.alloc(), shape, shape, shape)?,
@@ -184,7 +184,7 @@ fn without_headers(rt: HostRuntime) -> Result<(), Fail> {
 
 #[test]
 fn with_headers(rt: HostRuntime) -> Result<(), Fail> {
-    for shape in &WITH_HEADERS {
+    for shape in WITH_HEADERS {
         assert!(rt; is_read(rt.alloc(), shape)?, "{}", shape.name);
         assert!(rt;
             is_written_as(rt.alloc(), shape, shape, shape)?,
@@ -197,7 +197,7 @@ fn with_headers(rt: HostRuntime) -> Result<(), Fail> {
 
 #[test]
 fn with_sha256(rt: HostRuntime) -> Result<(), Fail> {
-    for shape in &SHA256 {
+    for shape in SHA256 {
         assert!(rt; is_read(rt.alloc(), shape)?, "{}", shape.name);
         assert!(rt;
             is_written_as(rt.alloc(), shape, shape, shape)?,

@@ -5,7 +5,7 @@ use super::shapes::Shape;
 use gixobj_base::hash::Kind;
 
 /// With further headers.
-pub(super) const WITH_HEADERS: [Shape; 10] = [
+pub(super) const WITH_HEADERS: &[Shape] = &[
     Shape {
         name: "signed",
         hash: Kind::Sha1,
@@ -289,7 +289,7 @@ pub(super) const WITH_HEADERS: [Shape; 10] = [
 ];
 
 /// In a repository made with `--object-format=sha256`.
-pub(super) const SHA256: [Shape; 6] = [
+pub(super) const SHA256: &[Shape] = &[
     Shape {
         name: "example",
         hash: Kind::Sha256,

@@ -76,7 +76,7 @@ fn folded_encoding(rt: HostRuntime) -> Result<(), Fail> {
 }
 
 /// Lines behind the committer, and the value of the first header `x` in them.
-const HEADERS: [(&str, &str); 7] = [
+const HEADERS: &[(&str, &str)] = &[
     ("x A\n", "A"),
     ("x A\n B\n", "A\nB\n"),
     ("x \n", ""),
@@ -96,7 +96,7 @@ fn has_value(alloc: Global, text: &[u8], value: &str) -> Result<bool, Fail> {
 #[test]
 fn headers(rt: HostRuntime) -> Result<(), Fail> {
     let alloc = rt.alloc();
-    for (lines, value) in HEADERS {
+    for &(lines, value) in HEADERS {
         let text = commit_with(alloc, lines.as_bytes())?;
         assert!(rt; has_value(alloc, &text, value)?, "{lines}");
         assert!(rt; are_written(alloc, &text, &text, &text)?, "{lines}");

@@ -22,7 +22,7 @@ pub(super) struct Shape {
 }
 
 /// Without further headers.
-pub(super) const PLAIN: [Shape; 16] = [
+pub(super) const PLAIN: &[Shape] = &[
     Shape {
         name: "example",
         hash: Kind::Sha1,

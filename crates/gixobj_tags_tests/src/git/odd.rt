@@ -5,7 +5,7 @@ use super::Shape;
 use gixobj_base::hash::Kind;
 
 /// Without a tagger, without a message, and by odd taggers.
-pub(super) const ODD: [Shape; 9] = [
+pub(super) const ODD: &[Shape] = &[
     Shape {
         name: "no-body",
         hash: Kind::Sha1,

@@ -5,7 +5,7 @@ use super::Shape;
 use gixobj_base::hash::Kind;
 
 /// Without a signature at a line's start.
-pub(super) const PLAIN: [Shape; 17] = [
+pub(super) const PLAIN: &[Shape] = &[
     Shape {
         name: "example",
         hash: Kind::Sha1,

@@ -5,7 +5,7 @@ use super::Shape;
 use gixobj_base::hash::Kind;
 
 /// With ids of SHA-256.
-pub(super) const SHA256: [Shape; 9] = [
+pub(super) const SHA256: &[Shape] = &[
     Shape {
         name: "example",
         hash: Kind::Sha256,

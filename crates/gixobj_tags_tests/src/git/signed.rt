@@ -4,7 +4,7 @@ use super::Shape;
 use gixobj_base::hash::Kind;
 
 /// Signed in each format, and with markers of signatures in the message.
-pub(super) const SIGNED: [Shape; 10] = [
+pub(super) const SIGNED: &[Shape] = &[
     Shape {
         name: "signed",
         hash: Kind::Sha1,

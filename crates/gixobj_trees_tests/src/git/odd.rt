@@ -5,7 +5,7 @@ use super::Shape;
 use gixobj_base::hash::Kind;
 
 /// With other modes or names, not in order, or with a name twice. Each mode has the digits that are written.
-pub(crate) const ODD: [Shape; 10] = [
+pub(crate) const ODD: &[Shape] = &[
     Shape {
         name: "file-and-directory",
         hash: Kind::Sha1,

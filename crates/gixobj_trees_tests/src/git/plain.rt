@@ -5,7 +5,7 @@ use super::Shape;
 use gixobj_base::hash::Kind;
 
 /// With the modes of git, each name once, and in order.
-pub(crate) const PLAIN: [Shape; 24] = [
+pub(crate) const PLAIN: &[Shape] = &[
     Shape {
         name: "example",
         hash: Kind::Sha1,

@@ -5,7 +5,7 @@ use super::Shape;
 use gixobj_base::hash::Kind;
 
 /// Each mode has the digits that are written.
-pub(crate) const SHA256: [Shape; 8] = [
+pub(crate) const SHA256: &[Shape] = &[
     Shape {
         name: "example",
         hash: Kind::Sha256,
