@@ -1,11 +1,11 @@
--- What an edit makes of the entries of a directory, and which edits are refused.
-use Rattle.std.specs.Prelude.{ℕ, Bool, not, List, [], ◌∷◌, ◌++◌, nat_eq}
-use Rattle.std.specs.List.{filter}
+-- What an edit makes of the entries of a directory.
+use Rattle.std.specs.Prelude.{ℕ, Bool, not, ◌&&◌, List, ◌∷◌, ◌++◌, nat_eq}
+use Rattle.std.specs.List.{filter, list_any}
 use Rattle.std.specs.Cmp.Lexicographic.{pointwise, slice_cmp}
 use Rattle.std.specs.Ordering.{is_lt, nat_cmp}
-use Rattle.gixobj_base.specs.Entries.{EntryView, entry_key}
-use Rattle.gixobj_base.specs.ids.hash.object_id.ObjectId.{ObjectId}
-use Rattle.gix_object.specs.Files.{Path, is_null}
+use Rattle.gixobj_trees.specs.Entries.{EntryView, entry_key}
+use Rattle.gixobj_trees.specs.Mode.{is_tree_mode}
+use Rattle.gixobj_files.specs.Files.{is_null}
 
 abbrev pub same_name : List ℕ → List ℕ → Bool
 same_name = pointwise nat_eq
@@ -25,12 +25,6 @@ with_entry x entries = filter (λ e. comes_before e x) (without x.name entries) 
 abbrev pub kept : List EntryView → List EntryView
 kept entries = filter (λ e. not (is_null e.id)) entries
 
--- an upsert at a path of at most one name
-abbrev pub upserted_entries : Path → ℕ → ObjectId → List EntryView → List EntryView
-upserted_entries [] mode id entries = entries
-upserted_entries (name ∷ path) mode id entries = with_entry (record { mode = mode; name = name; id = id }) entries
-
--- a removal at a path of at most one name
-abbrev pub removed_entries : Path → List EntryView → List EntryView
-removed_entries [] entries = entries
-removed_entries (name ∷ path) entries = without name entries
+-- the list has a tree's entry of this name
+abbrev pub has_tree : List ℕ → List EntryView → Bool
+has_tree name entries = list_any (λ e. same_name e.name name && is_tree_mode e.mode) entries

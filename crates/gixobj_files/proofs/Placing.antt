@@ -5,11 +5,11 @@ use Rattle.std.specs.List.{AllByRecursion, filter, insert, prefix_len}
 use Rattle.std.specs.Ordering.{is_lt}
 use Rattle.std.proofs.lemmas.Bool.{false_from_ne_true}
 use Rattle.std.proofs.lemmas.List.Elements.{All-from_recursion}
-use Rattle.gixobj_base.specs.Entries.{ComesBefore, EachLater, EntryView, IsEntryName}
-use Rattle.gixobj_base.specs.Parse.{IsFree}
-use Rattle.gix_object.specs.Editing.{comes_before, same_name, with_entry, without}
-use Rattle.gix_object.proofs.KeyOrder.{before_passing, before_trans}
-use Rattle.gix_object.proofs.Sublists.{all_kept, all_weaker, later_kept}
+use Rattle.gixobj_trees.specs.Entries.{ComesBefore, EachLater, EntryView, IsEntryName}
+use Rattle.gixobj_texts.specs.Parse.{IsFree}
+use Rattle.gixobj_files.specs.Editing.{comes_before, same_name, with_entry, without}
+use Rattle.gixobj_files.proofs.KeyOrder.{before_passing, before_trans}
+use Rattle.gixobj_files.proofs.Sublists.{all_kept, all_weaker, later_kept}
 
 none_before : (x e : EntryView) (es : List EntryView) → comes_before e x ≡ false → AllByRecursion (ComesBefore e) es
     → (filter (λ y. comes_before y x) es ≡ []) × (filter (λ y. not (comes_before y x)) es ≡ es)

@@ -6,13 +6,13 @@ use Rattle.std.specs.FinMap as map
 use Rattle.std.specs.List.{AllByRecursion, filter}
 use Rattle.std.specs.Ordering.{is_eq, nat_cmp}
 use Rattle.std.proofs.lemmas.Cmp.{lists_total, nat_list_cmp_total}
-use Rattle.gixobj_base.specs.Entries.{ComesBefore, EachLater, EntryView, IsEntryName, IsWellFormed}
-use Rattle.gix_object.specs.Editing.{comes_before, kept, same_name, with_entry, without}
-use Rattle.gix_object.specs.Files.{Path, is_null}
-use Rattle.gix_object.specs.Opening.{IsOpened}
-use Rattle.gix_object.specs.State.{root_alone}
-use Rattle.gix_object.proofs.KeyOrder.{before_other, before_passing, before_trans}
-use Rattle.gix_object.proofs.Sublists.{all_append, all_both, all_kept, all_pass, all_weaker, later_append, later_kept, later_parted}
+use Rattle.gixobj_trees.specs.Entries.{ComesBefore, EachLater, EntryView, IsEntryName, IsWellFormed}
+use Rattle.gixobj_files.specs.Editing.{comes_before, kept, same_name, with_entry, without}
+use Rattle.gixobj_files.specs.Files.{Path, is_null}
+use Rattle.gixobj_files.specs.Opening.{IsOpened}
+use Rattle.gixobj_files.specs.State.{root_alone}
+use Rattle.gixobj_files.proofs.KeyOrder.{before_other, before_passing, before_trans}
+use Rattle.gixobj_files.proofs.Sublists.{all_append, all_both, all_kept, all_pass, all_weaker, later_append, later_kept, later_parted}
 
 -- any sublist that a test keeps
 pub well_formed_filtered : (p : EntryView → Bool) (es : List EntryView) → IsWellFormed es → IsWellFormed (filter p es)

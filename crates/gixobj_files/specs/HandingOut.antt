@@ -1,13 +1,10 @@
 -- The trees that a write hands out, with the ids that they get.
 use Rattle.std.specs.Prelude.{◌≡◌, List, [], ◌∷◌, ◌++◌, Some, None, if◌then◌else◌}
-use Rattle.gixobj_base.specs.Entries.{EntryView}
-use Rattle.gixobj_base.specs.ids.hash.object_id.ObjectId.{ObjectId}
-use Rattle.gix_object.specs.Files.{is_null}
-use Rattle.gix_object.specs.Opening.{Dirs, in_dir}
-
--- an id and the tree that got it
-abbrev pub Pair : Type 0
-Pair = ObjectId × List EntryView
+use Rattle.gixobj_trees.specs.Entries.{EntryView}
+use Rattle.gixobj_ids.specs.declared.hash.object_id.ObjectId.{ObjectId}
+use Rattle.gixobj_files.specs.Files.{is_null}
+use Rattle.gixobj_files.specs.Opening.{Dirs, in_dir}
+use Rattle.gixobj_files.specs.Tables.{Pair}
 
 -- the entry with this id; no entry with a null id is handed out
 abbrev pub entry_with : EntryView → ObjectId → List EntryView

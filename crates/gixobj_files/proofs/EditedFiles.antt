@@ -1,18 +1,19 @@
--- The files of edited entries: of an entry put in, of entries taken out, and of the entries that are kept; and the same
--- where the root alone is open.
+-- The files of edited entries: of an entry put in, of entries taken out, and of the entries that are kept; and those of a root
+-- that is open alone.
 use Rattle.std.proofs.Common.{◌≡◌, ◌≢◌, ◌⊎◌, inl, inr, ⊎_elim, ℕ, zero, suc, ◌-◌, ◌≤◌, Bool, true, false, not, cond, List, [], ◌∷◌, ◌++◌, length, refl, sym, ap, subst, ◌∙◌, arith, Option, Some, None}
 use Rattle.std.specs.Prelude.{MatchOption}
 use Rattle.std.specs.List.{filter}
 use Rattle.std.specs.Cmp.Lexicographic.{bytes_decides, lists_total, nat_list_cmp_total, slice_cmp}
 use Rattle.std.specs.Ordering.{nat_cmp}
 use Rattle.std.specs.FinMap as map
-use Rattle.gixobj_base.specs.Entries.{EntryView}
-use Rattle.gixobj_base.specs.ids.hash.object_id.ObjectId.{ObjectId}
-use Rattle.gix_object.specs.Editing.{comes_before, kept, removed_entries, same_name, upserted_entries, with_entry, without}
-use Rattle.gix_object.specs.Files.{Below, FileSet, Files, Has, NamedFiles, Path, Removed, SameFiles, Table, Upserted, is_null}
-use Rattle.gix_object.specs.HandingOut.{HandsOut, Walks, end, leaves, shut}
-use Rattle.gix_object.specs.Opening.{Dirs, HasAt, OpenFiles, in_dir}
-use Rattle.gix_object.specs.State.{root_alone}
+use Rattle.gixobj_trees.specs.Entries.{EntryView}
+use Rattle.gixobj_ids.specs.declared.hash.object_id.ObjectId.{ObjectId}
+use Rattle.gixobj_files.specs.Editing.{comes_before, kept, same_name, with_entry, without}
+use Rattle.gixobj_files.specs.Files.{Below, FileSet, Files, Has, NamedFiles, Path, Removed, SameFiles, Table, Upserted, is_null}
+use Rattle.gixobj_files.specs.HandingOut.{HandsOut, Walks, end, leaves, shut}
+use Rattle.gixobj_files.specs.Opening.{Dirs, HasAt, OpenFiles, in_dir}
+use Rattle.gixobj_files.specs.State.{root_alone}
+use Rattle.gixobj_files.proofs.OpenedFiles.{root_only}
 
 -- what an appended list has
 pub Has-append : (xs ys : List EntryView) (e : EntryView) → Has (xs ++ ys) e → Has xs e ⊎ Has ys e
@@ -145,51 +146,5 @@ root_open es = map.get-insert (lists_total nat_list_cmp_total) map.empty [] es [
 pub root_shut : (es : List EntryView) (name : List ℕ) (path : Path) → map.get (root_alone es) (name ∷ path) ≡ None
 root_shut es name path = map.get-insert (lists_total nat_list_cmp_total) map.empty [] es (name ∷ path) ∙ map.get-empty (slice_cmp (slice_cmp nat_cmp)) (name ∷ path)
 
-alone : (T : Table) (n : ℕ) (dirs : Dirs) (es : List EntryView) → dirs [] ≡ Some es → ((name : List ℕ) → dirs (name ∷ []) ≡ None) → SameFiles (OpenFiles T n dirs) (Files T n es)
-alone T zero dirs es root closed path mode id = ((λ h. absurd h), λ h. absurd h)
-alone T (suc n) dirs es root closed [] mode id = ((λ h. absurd h), λ h. absurd h)
-alone T (suc n) dirs es root closed (name ∷ path) mode id =
-    let At : EntryView → Option (List EntryView) → Type 0 = λ e o. MatchOption o (Below T (Files T n) e.mode e.id path mode id) (λ _. OpenFiles T n (in_dir name dirs) path mode id) in (
-      (λ h. (h.0, subst (λ o. HasAt o h.0) root h.1, h.2, subst (At h.0) (closed name) h.3)),
-      λ h. (h.0, subst (λ o. HasAt o h.0) (sym root) h.1, h.2, subst (At h.0) (sym (closed name)) h.3),
-    )
-
 pub root_files : (T : Table) (n : ℕ) (es : List EntryView) → SameFiles (OpenFiles T n (λ path. map.get (root_alone es) path)) (Files T n es)
-root_files T n es = alone T n (λ path. map.get (root_alone es) path) es (root_open es) (λ name. root_shut es name [])
-
-pub upserted_open : (T : Table) (n : ℕ) (path : Path) (mode : ℕ) (id : ObjectId) (es : List EntryView) → length path ≤ 1
-    → SameFiles (OpenFiles T n (λ p. map.get (root_alone (upserted_entries path mode id es)) p)) (Upserted T n path mode id (OpenFiles T n (λ p. map.get (root_alone es) p)))
-upserted_open T n [] mode id es short = same_refl _
-upserted_open T n (name ∷ []) mode id es short =
-    let x : EntryView = record { mode = mode; name = name; id = id } in
-    same_trans _ _ _ (root_files T n (with_entry x es)) (same_trans _ _ _ (files_put T n x es) (same_upserted T n (name ∷ []) mode id _ _ (same_sym _ _ (root_files T n es))))
-upserted_open T n (name ∷ next ∷ path) mode id es short = absurd (omega (arith, short))
-
-pub removed_open : (T : Table) (n : ℕ) (path : Path) (es : List EntryView) → length path ≤ 1
-    → SameFiles (OpenFiles T n (λ p. map.get (root_alone (removed_entries path es)) p)) (Removed path (OpenFiles T n (λ p. map.get (root_alone es) p)))
-removed_open T n [] es short = same_refl _
-removed_open T n (name ∷ []) es short =
-    same_trans _ _ _ (root_files T n (without name es)) (same_trans _ _ _ (files_without T n name es) (same_removed (name ∷ []) _ _ (same_sym _ _ (root_files T n es))))
-removed_open T n (name ∷ next ∷ path) es short = absurd (omega (arith, short))
-
-pub kept_open : (T : Table) (n : ℕ) (es : List EntryView) → SameFiles (OpenFiles T n (λ p. map.get (root_alone (kept es)) p)) (OpenFiles T n (λ p. map.get (root_alone es) p))
-kept_open T n es = same_trans _ _ _ (root_files T n (kept es)) (same_trans _ _ _ (files_kept T n es) (same_sym _ _ (root_files T n es)))
-
-pub named_root : (T : Table) (n : ℕ) (id : ObjectId) (es : List EntryView) → T.tree_at id ≡ Some (kept es) → SameFiles (NamedFiles T n id) (OpenFiles T n (λ p. map.get (root_alone es) p))
-named_root T n id es known =
-    let Named : Option (List EntryView) → FileSet = λ o path mode id'. MatchOption o ⊥ (λ entries. Files T n entries path mode id') in
-    subst (λ o. SameFiles (Named o) (OpenFiles T n (λ p. map.get (root_alone es) p))) (sym known) (same_trans _ _ _ (files_kept T n es) (same_sym _ _ (root_files T n es)))
-
--- a write hands out the root alone
-put_first : (b : Bool) (e : EntryView) (es : List EntryView) → cond b [] (e ∷ []) ++ es ≡ cond (not b) (e ∷ es) es
-put_first true e es = refl
-put_first false e es = refl
-
-walk : (dirs : Dirs) → ((name : List ℕ) → dirs (name ∷ []) ≡ None) → (es : List EntryView) → Walks dirs es [] (kept es)
-walk dirs closed [] = end dirs
-walk dirs closed (e ∷ es) = subst (Walks dirs (e ∷ es) []) (put_first (is_null e.id) e (kept es)) (shut dirs e es [] (kept es) (closed e.name) (walk dirs closed es))
-
-pub hands_out_root : (es : List EntryView) (id : ObjectId) → HandsOut (λ p. map.get (root_alone es) p) ((id, kept es) ∷ [])
-hands_out_root es id =
-    let dirs : Dirs = λ p. map.get (root_alone es) p in
-    ([], id, kept es, leaves dirs es [] (kept es) (root_open es) (walk dirs (λ name. root_shut es name []) es), refl)
+root_files T n es = root_only T n (λ path. map.get (root_alone es) path) es (root_open es) (λ name. root_shut es name [])

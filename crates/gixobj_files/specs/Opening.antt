@@ -1,8 +1,8 @@
 -- The open directories of an editor, and its files.
 use Rattle.std.specs.Prelude.{◌≡◌, ◌≢◌, ℕ, zero, suc, List, [], ◌∷◌, ◌++◌, IsTrue, MatchOption, Option, Some, None}
-use Rattle.gixobj_base.specs.Entries.{EntryView, IsWellFormed}
-use Rattle.gixobj_base.specs.Mode.{is_tree_mode}
-use Rattle.gix_object.specs.Files.{Below, FileSet, Files, Has, Path, Table}
+use Rattle.gixobj_trees.specs.Entries.{EntryView, IsWellFormed}
+use Rattle.gixobj_trees.specs.Mode.{is_tree_mode}
+use Rattle.gixobj_files.specs.Files.{Below, FileSet, Files, Has, Path, Table}
 
 -- the entries of each open directory, by its path
 abbrev pub Dirs : Type 0

@@ -4,9 +4,9 @@ use Rattle.std.specs.Prelude.{◌==◌, IsTrue}
 use Rattle.std.proofs.lemmas.Bool.{eq-eqb, eqb-true, false_from_ne_true}
 use Rattle.std.proofs.lemmas.List.Elements.{All-weaker}
 use Rattle.std.proofs.lemmas.List.Sums.{AllPass-from_list_all, list_all-from_AllPass}
-use Rattle.gixobj_base.specs.Hash.{IsNull, id_bytes}
-use Rattle.gixobj_base.specs.ids.hash.object_id.ObjectId.{ObjectId}
-use Rattle.gix_object.specs.Files.{is_null}
+use Rattle.gixobj_ids.specs.Hash.{IsNull, id_bytes}
+use Rattle.gixobj_ids.specs.declared.hash.object_id.ObjectId.{ObjectId}
+use Rattle.gixobj_files.specs.Files.{is_null}
 
 pub null_passes : (id : ObjectId) → IsNull id → is_null id ≡ true
 null_passes id null = list_all-from_AllPass (λ byte. byte == 0) (id_bytes id) (All-weaker (λ byte. byte ≡ 0) (λ byte. (byte == 0) ≡ true) (λ byte zero. eq-eqb byte 0 zero) (id_bytes id) null)

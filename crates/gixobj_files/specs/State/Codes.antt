@@ -2,12 +2,12 @@
 use Rattle.std.specs.Prelude.{◌≡◌, refl, ℕ, Bool, true, false, List}
 use Rattle.std.specs.FinMap as map
 use Rattle.std.specs.Coded.{Coded, code_by, coded×, coded_bool, coded_list, coded_ℕ}
-use Rattle.gixobj_base.specs.Entries.{EntryView}
-use Rattle.gixobj_base.specs.ids.hash.kind.Kind.{Kind}
-use Rattle.gixobj_base.specs.ids.hash.kind.Kind.TheVariants as hash
-use Rattle.gixobj_base.specs.ids.hash.object_id.ObjectId.{ObjectId}
-use Rattle.gixobj_base.specs.ids.hash.object_id.ObjectId.TheVariants as id
-use Rattle.gix_object.specs.State.{DirMap, State}
+use Rattle.gixobj_trees.specs.Entries.{EntryView}
+use Rattle.gixobj_ids.specs.declared.hash.kind.Kind.{Kind}
+use Rattle.gixobj_ids.specs.declared.hash.kind.Kind.TheVariants as hash
+use Rattle.gixobj_ids.specs.declared.hash.object_id.ObjectId.{ObjectId}
+use Rattle.gixobj_ids.specs.declared.hash.object_id.ObjectId.TheVariants as id
+use Rattle.gixobj_files.specs.State.{DirMap, State}
 
 abbrev pub is_sha1 : Kind → Bool
 is_sha1 hash.Sha1 = true

@@ -1,0 +1,17 @@
+pub mod EditedFiles
+pub mod Formed
+pub mod HasTrees
+pub mod KeyOrder
+pub mod ListedTables
+pub mod Namesakes
+pub mod NullIds
+pub mod OpenedFiles
+pub mod OpeningFiles
+pub mod Placing
+pub mod RemovedFiles
+pub mod StillOpened
+pub mod StillOpenedOpenings
+pub mod StillOpenedRemovals
+pub mod Sublists
+pub mod UpsertedFiles
+pub mod WrittenFiles

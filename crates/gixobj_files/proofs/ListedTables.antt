@@ -1,0 +1,183 @@
+-- Tables that have chosen trees: those of a list, of a store, and of both.
+use Rattle.std.proofs.Common.{All, ◌≡◌, ◌≢◌, ◌⊎◌, inl, inr, ⊎_elim, ℕ, Bool, true, false, List, [], ◌∷◌, ◌∙◌, refl, sym, ap, subst, Option, Some, None}
+use Rattle.std.specs.Cmp.Lexicographic.{bytes_decides}
+use Rattle.std.specs.Fmt.{digits}
+use Rattle.std.specs.List.{AllByRecursion}
+use Rattle.std.proofs.lemmas.List.Elements.{All-from_recursion, recursion_from_All}
+use Rattle.sha1.specs.Sha1 as sha1
+use Rattle.sha2.specs.Sha256 as sha256
+use Rattle.gixobj_trees.specs.Entries.{EntryView}
+use Rattle.gixobj_ids.specs.Hash.{id_kind, id_of}
+use Rattle.gixobj_ids.specs.declared.hash.kind.Kind.{Kind}
+use Rattle.gixobj_ids.specs.declared.hash.kind.Kind.TheVariants as hash
+use Rattle.gixobj_ids.specs.declared.hash.object_id.ObjectId.{ObjectId}
+use Rattle.gixobj_ids.specs.declared.hash.object_id.ObjectId.TheVariants as id
+use Rattle.gixobj_ids.specs.declared.kind.Kind.TheVariants.{Tree}
+use Rattle.gixobj_files.specs.Editing.{same_name}
+use Rattle.gixobj_files.specs.Files.{Table, Trees, is_null}
+use Rattle.gixobj_files.specs.Tables.{AgreesWithPairs, AgreesWithStore, FitsBeside, IsEmptyId, IsFirst, IsOwnTable, IsTableOf, Pair}
+
+-- the ids of the empty tree, computed, aren't null
+sha1_not_null : is_null (id_of hash.Sha1 Tree []) ≡ false
+unfolding digits sha1.first_words sha1.schedule sha1.rounds sha1.compress sha1.hash_after sha1.digest_bytes sha1.sha1
+sha1_not_null = refl
+
+sha256_not_null : is_null (id_of hash.Sha256 Tree []) ≡ false
+unfolding digits sha256.first_words sha256.schedule sha256.rounds sha256.compress sha256.hash_after sha256.digest_bytes sha256.sha256
+sha256_not_null = refl
+
+empty_not_null : (hash : Kind) → is_null (id_of hash Tree []) ≡ false
+empty_not_null hash.Sha1 = sha1_not_null
+empty_not_null hash.Sha256 = sha256_not_null
+
+-- two ids are the same, or not
+same_bytes : (xs ys : List ℕ) → (xs ≡ ys) ⊎ (xs ≢ ys)
+same_bytes xs ys = elim (same_name xs ys) as (λ b. same_name xs ys ≡ b → (xs ≡ ys) ⊎ (xs ≢ ys)) [
+  | true ↦ λ passes. inl ((bytes_decides xs ys).0 passes)
+  | false ↦ λ fails. inr (λ same. cc ((bytes_decides xs ys).1 same, fails))
+] refl
+
+same_ids : (x y : ObjectId) → (x ≡ y) ⊎ (x ≢ y)
+same_ids (id.Sha1 xs) (id.Sha1 ys) = ⊎_elim (λ same. inl (ap id.Sha1 same)) (λ other. inr (λ same. other (cc same))) (same_bytes xs ys)
+same_ids (id.Sha1 xs) (id.Sha256 ys) = inr (λ same. cc same)
+same_ids (id.Sha256 xs) (id.Sha1 ys) = inr (λ same. cc same)
+same_ids (id.Sha256 xs) (id.Sha256 ys) = ⊎_elim (λ same. inl (ap id.Sha256 same)) (λ other. inr (λ same. other (cc same))) (same_bytes xs ys)
+
+abbrev IsEmpty : ObjectId → Type 0
+IsEmpty it = (hash : Kind) × (it ≡ id_of hash Tree [])
+
+abbrev IsFilled : ObjectId → Type 0
+IsFilled it = (hash : Kind) → it ≢ id_of hash Tree []
+
+filled : (it : ObjectId) → it ≢ id_of hash.Sha1 Tree [] → it ≢ id_of hash.Sha256 Tree [] → IsFilled it
+filled it one other hash.Sha1 = one
+filled it one other hash.Sha256 = other
+
+empty_or_filled : (it : ObjectId) → IsEmpty it ⊎ IsFilled it
+empty_or_filled it =
+    ⊎_elim (λ is. inl (hash.Sha1, is)) (λ one. ⊎_elim (λ is. inl (hash.Sha256, is)) (λ other. inr (filled it one other)) (same_ids it (id_of hash.Sha256 Tree []))) (same_ids it (id_of hash.Sha1 Tree []))
+
+-- a table of chosen trees; the null ids and those of the empty tree are as in every table
+module _ (choose : Trees) where
+  abbrev chosen : (it : ObjectId) → IsEmpty it ⊎ IsFilled it → Option (List EntryView)
+  chosen it (inl is) = Some []
+  chosen it (inr is) = choose it
+
+  abbrev chosen_at : ObjectId → Bool → Option (List EntryView)
+  chosen_at it true = None
+  chosen_at it false = chosen it (empty_or_filled it)
+
+  chosen_empty : (hash : Kind) (which : IsEmpty (id_of hash Tree []) ⊎ IsFilled (id_of hash Tree [])) → chosen (id_of hash Tree []) which ≡ Some []
+  chosen_empty hash (inl is) = refl
+  chosen_empty hash (inr is) = absurd (is hash refl)
+
+  chosen_filled : (it : ObjectId) → IsFilled it → (which : IsEmpty it ⊎ IsFilled it) → chosen it which ≡ choose it
+  chosen_filled it other (inl is) = absurd (other is.0 is.1)
+  chosen_filled it other (inr is) = refl
+
+  abbrev chosen_table : Table
+  chosen_table = record {
+    tree_at = λ it. chosen_at it (is_null it);
+    none_by_null = λ it null. ap (chosen_at it) null;
+    none_in_empty = λ hash. ap (chosen_at (id_of hash Tree [])) (empty_not_null hash) ∙ chosen_empty hash (empty_or_filled (id_of hash Tree []));
+  }
+
+  chooses : (it : ObjectId) → is_null it ≡ false → IsFilled it → chosen_table.tree_at it ≡ choose it
+  chooses it some other = ap (chosen_at it) some ∙ chosen_filled it other (empty_or_filled it)
+
+first_of : (pairs : List Pair) (it : ObjectId) → (found : Option (List EntryView)) × IsFirst pairs it found
+first_of [] it = (None, refl)
+first_of (pair ∷ pairs) it = ⊎_elim (λ same. (Some pair.1, inl (same, refl))) (λ other. let rest = first_of pairs it in (rest.0, inr (other, rest.1))) (same_ids pair.0 it)
+
+pub table_of : (pairs : List Pair) → (T : Table) × IsTableOf T pairs
+table_of pairs =
+    let choose : Trees = λ it. (first_of pairs it).0 in
+    (chosen_table choose, λ it some other. subst (IsFirst pairs it) (sym (chooses choose it some other)) (first_of pairs it).1)
+
+-- an id that is neither null nor an empty tree's
+filled_id : (it : ObjectId) → (IsEmptyId it → ⊥) → is_null it ≡ false
+filled_id it sought = elim (is_null it) as (λ b. is_null it ≡ b → b ≡ false) [ true ↦ λ null. absurd (sought (inl null)) | false ↦ λ some. refl ] refl
+
+kind_of_empty : (hash : Kind) → id_kind (id_of hash Tree []) ≡ hash
+kind_of_empty hash.Sha1 = refl
+kind_of_empty hash.Sha256 = refl
+
+no_empty_id : (it : ObjectId) → (IsEmptyId it → ⊥) → IsFilled it
+no_empty_id it sought hash is = sought (inr (is ∙ ap (λ (h : Kind). id_of h Tree []) (sym (ap id_kind is ∙ kind_of_empty hash))))
+
+pub own_table : (trees : Trees) → (T : Table) × IsOwnTable T trees
+own_table trees = (chosen_table trees, λ it sought. chooses trees it (filled_id it sought) (no_empty_id it sought))
+
+-- the pair is one of the list
+abbrev IsIn : List Pair → Pair → Type 0
+IsIn [] pair = ⊥
+IsIn (first ∷ pairs) pair = (first ≡ pair) ⊎ IsIn pairs pair
+
+of_each : (P : Pair → Type 0) (pairs : List Pair) → AllByRecursion P pairs → (pair : Pair) → IsIn pairs pair → P pair
+of_each P [] all pair h = absurd h
+of_each P (first ∷ pairs) all pair (inl same) = subst P same all.0
+of_each P (first ∷ pairs) all pair (inr h) = of_each P pairs all.1 pair h
+
+each_of : (P : Pair → Type 0) (pairs : List Pair) → ((pair : Pair) → IsIn pairs pair → P pair) → AllByRecursion P pairs
+each_of P [] all = tt
+each_of P (first ∷ pairs) all = (all first (inl refl), each_of P pairs (λ pair h. all pair (inr h)))
+
+-- what the first pair of an id has is what some pair of it has
+abbrev IsTold : List Pair → ObjectId → Option (List EntryView) → Type 0
+IsTold pairs it found = ((found ≡ None) × ((pair : Pair) → IsIn pairs pair → pair.0 ≢ it)) ⊎ ((pair : Pair) × IsIn pairs pair × (pair.0 ≡ it) × (found ≡ Some pair.1))
+
+told : (pairs : List Pair) (it : ObjectId) (found : Option (List EntryView)) → IsFirst pairs it found → IsTold pairs it found
+told [] it found none = inl (none, λ pair h. absurd h)
+told (first ∷ pairs) it found (inl is) = inr (first, inl refl, is.0, is.1)
+told (first ∷ pairs) it found (inr (other, rest)) = behind (told pairs it found rest)
+  where
+    differs : ((pair : Pair) → IsIn pairs pair → pair.0 ≢ it) → (pair : Pair) → IsIn (first ∷ pairs) pair → pair.0 ≢ it
+    differs none pair (inl same) = λ is. other (ap (λ (p : Pair). p.0) same ∙ is)
+    differs none pair (inr h) = none pair h
+
+    behind : IsTold pairs it found → IsTold (first ∷ pairs) it found
+    behind (inl none) = inl (none.0, differs none.1)
+    behind (inr some) = inr (some.0, inr some.1, some.2, some.3)
+
+module _ (pairs : List Pair) (trees : Trees) (fits : FitsBeside pairs trees) where
+  abbrev or_the_store : ObjectId → Option (List EntryView) → Option (List EntryView)
+  or_the_store it None = trees it
+  or_the_store it (Some entries) = Some entries
+
+  abbrev either : Trees
+  either it = or_the_store it (first_of pairs it).0
+
+  filled_pair : (pair : Pair) → IsIn pairs pair → is_null pair.0 ≡ false
+  filled_pair = of_each (λ pair. is_null pair.0 ≡ false) pairs (recursion_from_All (λ pair. is_null pair.0 ≡ false) pairs fits.filled)
+
+  empty_pair : (pair : Pair) → IsIn pairs pair → (hash : Kind) → pair.0 ≡ id_of hash Tree [] → pair.1 ≡ []
+  empty_pair = of_each (λ pair. (hash : Kind) → pair.0 ≡ id_of hash Tree [] → pair.1 ≡ []) pairs (recursion_from_All (λ pair. (hash : Kind) → pair.0 ≡ id_of hash Tree [] → pair.1 ≡ []) pairs fits.empty)
+
+  same_tree : (pair : Pair) → IsIn pairs pair → (other : Pair) → IsIn pairs other → other.0 ≡ pair.0 → other.1 ≡ pair.1
+  same_tree pair h other =
+      of_each (λ other. other.0 ≡ pair.0 → other.1 ≡ pair.1) pairs (recursion_from_All (λ other. other.0 ≡ pair.0 → other.1 ≡ pair.1) pairs
+      (of_each (λ (pair : Pair). All (λ other. other.0 ≡ pair.0 → other.1 ≡ pair.1) pairs) pairs (recursion_from_All (λ (pair : Pair). All (λ other. other.0 ≡ pair.0 → other.1 ≡ pair.1) pairs) pairs fits.one_tree) pair h)) other
+
+  store_tree : (pair : Pair) → IsIn pairs pair → (entries : List EntryView) → trees pair.0 ≡ Some entries → entries ≡ pair.1
+  store_tree = of_each (λ pair. (entries : List EntryView) → trees pair.0 ≡ Some entries → entries ≡ pair.1) pairs (recursion_from_All (λ pair. (entries : List EntryView) → trees pair.0 ≡ Some entries → entries ≡ pair.1) pairs fits.of_the_store)
+
+  -- at the id of a pair
+  either_pair : (pair : Pair) → IsIn pairs pair → (found : Option (List EntryView)) → IsTold pairs pair.0 found → or_the_store pair.0 found ≡ Some pair.1
+  either_pair pair h found (inl none) = absurd (none.1 pair h refl)
+  either_pair pair h found (inr some) = ap (or_the_store pair.0) some.3 ∙ ap Some (same_tree pair h some.0 some.1 some.2)
+
+  -- at an id that the store names
+  either_store : (it : ObjectId) (entries : List EntryView) → trees it ≡ Some entries → (found : Option (List EntryView)) → IsTold pairs it found → or_the_store it found ≡ Some entries
+  either_store it entries is found (inl none) = ap (or_the_store it) none.0 ∙ is
+  either_store it entries is found (inr some) = ap (or_the_store it) some.3 ∙ ap Some (sym (store_tree some.0 some.1 entries (ap trees some.2 ∙ is)))
+
+  at_pair : (pair : Pair) → IsIn pairs pair → (which : IsEmpty pair.0 ⊎ IsFilled pair.0) → (chosen_table either).tree_at pair.0 ≡ Some pair.1
+  at_pair pair h (inl is) = ap (chosen_table either).tree_at is.1 ∙ (chosen_table either).none_in_empty is.0 ∙ ap Some (sym (empty_pair pair h is.0 is.1))
+  at_pair pair h (inr other) = chooses either pair.0 (filled_pair pair h) other ∙ either_pair pair h (first_of pairs pair.0).0 (told pairs pair.0 (first_of pairs pair.0).0 (first_of pairs pair.0).1)
+
+  pub fitting_table : (T : Table) × AgreesWithStore T trees × AgreesWithPairs T pairs
+  fitting_table = (
+    chosen_table either,
+    (λ it entries sought is. chooses either it (filled_id it sought) (no_empty_id it sought) ∙ either_store it entries is (first_of pairs it).0 (told pairs it (first_of pairs it).0 (first_of pairs it).1)),
+    All-from_recursion (λ pair. (chosen_table either).tree_at pair.0 ≡ Some pair.1) pairs (each_of (λ pair. (chosen_table either).tree_at pair.0 ≡ Some pair.1) pairs (λ pair h. at_pair pair h (empty_or_filled pair.0))),
+  )

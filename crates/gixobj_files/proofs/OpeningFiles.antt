@@ -1,0 +1,91 @@
+-- Opening directories as what their ids stand for changes no file, and then an edit at the path may be made.
+use Rattle.std.proofs.Common.{◌≡◌, ◌≢◌, inl, inr, ℕ, zero, suc, false, cond, List, [], ◌∷◌, ◌++◌, refl, sym, ap, subst, ◌∙◌, Option, Some, None}
+use Rattle.gixobj_trees.specs.Entries.{EntryView}
+use Rattle.gixobj_trees.specs.Mode.{is_tree_mode}
+use Rattle.gixobj_ids.specs.Hash.{id_kind}
+use Rattle.gixobj_ids.specs.declared.hash.object_id.ObjectId.{ObjectId}
+use Rattle.gixobj_files.specs.Edits.{Finds, Opens, arrived, down, found, only, stops, with_dir}
+use Rattle.gixobj_files.specs.Files.{Below, Files, Path, SameFiles, Table, Trees}
+use Rattle.gixobj_files.specs.Opening.{Dirs, HasAt, OpenFiles, in_dir}
+use Rattle.gixobj_files.specs.Tables.{AgreesWithStore}
+use Rattle.gixobj_files.proofs.EditedFiles.{same_refl}
+use Rattle.gixobj_files.proofs.UpsertedFiles.{IsReady}
+use Rattle.gixobj_files.proofs.OpenedFiles.{Stands, below_stands, elsewhere, from_open, from_shut, into_open, into_shut, name_itself, name_other, root_only, same_names}
+
+stands : (T : Table) (trees : Trees) → AgreesWithStore T trees → (id : ObjectId) (entries : List EntryView) (asked : List ObjectId) → Finds trees id entries asked → Stands T id entries
+stands T trees agrees id entries asked (formed, inl (inl null, empty, none)) = inl (null, empty)
+stands T trees agrees id entries asked (formed, inl (inr is, empty, none)) = inr (subst (λ (o : Option (List EntryView)). o ≡ Some entries) (sym (ap T.tree_at is ∙ T.none_in_empty (id_kind id))) (ap Some (sym empty)))
+stands T trees agrees id entries asked (formed, inr (filled, is, asks)) = inr (agrees id entries filled is)
+
+inside_is : (name : List ℕ) (inner dirs : Dirs) → in_dir name (with_dir name inner dirs) ≡ inner
+inside_is name inner dirs = ap (λ b path. cond b (inner path) (dirs (name ∷ path))) (name_itself name)
+
+beside_is : (name first : List ℕ) (inner dirs : Dirs) → name ≢ first → in_dir first (with_dir name inner dirs) ≡ in_dir first dirs
+beside_is name first inner dirs differ = ap (λ b path. cond b (inner path) (dirs (first ∷ path))) (name_other name first differ)
+
+pub opens_root : (trees : Trees) (path : Path) (dirs new : Dirs) (asked : List ObjectId) → Opens trees path dirs new asked → new [] ≡ dirs []
+opens_root trees path dirs new asked (arrived d) = refl
+opens_root trees path dirs new asked (stops name rest d other none) = refl
+opens_root trees path dirs new asked (down name rest d inner e entries more has named is opens) = refl
+opens_root trees path dirs new asked (found name rest d inner e entries first more entry tree none finds opens) = refl
+
+-- one level: the directories in a name have the same files as before
+same_level : (T : Table) (k : ℕ) (name : List ℕ) (inner dirs : Dirs) → ((path : Path) (mode : ℕ) (id : ObjectId) → (OpenFiles T (suc k) (with_dir name inner dirs) (name ∷ path) mode id → OpenFiles T (suc k) dirs (name ∷ path) mode id) × (OpenFiles T (suc k) dirs (name ∷ path) mode id → OpenFiles T (suc k) (with_dir name inner dirs) (name ∷ path) mode id))
+    → SameFiles (OpenFiles T (suc k) (with_dir name inner dirs)) (OpenFiles T (suc k) dirs)
+same_level T k name inner dirs here [] mode id = ((λ h. absurd h), λ h. absurd h)
+same_level T k name inner dirs here (first ∷ path) mode id =
+    let new : Dirs = with_dir name inner dirs in
+    elim (same_names name first) [
+      | inl same ↦ subst (λ f. (OpenFiles T (suc k) new (f ∷ path) mode id → OpenFiles T (suc k) dirs (f ∷ path) mode id) × (OpenFiles T (suc k) dirs (f ∷ path) mode id → OpenFiles T (suc k) new (f ∷ path) mode id)) same (here path mode id)
+      | inr differ ↦ (elsewhere T k new dirs first (λ e named has. has) (beside_is name first inner dirs differ) path mode id, elsewhere T k dirs new first (λ e named has. has) (sym (beside_is name first inner dirs differ)) path mode id)
+    ]
+
+pub opens_files : (T : Table) (trees : Trees) → AgreesWithStore T trees → (path : Path) (dirs new : Dirs) (asked : List ObjectId) → Opens trees path dirs new asked → (n : ℕ) → SameFiles (OpenFiles T n new) (OpenFiles T n dirs)
+opens_files T trees agrees path dirs new asked (arrived d) n = same_refl (OpenFiles T n d)
+opens_files T trees agrees path dirs new asked (stops name rest d other none) n = same_refl (OpenFiles T n d)
+opens_files T trees agrees path dirs new asked (down name rest d inner e entries more has named is opens) zero = λ path mode id. ((λ h. absurd h), λ h. absurd h)
+opens_files T trees agrees path dirs new asked (down name rest d inner e entries more has named is opens) (suc k) =
+    same_level T k name inner d (λ path mode id.
+    let new : Dirs = with_dir name inner d in
+    let inside = inside_is name inner d in
+    let is_new : new (name ∷ []) ≡ Some entries = ap (λ (x : Dirs). x []) inside ∙ opens_root trees rest (in_dir name d) inner more opens ∙ is in
+    let step = opens_files T trees agrees rest (in_dir name d) inner more opens k path mode id in (
+      (λ h. from_open T k d name entries e has named is path mode id (step.0 (subst (λ (x : Dirs). OpenFiles T k x path mode id) inside (into_open T k new name entries is_new path mode id h)))),
+      λ h. from_open T k new name entries e has named is_new path mode id (subst (λ (x : Dirs). OpenFiles T k x path mode id) (sym inside) (step.1 (into_open T k d name entries is path mode id h))),
+    ))
+opens_files T trees agrees path dirs new asked (found name rest d inner e entries first more entry tree none finds opens) zero = λ path mode id. ((λ h. absurd h), λ h. absurd h)
+opens_files T trees agrees path dirs new asked (found name rest d inner e entries first more entry tree none finds opens) (suc k) =
+    same_level T k name inner d (λ path mode id.
+    let new : Dirs = with_dir name inner d in
+    let inside = inside_is name inner d in
+    let is_new : new (name ∷ []) ≡ Some entries = ap (λ (x : Dirs). x []) inside ∙ opens_root trees rest (only entries) inner more opens in
+    let step = opens_files T trees agrees rest (only entries) inner more opens k path mode id in
+    let alone = root_only T k (only entries) entries refl (λ other. refl) path mode id in
+    let below = below_stands T k e.mode e.id entries tree (stands T trees agrees e.id entries first finds) path mode id in (
+      (λ h. from_shut T k d name (none []) e entry.0 entry.1 path mode id
+          (below.1 (alone.0 (step.0 (subst (λ (x : Dirs). OpenFiles T k x path mode id) inside (into_open T k new name entries is_new path mode id h)))))),
+      λ h. let s = into_shut T k d name (none []) path mode id h in
+          from_open T k new name entries e entry.0 entry.1 is_new path mode id
+          (subst (λ (x : Dirs). OpenFiles T k x path mode id) (sym inside) (step.1 (alone.1 (below.0 (subst (λ (x : EntryView). Below T (Files T k) x.mode x.id path mode id) (entry.2 s.0 s.1 s.2) s.3))))),
+    ))
+
+-- after it an entry may be put at a name behind the path
+ready_more : (name : List ℕ) (q : Path) (dirs : Dirs) → (((e : EntryView) → HasAt (dirs []) e → e.name ≡ name → is_tree_mode e.mode ≡ false) × ((path : Path) → dirs (name ∷ path) ≡ None)) → IsReady (name ∷ q) dirs
+ready_more name [] dirs shut = tt
+ready_more name (next ∷ rest) dirs shut = inl shut
+
+ready_down : (name : List ℕ) (q : Path) (dirs : Dirs) → ((e : EntryView) × HasAt (dirs []) e × (e.name ≡ name)) → ((es : List EntryView) × (dirs (name ∷ []) ≡ Some es)) → IsReady q (in_dir name dirs) → IsReady (name ∷ q) dirs
+ready_down name [] dirs entry is ready = tt
+ready_down name (next ∷ rest) dirs entry is ready = inr (entry, is, ready)
+
+pub opens_ready : (trees : Trees) (path : Path) (last : List ℕ) (dirs new : Dirs) (asked : List ObjectId) → Opens trees path dirs new asked → IsReady (path ++ last ∷ []) new
+opens_ready trees path last dirs new asked (arrived d) = tt
+opens_ready trees path last dirs new asked (stops name rest d other none) = ready_more name (rest ++ last ∷ []) d (other, none)
+opens_ready trees path last dirs new asked (down name rest d inner e entries more has named is opens) =
+    let inside = inside_is name inner d in
+    ready_down name (rest ++ last ∷ []) (with_dir name inner d) (e, has, named) (entries, ap (λ (x : Dirs). x []) inside ∙ opens_root trees rest (in_dir name d) inner more opens ∙ is)
+    (subst (IsReady (rest ++ last ∷ [])) (sym inside) (opens_ready trees rest last (in_dir name d) inner more opens))
+opens_ready trees path last dirs new asked (found name rest d inner e entries first more entry tree none finds opens) =
+    let inside = inside_is name inner d in
+    ready_down name (rest ++ last ∷ []) (with_dir name inner d) (e, entry.0, entry.1) (entries, ap (λ (x : Dirs). x []) inside ∙ opens_root trees rest (only entries) inner more opens)
+    (subst (IsReady (rest ++ last ∷ [])) (sym inside) (opens_ready trees rest last (only entries) inner more opens))

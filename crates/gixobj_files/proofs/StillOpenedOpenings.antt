@@ -1,0 +1,81 @@
+-- Opening the directories on a path keeps what is open, and each open directory well-formed with a tree's entry above it.
+use Rattle.std.proofs.Common.{◌≡◌, ◌≢◌, true, false, cond, List, [], ◌∷◌, ◌++◌, ℕ, refl, sym, ap, subst, ◌∙◌, Some, None}
+use Rattle.std.specs.Prelude.{IsTrue}
+use Rattle.std.specs.Cmp.Lexicographic.{bytes_decides}
+use Rattle.gixobj_trees.specs.Entries.{EntryView, IsWellFormed}
+use Rattle.gixobj_trees.specs.Mode.{is_tree_mode}
+use Rattle.gixobj_ids.specs.declared.hash.object_id.ObjectId.{ObjectId}
+use Rattle.gixobj_files.specs.Editing.{same_name}
+use Rattle.gixobj_files.specs.Edits.{Opens, arrived, down, found, only, stops, with_dir}
+use Rattle.gixobj_files.specs.Files.{Path, Trees}
+use Rattle.gixobj_files.specs.Opening.{Dirs, HasAt, IsOpened, in_dir}
+use Rattle.gixobj_files.proofs.OpeningFiles.{opens_root}
+use Rattle.gixobj_files.proofs.StillOpened.{AreAbove, AreFormed}
+
+formed_with_dir : (name : List ℕ) (inner dirs : Dirs) → AreFormed inner → AreFormed dirs → AreFormed (with_dir name inner dirs)
+formed_with_dir name inner dirs inside beside [] es is = beside [] es is
+formed_with_dir name inner dirs inside beside (first ∷ at) es is =
+    elim (same_name name first) as (λ b. cond b (inner at) (dirs (first ∷ at)) ≡ Some es → IsWellFormed es) [ true ↦ λ k. inside at es k | false ↦ λ k. beside (first ∷ at) es k ] is
+
+above_with_dir : (name : List ℕ) (inner dirs : Dirs) → AreAbove inner → AreAbove dirs → ((e : EntryView) × HasAt (dirs []) e × (e.name ≡ name) × IsTrue (is_tree_mode e.mode)) → AreAbove (with_dir name inner dirs)
+above_with_dir name inner dirs inside beside entry [] other es is =
+    elim (same_name name other) as (λ b. same_name name other ≡ b → cond b (inner []) (dirs (other ∷ [])) ≡ Some es → (e : EntryView) × HasAt (dirs []) e × (e.name ≡ other) × IsTrue (is_tree_mode e.mode)) [
+      | true ↦ λ called k. (entry.0, entry.1, entry.2 ∙ (bytes_decides name other).0 called, entry.3)
+      | false ↦ λ called k. beside [] other es k
+    ] refl is
+above_with_dir name inner dirs inside beside entry (first ∷ at) other es is =
+    elim (same_name name first) as (λ b. cond b (inner (at ++ other ∷ [])) (dirs (first ∷ (at ++ other ∷ []))) ≡ Some es → (e : EntryView) × HasAt (cond b (inner at) (dirs (first ∷ at))) e × (e.name ≡ other) × IsTrue (is_tree_mode e.mode)) [
+      | true ↦ λ k. inside at other es k
+      | false ↦ λ k. beside (first ∷ at) other es k
+    ] is
+
+formed_only : (entries : List EntryView) → IsWellFormed entries → AreFormed (only entries)
+formed_only entries formed [] es is = subst IsWellFormed (some_is is) formed
+  where
+    some_is : Some entries ≡ Some es → entries ≡ es
+    some_is e = cc e
+formed_only entries formed (name ∷ path) es is = absurd (cc is)
+
+above_only : (entries : List EntryView) → AreAbove (only entries)
+above_only entries [] name es is = absurd (cc is)
+above_only entries (first ∷ path) name es is = absurd (cc is)
+
+formed_opening : (trees : Trees) (path : Path) (dirs new : Dirs) (asked : List ObjectId) → Opens trees path dirs new asked → AreFormed dirs → AreFormed new
+formed_opening trees path dirs new asked (arrived d) formed = formed
+formed_opening trees path dirs new asked (stops name rest d other none) formed = formed
+formed_opening trees path dirs new asked (down name rest d inner e entries more has named is opens) formed =
+    formed_with_dir name inner d (formed_opening trees rest (in_dir name d) inner more opens (λ q. formed (name ∷ q))) formed
+formed_opening trees path dirs new asked (found name rest d inner e entries first more entry tree none finds opens) formed =
+    formed_with_dir name inner d (formed_opening trees rest (only entries) inner more opens (formed_only entries finds.0)) formed
+
+above_opening : (trees : Trees) (path : Path) (dirs new : Dirs) (asked : List ObjectId) → Opens trees path dirs new asked → AreAbove dirs → AreAbove new
+above_opening trees path dirs new asked (arrived d) above = above
+above_opening trees path dirs new asked (stops name rest d other none) above = above
+above_opening trees path dirs new asked (down name rest d inner e entries more has named is opens) above =
+    above_with_dir name inner d (above_opening trees rest (in_dir name d) inner more opens (λ q. above (name ∷ q))) above (above [] name entries is)
+above_opening trees path dirs new asked (found name rest d inner e entries first more entry tree none finds opens) above =
+    above_with_dir name inner d (above_opening trees rest (only entries) inner more opens (above_only entries)) above (e, entry.0, entry.1, tree)
+
+pub opened_opening : (trees : Trees) (path : Path) (dirs new : Dirs) (asked : List ObjectId) → Opens trees path dirs new asked → IsOpened dirs → IsOpened new
+opened_opening trees path dirs new asked opens opened = record {
+  root = λ none. opened.root (sym (opens_root trees path dirs new asked opens) ∙ none);
+  well_formed = formed_opening trees path dirs new asked opens opened.well_formed;
+  above = above_opening trees path dirs new asked opens opened.above;
+}
+
+-- what is open stays as it is
+pub opening_keeps : (trees : Trees) (path : Path) (dirs new : Dirs) (asked : List ObjectId) → Opens trees path dirs new asked → (at : Path) (es : List EntryView) → dirs at ≡ Some es → new at ≡ Some es
+opening_keeps trees path dirs new asked (arrived d) at es is = is
+opening_keeps trees path dirs new asked (stops name rest d other none) at es is = is
+opening_keeps trees path dirs new asked (down name rest d inner e entries more has named there opens) [] es is = is
+opening_keeps trees path dirs new asked (down name rest d inner e entries more has named there opens) (first ∷ at) es is =
+    elim (same_name name first) as (λ b. same_name name first ≡ b → cond b (inner at) (d (first ∷ at)) ≡ Some es) [
+      | true ↦ λ called. opening_keeps trees rest (in_dir name d) inner more opens at es (ap (λ n. d (n ∷ at)) ((bytes_decides name first).0 called) ∙ is)
+      | false ↦ λ called. is
+    ] refl
+opening_keeps trees path dirs new asked (found name rest d inner e entries first more entry tree none finds opens) [] es is = is
+opening_keeps trees path dirs new asked (found name rest d inner e entries first more entry tree none finds opens) (other ∷ at) es is =
+    elim (same_name name other) as (λ b. same_name name other ≡ b → cond b (inner at) (d (other ∷ at)) ≡ Some es) [
+      | true ↦ λ called. absurd (let bad : None ≡ Some es = sym (none at) ∙ ap (λ n. d (n ∷ at)) ((bytes_decides name other).0 called) ∙ is in cc bad)
+      | false ↦ λ called. is
+    ] refl

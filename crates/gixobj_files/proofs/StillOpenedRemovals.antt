@@ -1,0 +1,85 @@
+-- A removal keeps each open directory well-formed, and in the directory above it a tree's entry for it.
+use Rattle.std.proofs.Common.{◌≡◌, ◌≢◌, inl, inr, true, false, cond, List, [], ◌∷◌, ◌++◌, ℕ, refl, sym, ap, subst, ◌∙◌, Option, Some, None}
+use Rattle.std.specs.Prelude.{IsTrue}
+use Rattle.std.specs.Cmp.Lexicographic.{bytes_decides}
+use Rattle.std.specs.Option.{option_map}
+use Rattle.gixobj_trees.specs.Entries.{EntryView, IsWellFormed}
+use Rattle.gixobj_trees.specs.Mode.{is_tree_mode}
+use Rattle.gixobj_files.specs.Editing.{same_name, without}
+use Rattle.gixobj_files.specs.Edits.{removed_dirs}
+use Rattle.gixobj_files.specs.Files.{Path}
+use Rattle.gixobj_files.specs.Opening.{Dirs, HasAt, IsOpened, in_dir}
+use Rattle.gixobj_files.proofs.Formed.{well_formed_without}
+use Rattle.gixobj_files.proofs.OpenedFiles.{name_itself, same_names}
+use Rattle.gixobj_files.proofs.RemovedFiles.{has_taken, taken_beside}
+use Rattle.gixobj_files.proofs.StillOpened.{AreAbove, AreFormed}
+
+formed_taken : (name : List ℕ) (here : Option (List EntryView)) → ((es : List EntryView) → here ≡ Some es → IsWellFormed es) → (es : List EntryView) → option_map (without name) here ≡ Some es → IsWellFormed es
+formed_taken name None formed es is = absurd (cc is)
+formed_taken name (Some old) formed es is = subst IsWellFormed (some_is is) (well_formed_without name old (formed old refl))
+  where
+    some_is : Some (without name old) ≡ Some es → without name old ≡ es
+    some_is e = cc e
+
+formed_removed : (path : Path) (dirs : Dirs) → AreFormed dirs → AreFormed (removed_dirs path dirs)
+formed_removed [] dirs formed at es is = formed at es is
+formed_removed (name ∷ []) dirs formed [] es is = formed_taken name (dirs []) (formed []) es is
+formed_removed (name ∷ []) dirs formed (first ∷ at) es is =
+    elim (same_name name first) as (λ b. cond b None (dirs (first ∷ at)) ≡ Some es → IsWellFormed es) [ true ↦ λ k. absurd (cc k) | false ↦ λ k. formed (first ∷ at) es k ] is
+formed_removed (name ∷ next ∷ rest) dirs formed [] es is = formed [] es is
+formed_removed (name ∷ next ∷ rest) dirs formed (first ∷ at) es is =
+    elim (same_name name first) as (λ b. cond b (removed_dirs (next ∷ rest) (in_dir name dirs) at) (dirs (first ∷ at)) ≡ Some es → IsWellFormed es) [
+      | true ↦ λ k. formed_removed (next ∷ rest) (in_dir name dirs) (λ q. formed (name ∷ q)) at es k
+      | false ↦ λ k. formed (first ∷ at) es k
+    ] is
+
+-- what is open after a removal was open
+was_open : (path : Path) (dirs : Dirs) (es : List EntryView) → removed_dirs path dirs [] ≡ Some es → (old : List EntryView) × (dirs [] ≡ Some old)
+was_open [] dirs es is = (es, is)
+was_open (name ∷ []) dirs es is = taken (dirs []) is
+  where
+    taken : (here : Option (List EntryView)) → option_map (without name) here ≡ Some es → (old : List EntryView) × (here ≡ Some old)
+    taken None e = absurd (cc e)
+    taken (Some old) e = (old, refl)
+was_open (name ∷ next ∷ rest) dirs es is = (es, is)
+
+above_removed : (path : Path) (dirs : Dirs) → AreAbove dirs → AreAbove (removed_dirs path dirs)
+above_removed [] dirs above at other es is = above at other es is
+above_removed (name ∷ []) dirs above [] other es is =
+    elim (same_names name other) [
+      | inl same ↦ absurd (let gone : removed_dirs (name ∷ []) dirs (other ∷ []) ≡ None = subst (λ n. removed_dirs (name ∷ []) dirs (n ∷ []) ≡ None) same (ap (λ b. cond b None (dirs (name ∷ []))) (name_itself name)) in let bad : None ≡ Some es = sym gone ∙ is in cc bad)
+      | inr differ ↦ let e = above [] other es (sym (ap (λ (d : Dirs). d []) (taken_beside name other dirs differ)) ∙ is) in
+          (e.0, has_taken name (dirs []) e.0 e.1 (λ q. differ (sym q ∙ e.2)), e.2, e.3)
+    ]
+above_removed (name ∷ []) dirs above (first ∷ at) other es is =
+    elim (same_name name first) as (λ b. cond b None (dirs (first ∷ (at ++ other ∷ []))) ≡ Some es → (e : EntryView) × HasAt (cond b None (dirs (first ∷ at))) e × (e.name ≡ other) × IsTrue (is_tree_mode e.mode)) [
+      | true ↦ λ k. absurd (cc k)
+      | false ↦ λ k. above (first ∷ at) other es k
+    ] is
+above_removed (name ∷ next ∷ rest) dirs above [] other es is =
+    elim (same_name name other) as (λ b. same_name name other ≡ b → cond b (removed_dirs (next ∷ rest) (in_dir name dirs) []) (dirs (other ∷ [])) ≡ Some es → (e : EntryView) × HasAt (dirs []) e × (e.name ≡ other) × IsTrue (is_tree_mode e.mode)) [
+      | true ↦ λ called k. let old = was_open (next ∷ rest) (in_dir name dirs) es k in let e = above [] name old.0 old.1 in (e.0, e.1, e.2 ∙ (bytes_decides name other).0 called, e.3)
+      | false ↦ λ called k. above [] other es k
+    ] refl is
+above_removed (name ∷ next ∷ rest) dirs above (first ∷ at) other es is =
+    elim (same_name name first) as (λ b. cond b (removed_dirs (next ∷ rest) (in_dir name dirs) (at ++ other ∷ [])) (dirs (first ∷ (at ++ other ∷ []))) ≡ Some es
+    → (e : EntryView) × HasAt (cond b (removed_dirs (next ∷ rest) (in_dir name dirs) at) (dirs (first ∷ at))) e × (e.name ≡ other) × IsTrue (is_tree_mode e.mode)) [
+      | true ↦ λ k. above_removed (next ∷ rest) (in_dir name dirs) (λ q. above (name ∷ q)) at other es k
+      | false ↦ λ k. above (first ∷ at) other es k
+    ] is
+
+still_root : (path : Path) (dirs : Dirs) → dirs [] ≢ None → removed_dirs path dirs [] ≢ None
+still_root [] dirs root = root
+still_root (name ∷ []) dirs root = left (dirs []) root
+  where
+    left : (here : Option (List EntryView)) → here ≢ None → option_map (without name) here ≢ None
+    left None some is = some refl
+    left (Some old) some is = cc is
+still_root (name ∷ next ∷ rest) dirs root = root
+
+pub opened_removed : (path : Path) (dirs : Dirs) → IsOpened dirs → IsOpened (removed_dirs path dirs)
+opened_removed path dirs opened = record {
+  root = still_root path dirs opened.root;
+  well_formed = formed_removed path dirs opened.well_formed;
+  above = above_removed path dirs opened.above;
+}

@@ -1,0 +1,137 @@
+-- The files of the tree that a write hands out for a directory are those of the open directories.
+use mathlib.Core.Bool.{true≢false}
+use Rattle.std.proofs.Common.{◌≡◌, ◌≢◌, ◌⊎◌, inl, inr, ⊎_elim, ℕ, zero, suc, Bool, true, false, cond, List, [], ◌∷◌, ◌++◌, refl, sym, ap, subst, ◌∙◌, Option, Some, None}
+use Rattle.std.specs.Prelude.{MatchOption, IsFalse}
+use Rattle.std.specs.List.{AllByRecursion}
+use Rattle.gixobj_trees.specs.Entries.{EachLater, EntryView}
+use Rattle.gixobj_trees.specs.Mode.{is_tree_mode}
+use Rattle.gixobj_ids.specs.declared.hash.object_id.ObjectId.{ObjectId}
+use Rattle.gixobj_files.specs.Files.{Below, Files, Has, Path, SameFiles, Table, is_null, stands_for}
+use Rattle.gixobj_files.specs.HandingOut.{Leaves, Walks, emptied, end, entry_with, leaves, shut, written}
+use Rattle.gixobj_files.specs.Opening.{Dirs, HasAt, IsOpened, OpenFiles, in_dir}
+use Rattle.gixobj_files.specs.Tables.{Pair}
+use Rattle.gixobj_files.proofs.EditedFiles.{Has-append, Has-left, Has-right}
+use Rattle.gixobj_files.proofs.OpenedFiles.{no_entries}
+
+-- the entries of open directories are trees'
+abbrev pub AreTrees : Dirs → Type 0
+AreTrees dirs = (path : Path) (e : EntryView) (es : List EntryView) → HasAt (dirs path) e → dirs (path ++ e.name ∷ []) ≡ Some es → is_tree_mode e.mode ≡ true
+
+abbrev pub Known : Table → List Pair → Type 0
+Known T pairs = AllByRecursion (λ pair. T.tree_at pair.0 ≡ Some pair.1) pairs
+
+known_left : (T : Table) (xs ys : List Pair) → Known T (xs ++ ys) → Known T xs
+known_left T [] ys h = tt
+known_left T (x ∷ xs) ys h = (h.0, known_left T xs ys h.1)
+
+known_right : (T : Table) (xs ys : List Pair) → Known T (xs ++ ys) → Known T ys
+known_right T [] ys h = h
+known_right T (x ∷ xs) ys h = known_right T xs ys h.1
+
+-- the files at a name of some entries
+abbrev Part : Table → ℕ → Dirs → List EntryView → List ℕ → Path → ℕ → ObjectId → Type 0
+Part T k dirs es name path mode id =
+    (e : EntryView) × Has es e × (e.name ≡ name) × MatchOption (dirs (name ∷ [])) (Below T (Files T k) e.mode e.id path mode id) (λ _. OpenFiles T k (in_dir name dirs) path mode id)
+
+-- an entry that is kept, and those behind it
+kept_has : (e : EntryView) (id : ObjectId) (os : List EntryView) (x : EntryView) → Has (entry_with e id ++ os) x → ((is_null id ≡ false) × (record { mode = e.mode; name = e.name; id = id } ≡ x)) ⊎ Has os x
+kept_has e id os x h =
+    elim (is_null id) as (λ b. is_null id ≡ b → Has (cond b [] ((record { mode = e.mode; name = e.name; id = id }) ∷ []) ++ os) x → ((is_null id ≡ false) × (record { mode = e.mode; name = e.name; id = id } ≡ x)) ⊎ Has os x) [
+      | true ↦ λ is k. inr k
+      | false ↦ λ is k. ⊎_elim (λ same. inl (is, same)) inr k
+    ] refl h
+
+has_kept : (e : EntryView) (id : ObjectId) (os : List EntryView) → is_null id ≡ false → Has (entry_with e id ++ os) (record { mode = e.mode; name = e.name; id = id })
+has_kept e id os is = rw is (inl refl)
+
+has_behind : (e : EntryView) (id : ObjectId) (os : List EntryView) (x : EntryView) → Has os x → Has (entry_with e id ++ os) x
+has_behind e id os x h = elim (is_null id) as (λ b. Has (cond b [] ((record { mode = e.mode; name = e.name; id = id }) ∷ []) ++ os) x) [ true ↦ h | false ↦ inr h ]
+
+filled_known : (T : Table) (id : ObjectId) (es : List EntryView) → T.tree_at id ≡ Some es → is_null id ≡ false
+filled_known T id es known = elim (is_null id) as (λ b. is_null id ≡ b → b ≡ false) [ true ↦ λ is. absurd (let none : Some es ≡ None = sym known ∙ T.none_by_null id is in cc none) | false ↦ λ is. refl ] refl
+
+at_open : (T : Table) (k : ℕ) (dirs : Dirs) (name : List ℕ) (es : List EntryView) (e : EntryView) (path : Path) (mode : ℕ) (id : ObjectId) → dirs (name ∷ []) ≡ Some es → MatchOption (dirs (name ∷ [])) (Below T (Files T k) e.mode e.id path mode id) (λ _. OpenFiles T k (in_dir name dirs) path mode id) → OpenFiles T k (in_dir name dirs) path mode id
+at_open T k dirs name es e path mode id is h = subst (λ o. MatchOption o (Below T (Files T k) e.mode e.id path mode id) (λ _. OpenFiles T k (in_dir name dirs) path mode id)) is h
+
+of_open : (T : Table) (k : ℕ) (dirs : Dirs) (name : List ℕ) (es : List EntryView) (e : EntryView) (path : Path) (mode : ℕ) (id : ObjectId) → dirs (name ∷ []) ≡ Some es → OpenFiles T k (in_dir name dirs) path mode id → MatchOption (dirs (name ∷ [])) (Below T (Files T k) e.mode e.id path mode id) (λ _. OpenFiles T k (in_dir name dirs) path mode id)
+of_open T k dirs name es e path mode id is h = subst (λ o. MatchOption o (Below T (Files T k) e.mode e.id path mode id) (λ _. OpenFiles T k (in_dir name dirs) path mode id)) (sym is) h
+
+root_of : (dirs : Dirs) (ps : List Pair) (own : List EntryView) → Leaves dirs ps own → (es : List EntryView) × (dirs [] ≡ Some es)
+root_of dirs ps own (leaves d es below os is walk) = (es, is)
+
+more : (T : Table) (k : ℕ) (dirs : Dirs) (e : EntryView) (es : List EntryView) (name : List ℕ) (path : Path) (mode : ℕ) (id : ObjectId) → Part T k dirs es name path mode id → Part T k dirs (e ∷ es) name path mode id
+more T k dirs e es name path mode id p = (p.0, inr p.1, p.2, p.3)
+
+mutual
+  pub leaves_files : (T : Table) (dirs : Dirs) (ps : List Pair) (own : List EntryView) → Leaves dirs ps own → AreTrees dirs → Known T ps → (n : ℕ) → SameFiles (Files T n own) (OpenFiles T n dirs)
+  leaves_files T dirs ps own (leaves d es below os is walk) trees known zero path mode id = ((λ h. absurd h), λ h. absurd h)
+  leaves_files T dirs ps own (leaves d es below os is walk) trees known (suc k) [] mode id = ((λ h. absurd h), λ h. absurd h)
+  leaves_files T dirs ps own (leaves d es below os is walk) trees known (suc k) (name ∷ path) mode id =
+      let w = walk_files T d es below os walk (λ e l h there. trees [] e l (subst (λ o. HasAt o e) (sym is) h) there) (λ first q. trees (first ∷ q)) known k name path mode id in (
+        (λ h. let p = w.0 h in (p.0, subst (λ o. HasAt o p.0) (sym is) p.1, p.2, p.3)),
+        λ h. w.1 (h.0, subst (λ o. HasAt o h.0) is h.1, h.2, h.3))
+
+  walk_files : (T : Table) (dirs : Dirs) (es : List EntryView) (ps : List Pair) (own : List EntryView) → Walks dirs es ps own → ((e : EntryView) (l : List EntryView) → Has es e → dirs (e.name ∷ []) ≡ Some l → is_tree_mode e.mode ≡ true)
+      → ((first : List ℕ) → AreTrees (in_dir first dirs)) → Known T ps → (k : ℕ) (name : List ℕ) (path : Path) (mode : ℕ) (id : ObjectId)
+      → (Files T (suc k) own (name ∷ path) mode id → Part T k dirs es name path mode id) × (Part T k dirs es name path mode id → Files T (suc k) own (name ∷ path) mode id)
+  walk_files T dirs es ps own (end d) trees deeper known k name path mode id = ((λ h. absurd h.1), λ h. absurd h.1)
+  walk_files T dirs es ps own (shut d e rest below os none walk) trees deeper known k name path mode id =
+      let w = walk_files T d rest below os walk (λ x l h. trees x l (inr h)) deeper known k name path mode id in
+      let At : EntryView → Option (List EntryView) → Type 0 = λ x o. MatchOption o (Below T (Files T k) x.mode x.id path mode id) (λ _. OpenFiles T k (in_dir name d) path mode id) in (
+        (λ h. ⊎_elim (λ one. (e, inl refl, ap (λ (x : EntryView). x.name) one.1 ∙ h.2, subst (At e) (sym (subst (λ n. d (n ∷ []) ≡ None) (ap (λ (x : EntryView). x.name) one.1 ∙ h.2) none)) (subst (λ (x : EntryView). Below T (Files T k) x.mode x.id path mode id) (sym one.1) h.3)))
+            (λ l. more T k d e rest name path mode id (w.0 (h.0, l, h.2, h.3))) (kept_has e e.id os h.0 h.1)),
+        λ p. ⊎_elim (λ same. let named : e.name ≡ name = ap (λ (x : EntryView). x.name) same ∙ p.2 in
+              let here = subst (At p.0) (subst (λ n. d (n ∷ []) ≡ None) named none) p.3 in
+              let mine = subst (λ (x : EntryView). Below T (Files T k) x.mode x.id path mode id) (sym same) here in
+              (e, has_kept e e.id os mine.0, named, mine))
+            (λ l. let f = w.1 (p.0, l, p.2, p.3) in (f.0, has_behind e e.id os f.0 f.1, f.2, f.3)) p.1)
+  walk_files T dirs es ps own (emptied d e rest inner below os found walk) trees deeper known k name path mode id =
+      let w = walk_files T d rest below os walk (λ x l h. trees x l (inr h)) deeper (known_right T inner below known) k name path mode id in
+      let root = root_of (in_dir e.name d) inner [] found in
+      let lower = leaves_files T (in_dir e.name d) inner [] found (deeper e.name) (known_left T inner below known) k path mode id in (
+        (λ h. more T k d e rest name path mode id (w.0 h)),
+        λ p. ⊎_elim (λ same. let named : e.name ≡ name = ap (λ (x : EntryView). x.name) same ∙ p.2 in
+              absurd (no_entries T k path mode id (lower.1 (subst (λ n. OpenFiles T k (in_dir n d) path mode id) (sym named) (at_open T k d name root.0 p.0 path mode id (subst (λ n. d (n ∷ []) ≡ Some root.0) named root.1) p.3)))))
+            (λ l. w.1 (p.0, l, p.2, p.3)) p.1)
+  walk_files T dirs es ps own (written d e first rest more_own inner below os named_id found walk) trees deeper known k name path mode id =
+      let pair = known_right T inner ((named_id, first ∷ more_own) ∷ below) known in
+      let w = walk_files T d rest below os walk (λ x l h. trees x l (inr h)) deeper pair.1 k name path mode id in
+      let root = root_of (in_dir e.name d) inner (first ∷ more_own) found in
+      let filled = filled_known T named_id (first ∷ more_own) pair.0 in
+      let new : EntryView = record { mode = e.mode; name = e.name; id = named_id } in
+      let stands : stands_for T e.mode named_id ≡ Some (first ∷ more_own) = rw (trees e root.0 (inl refl) root.1) pair.0 in
+      let At : Option (List EntryView) → Type 0 = λ o. MatchOption o ((path ≡ []) × (mode ≡ e.mode) × (id ≡ named_id)) (λ l. Files T k l path mode id) in
+      let lower = leaves_files T (in_dir e.name d) inner (first ∷ more_own) found (deeper e.name) (known_left T inner ((named_id, first ∷ more_own) ∷ below) known) k path mode id in (
+        (λ h. ⊎_elim (λ one. let named : e.name ≡ name = ap (λ (x : EntryView). x.name) one.1 ∙ h.2 in
+              let mine = subst (λ (x : EntryView). Below T (Files T k) x.mode x.id path mode id) (sym one.1) h.3 in
+              (e, inl refl, named, of_open T k d name root.0 e path mode id (subst (λ n. d (n ∷ []) ≡ Some root.0) named root.1) (subst (λ n. OpenFiles T k (in_dir n d) path mode id) named (lower.0 (subst At stands mine.1)))))
+            (λ l. more T k d e rest name path mode id (w.0 (h.0, l, h.2, h.3))) (kept_has e named_id os h.0 h.1)),
+        λ p. ⊎_elim (λ same. let named : e.name ≡ name = ap (λ (x : EntryView). x.name) same ∙ p.2 in
+              let files = lower.1 (subst (λ n. OpenFiles T k (in_dir n d) path mode id) (sym named) (at_open T k d name root.0 p.0 path mode id (subst (λ n. d (n ∷ []) ≡ Some root.0) named root.1) p.3)) in
+              (new, has_kept e named_id os filled, named, (filled, subst At (sym stands) files)))
+            (λ l. let f = w.1 (p.0, l, p.2, p.3) in (f.0, has_behind e named_id os f.0 f.1, f.2, f.3)) p.1)
+
+-- two entries of one name are one
+differs : (x : EntryView) (ys : List EntryView) (y : EntryView) → AllByRecursion (λ z. x.name ≢ z.name) ys → Has ys y → x.name ≢ y.name
+differs x [] y h k = absurd k
+differs x (z ∷ ys) y h (inl same) = λ q. h.0 (q ∙ ap (λ (w : EntryView). w.name) (sym same))
+differs x (z ∷ ys) y h (inr k) = differs x ys y h.1 k
+
+one_entry : (es : List EntryView) → EachLater (λ x y. x.name ≢ y.name) es → (x y : EntryView) → Has es x → Has es y → x.name ≡ y.name → x ≡ y
+one_entry [] apart x y h k q = absurd h
+one_entry (e ∷ es) apart x y (inl s) (inl t) q = sym s ∙ t
+one_entry (e ∷ es) apart x y (inl s) (inr k) q = absurd (differs e es y apart.0 k (ap (λ (w : EntryView). w.name) s ∙ q))
+one_entry (e ∷ es) apart x y (inr h) (inl t) q = absurd (differs e es x apart.0 h (ap (λ (w : EntryView). w.name) t ∙ sym q))
+one_entry (e ∷ es) apart x y (inr h) (inr k) q = one_entry es apart.1 x y h k q
+
+at_some : (o : Option (List EntryView)) (e : EntryView) → HasAt o e → (es : List EntryView) × (o ≡ Some es) × Has es e
+at_some None e h = absurd h
+at_some (Some es) e h = (es, refl, h)
+
+pub opened_trees : (dirs : Dirs) → IsOpened dirs → AreTrees dirs
+opened_trees dirs is path e es has there =
+    let above = is.above path e.name es there in
+    let here = at_some (dirs path) e has in
+    let other = subst (λ o. HasAt o above.0) here.1 above.1 in
+    let same = one_entry here.0 (is.well_formed path here.0 here.1).apart above.0 e other here.2 above.2 in
+    ap (λ (x : EntryView). is_tree_mode x.mode) (sym same) ∙ above.3

@@ -1,0 +1,9 @@
+pub mod Editing
+pub mod Edits
+pub mod Files
+pub mod HandingOut
+pub mod History
+pub mod Opening
+pub mod State
+pub mod Tables
+pub mod Unopened
