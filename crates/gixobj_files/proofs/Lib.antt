@@ -15,3 +15,4 @@ pub mod StillOpenedRemovals
 pub mod Sublists
 pub mod UpsertedFiles
 pub mod WrittenFiles
+pub mod UnopenedCounts

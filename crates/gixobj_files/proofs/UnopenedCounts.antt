@@ -1,0 +1,225 @@
+-- As many ids are asked for on a path as there are directories above its last name that aren't open and would be looked up.
+use Rattle.std.proofs.Common.{◌≡◌, ◌≢◌, ◌⊎◌, inl, inr, ℕ, ◌+◌, Bool, true, false, not, cond, List, [], ◌∷◌, ◌++◌, length, refl, sym, ap, subst, ◌∙◌, arith, Option, Some, None}
+use Rattle.std.specs.Prelude.{◌&&◌, map}
+use Rattle.std.specs.List.{filter, find}
+use Rattle.std.specs.Cmp.Lexicographic.{bytes_decides}
+use Rattle.std.proofs.lemmas.List.{length-append}
+use Rattle.gixobj_trees.specs.Entries.{EntryView}
+use Rattle.gixobj_trees.specs.Mode.{is_tree_mode}
+use Rattle.gixobj_ids.specs.Hash.{id_bytes, id_kind, id_of}
+use Rattle.gixobj_ids.specs.declared.hash.kind.Kind.TheVariants as hash
+use Rattle.gixobj_ids.specs.declared.hash.object_id.ObjectId.{ObjectId}
+use Rattle.gixobj_ids.specs.declared.hash.object_id.ObjectId.TheVariants as id
+use Rattle.gixobj_ids.specs.declared.kind.Kind.TheVariants.{Tree}
+use Rattle.gixobj_files.specs.Editing.{same_name}
+use Rattle.gixobj_files.specs.Edits.{Finds, IsEntryOf, Opens, arrived, down, entry_of, found, only, stops, with_dir}
+use Rattle.gixobj_files.specs.Files.{Has, Path, Trees, is_null}
+use Rattle.gixobj_files.specs.Opening.{Dirs, HasAt, in_dir}
+use Rattle.gixobj_files.specs.Tables.{IsEmptyId}
+use Rattle.gixobj_files.specs.Unopened.{is_empty_tree_id, is_shut, is_sought, is_sought_tree, is_unopened, list_of, shut_or_open, strict_beginnings, told_entry, told_in, tree_of, unopened_count}
+
+-- which ids are asked for
+empty_tree_id : (it : ObjectId) → is_empty_tree_id it ≡ true → it ≡ id_of (id_kind it) Tree []
+empty_tree_id (id.Sha1 bytes) is = ap id.Sha1 ((bytes_decides bytes (id_bytes (id_of hash.Sha1 Tree []))).0 is)
+empty_tree_id (id.Sha256 bytes) is = ap id.Sha256 ((bytes_decides bytes (id_bytes (id_of hash.Sha256 Tree []))).0 is)
+
+pub sought_if : (it : ObjectId) → (IsEmptyId it → ⊥) → (is_null it ≡ false) × (is_empty_tree_id it ≡ false)
+sought_if it filled = (
+  elim (is_null it) as (λ b. is_null it ≡ b → b ≡ false) [ true ↦ λ is. absurd (filled (inl is)) | false ↦ λ is. refl ] refl,
+  elim (is_empty_tree_id it) as (λ b. is_empty_tree_id it ≡ b → b ≡ false) [ true ↦ λ is. absurd (filled (inr (empty_tree_id it is))) | false ↦ λ is. refl ] refl,
+)
+
+sought : (it : ObjectId) → (IsEmptyId it → ⊥) → is_sought it ≡ true
+sought it filled = let both = sought_if it filled in rw (both.0, both.1) refl
+
+not_either : (x y : Bool) → (x ≡ true) ⊎ (y ≡ true) → (not x && not y) ≡ false
+not_either true y h = refl
+not_either false true h = refl
+not_either false false (inl h) = absurd (cc h)
+not_either false false (inr h) = absurd (cc h)
+
+is_empty_id : (it : ObjectId) → it ≡ id_of (id_kind it) Tree [] → is_empty_tree_id it ≡ true
+is_empty_id it is = (bytes_decides (id_bytes it) (id_bytes (id_of (id_kind it) Tree []))).1 (ap id_bytes is)
+
+unsought : (it : ObjectId) → IsEmptyId it → is_sought it ≡ false
+unsought it (inl null) = not_either (is_null it) (is_empty_tree_id it) (inl null)
+unsought it (inr is) = not_either (is_null it) (is_empty_tree_id it) (inr (is_empty_id it is))
+
+-- entries by name
+find_has : (name : List ℕ) (es : List EntryView) (e : EntryView) → find (λ x. same_name x.name name) es ≡ Some e → Has es e × (e.name ≡ name)
+find_has name [] e is = absurd (cc is)
+find_has name (x ∷ xs) e is =
+    elim (same_name x.name name) as (λ b. same_name x.name name ≡ b → cond b (Some x) (find (λ y. same_name y.name name) xs) ≡ Some e → Has (x ∷ xs) e × (e.name ≡ name)) [
+      | true ↦ λ called k. let same : x ≡ e = cc k in (inl same, ap (λ (y : EntryView). y.name) (sym same) ∙ (bytes_decides x.name name).0 called)
+      | false ↦ λ other k. let rest = find_has name xs e k in (inr rest.0, rest.1)
+    ] refl is
+
+find_none : (name : List ℕ) (es : List EntryView) → find (λ x. same_name x.name name) es ≡ None → (e : EntryView) → Has es e → e.name ≡ name → ⊥
+find_none name [] is e h named = h
+find_none name (x ∷ xs) is e h named =
+    elim (same_name x.name name) as (λ b. same_name x.name name ≡ b → cond b (Some x) (find (λ y. same_name y.name name) xs) ≡ None → ⊥) [
+      | true ↦ λ called k. cc k
+      | false ↦ λ other k. here h other (λ l. find_none name xs k e l named)
+    ] refl is
+  where
+    here : Has (x ∷ xs) e → same_name x.name name ≡ false → (Has xs e → ⊥) → ⊥
+    here (inl same) other k = let yes : same_name x.name name ≡ true = (bytes_decides x.name name).1 (ap (λ (y : EntryView). y.name) same ∙ named) in let bad : true ≡ false = sym yes ∙ other in cc bad
+    here (inr l) other k = k l
+
+entry_has : (name : List ℕ) (here : Option (List EntryView)) (e : EntryView) → entry_of name here ≡ Some e → HasAt here e × (e.name ≡ name)
+entry_has name None e is = absurd (cc is)
+entry_has name (Some es) e is = find_has name es e is
+
+entry_none : (name : List ℕ) (here : Option (List EntryView)) → entry_of name here ≡ None → (e : EntryView) → HasAt here e → e.name ≡ name → ⊥
+entry_none name None is e h named = h
+entry_none name (Some es) is e h named = find_none name es is e h named
+
+pub found_or_none : (o : Option EntryView) → (o ≡ None) ⊎ ((e : EntryView) × (o ≡ Some e))
+found_or_none None = inl refl
+found_or_none (Some e) = inr (e, refl)
+
+pub the_entry : (name : List ℕ) (here : Option (List EntryView)) (e : EntryView) → IsEntryOf name here e → entry_of name here ≡ Some e
+the_entry name here e entry = by_cases (found_or_none (entry_of name here))
+  where
+    by_cases : (entry_of name here ≡ None) ⊎ ((x : EntryView) × (entry_of name here ≡ Some x)) → entry_of name here ≡ Some e
+    by_cases (inl none) = absurd (entry_none name here none e entry.0 entry.1)
+    by_cases (inr some) = let has = entry_has name here some.0 some.1 in some.1 ∙ ap Some (entry.2 some.0 has.0 has.1)
+
+-- counting over the beginnings of a path
+abbrev passes : (Path → Bool) → Path → ℕ
+passes p path = length (filter p (strict_beginnings path))
+
+mapped : (p : Path → Bool) (name : List ℕ) (paths : List Path) → length (filter p (map (λ path. name ∷ path) paths)) ≡ length (filter (λ path. p (name ∷ path)) paths)
+mapped p name [] = refl
+mapped p name (path ∷ paths) =
+    elim (p (name ∷ path)) as (λ b. length (cond b ((name ∷ path) ∷ filter p (map (λ q. name ∷ q) paths)) (filter p (map (λ q. name ∷ q) paths))) ≡ length (cond b (path ∷ filter (λ q. p (name ∷ q)) paths) (filter (λ q. p (name ∷ q)) paths))) [
+      | true ↦ omega (arith, mapped p name paths)
+      | false ↦ mapped p name paths
+    ]
+
+abbrev one_if : Bool → ℕ
+one_if true = 1
+one_if false = 0
+
+passes_more : (p : Path → Bool) (name next : List ℕ) (rest : Path) → passes p (name ∷ next ∷ rest) ≡ one_if (p (name ∷ [])) + passes (λ path. p (name ∷ path)) (next ∷ rest)
+passes_more p name next rest =
+    let others : List Path = map (λ path. name ∷ path) (strict_beginnings (next ∷ rest)) in
+    elim (p (name ∷ [])) as (λ b. length (cond b ((name ∷ []) ∷ filter p others) (filter p others)) ≡ one_if b + passes (λ path. p (name ∷ path)) (next ∷ rest)) [
+      | true ↦ omega (arith, mapped p name (strict_beginnings (next ∷ rest)))
+      | false ↦ omega (arith, mapped p name (strict_beginnings (next ∷ rest)))
+    ]
+
+passes_deeper : (p : Path → Bool) (name : List ℕ) (rest : Path) (last : List ℕ) → passes p (name ∷ (rest ++ last ∷ [])) ≡ one_if (p (name ∷ [])) + passes (λ path. p (name ∷ path)) (rest ++ last ∷ [])
+passes_deeper p name [] last = passes_more p name last []
+passes_deeper p name (next ∷ rest) last = passes_more p name next (rest ++ last ∷ [])
+
+-- tests that agree on all paths with names
+same_passes : (p r : Path → Bool) → ((first : List ℕ) (path : Path) → p (first ∷ path) ≡ r (first ∷ path)) → (path : Path) → passes p path ≡ passes r path
+same_passes p r same [] = refl
+same_passes p r same (name ∷ []) = refl
+same_passes p r same (name ∷ next ∷ rest) =
+    passes_more p name next rest ∙ ap (λ b. one_if b + passes (λ path. p (name ∷ path)) (next ∷ rest)) (same name [])
+    ∙ ap (λ n. one_if (r (name ∷ [])) + n) (same_passes (λ path. p (name ∷ path)) (λ path. r (name ∷ path)) (λ first path. same name (first ∷ path)) (next ∷ rest))
+    ∙ sym (passes_more r name next rest)
+
+abbrev never : Path → Bool
+never path = false
+
+never_passes : (path : Path) → passes never path ≡ 0
+never_passes [] = refl
+never_passes (name ∷ []) = refl
+never_passes (name ∷ next ∷ rest) = omega (arith, passes_more never name next rest, never_passes (next ∷ rest))
+
+no_passes : (p : Path → Bool) → ((first : List ℕ) (path : Path) → p (first ∷ path) ≡ false) → (path : Path) → passes p path ≡ 0
+no_passes p fails path = same_passes p never fails path ∙ never_passes path
+
+-- entries below a list
+module _ (trees : Trees) where
+  told_none : (path : Path) → told_in trees path None ≡ None
+  told_none [] = refl
+  told_none (name ∷ []) = refl
+  told_none (name ∷ next ∷ rest) = told_none (next ∷ rest)
+
+  told_nothing : (path : Path) → told_in trees path (Some []) ≡ None
+  told_nothing [] = refl
+  told_nothing (name ∷ []) = refl
+  told_nothing (name ∷ next ∷ rest) = told_none (next ∷ rest)
+
+  told_only : (path : Path) (entries : List EntryView) → told_entry trees path (only entries) ≡ told_in trees path (Some entries)
+  told_only [] entries = refl
+  told_only (name ∷ []) entries = refl
+  told_only (name ∷ next ∷ rest) entries = refl
+
+  told_shut : (name first : List ℕ) (path : Path) (dirs : Dirs) → dirs (name ∷ []) ≡ None → told_entry trees (name ∷ first ∷ path) dirs ≡ told_in trees (first ∷ path) (list_of trees (entry_of name (dirs [])))
+  told_shut name first path dirs none = ap (λ o. shut_or_open o (told_in trees (first ∷ path) (list_of trees (entry_of name (dirs [])))) (told_entry trees (first ∷ path) (in_dir name dirs))) none
+
+  -- no tree's entry of the name
+  other_entry : (name : List ℕ) (dirs : Dirs) → ((e : EntryView) → HasAt (dirs []) e → e.name ≡ name → is_tree_mode e.mode ≡ false)
+      → (is_sought_tree (entry_of name (dirs [])) ≡ false) × (list_of trees (entry_of name (dirs [])) ≡ None)
+  other_entry name dirs other = by_cases (found_or_none (entry_of name (dirs [])))
+    where
+      by_cases : (entry_of name (dirs []) ≡ None) ⊎ ((x : EntryView) × (entry_of name (dirs []) ≡ Some x)) → (is_sought_tree (entry_of name (dirs [])) ≡ false) × (list_of trees (entry_of name (dirs [])) ≡ None)
+      by_cases (inl none) = (ap is_sought_tree none, ap (list_of trees) none)
+      by_cases (inr some) =
+          let has = entry_has name (dirs []) some.0 some.1 in
+          let mode = other some.0 has.0 has.1 in
+          (ap is_sought_tree some.1 ∙ ap (λ b. b && is_sought (some.0.id)) mode, ap (list_of trees) some.1 ∙ ap (λ b. cond b (tree_of trees some.0.id) None) mode)
+
+  stopped_here : (name first : List ℕ) (path : Path) (dirs : Dirs) → ((e : EntryView) → HasAt (dirs []) e → e.name ≡ name → is_tree_mode e.mode ≡ false) → ((path : Path) → dirs (name ∷ path) ≡ None)
+      → is_sought_tree (told_entry trees (name ∷ first ∷ path) dirs) ≡ false
+  stopped_here name first path dirs other none =
+      ap is_sought_tree (told_shut name first path dirs (none []) ∙ ap (told_in trees (first ∷ path)) (other_entry name dirs other).1 ∙ told_none (first ∷ path))
+
+  -- a tree's entry that isn't open
+  first_asked : (it : ObjectId) (entries : List EntryView) (first : List ObjectId) → Finds trees it entries first → length first ≡ one_if (is_sought it)
+  first_asked it entries first (formed, inl (empty, nothing, none)) = ap length none ∙ sym (ap one_if (unsought it empty))
+  first_asked it entries first (formed, inr (filled, is, asks)) = ap length asks ∙ sym (ap one_if (sought it filled))
+
+  below_found : (it : ObjectId) (entries : List EntryView) (first : List ObjectId) → Finds trees it entries first → (path : Path) → told_in trees path (tree_of trees it) ≡ told_in trees path (Some entries)
+  below_found it entries first (formed, inr (filled, is, asks)) path = let both = sought_if it filled in ap (told_in trees path) (ap (λ b. cond b None (cond (is_empty_tree_id it) (Some []) (trees it))) both.0 ∙ ap (λ b. cond b (Some []) (trees it)) both.1 ∙ is)
+  below_found it entries first (formed, inl (empty, nothing, none)) path =
+      elim (is_null it) as (λ b. is_null it ≡ b → told_in trees path (cond b None (cond (is_empty_tree_id it) (Some []) (trees it))) ≡ told_in trees path (Some entries)) [
+        | true ↦ λ null. told_none path ∙ sym (ap (λ es. told_in trees path (Some es)) nothing ∙ told_nothing path)
+        | false ↦ λ some. ap (told_in trees path) (ap (λ b. cond b (Some []) (trees it)) (is_empty empty some)) ∙ sym (ap (λ es. told_in trees path (Some es)) nothing)
+      ] refl
+    where
+      is_empty : IsEmptyId it → is_null it ≡ false → is_empty_tree_id it ≡ true
+      is_empty (inl null) some = absurd (let bad : true ≡ false = sym null ∙ some in cc bad)
+      is_empty (inr is) some = is_empty_id it is
+
+  found_below : (name first : List ℕ) (path : Path) (dirs : Dirs) (e : EntryView) (entries : List EntryView) (asks : List ObjectId) → IsEntryOf name (dirs []) e → is_tree_mode e.mode ≡ true → dirs (name ∷ []) ≡ None → Finds trees e.id entries asks
+      → told_entry trees (name ∷ first ∷ path) dirs ≡ told_entry trees (first ∷ path) (only entries)
+  found_below name first path dirs e entries asks entry tree none finds =
+      told_shut name first path dirs none
+      ∙ ap (λ o. told_in trees (first ∷ path) (list_of trees o)) (the_entry name (dirs []) e entry)
+      ∙ ap (λ b. told_in trees (first ∷ path) (cond b (tree_of trees e.id) None)) tree
+      ∙ below_found e.id entries asks finds (first ∷ path)
+      ∙ sym (told_only (first ∷ path) entries)
+
+  -- an open directory isn't counted
+  passes_open : (name : List ℕ) (rest : Path) (last : List ℕ) (dirs : Dirs) (entries : List EntryView) → dirs (name ∷ []) ≡ Some entries
+      → passes (is_unopened trees dirs) (name ∷ (rest ++ last ∷ [])) ≡ passes (λ q. is_unopened trees dirs (name ∷ q)) (rest ++ last ∷ [])
+  passes_open name rest last dirs entries is =
+      let here : one_if (is_unopened trees dirs (name ∷ [])) ≡ 0 = ap (λ o. one_if (is_shut o && is_sought_tree (entry_of name (dirs [])))) is in
+      omega (arith, passes_deeper (is_unopened trees dirs) name rest last, here)
+
+  pub asked_count : (path : Path) (last : List ℕ) (dirs new : Dirs) (asked : List ObjectId) → Opens trees path dirs new asked → length asked ≡ unopened_count trees dirs (path ++ last ∷ [])
+  asked_count path last dirs new asked (arrived d) = refl
+  asked_count path last dirs new asked (stops name rest d other none) =
+      let here : one_if (is_unopened trees d (name ∷ [])) ≡ 0 = ap one_if (ap (λ o. is_shut o && is_sought_tree (entry_of name (d []))) (none []) ∙ (other_entry name d other).0) in
+      let below : passes (λ q. is_unopened trees d (name ∷ q)) (rest ++ last ∷ []) ≡ 0 =
+          no_passes (λ q. is_unopened trees d (name ∷ q)) (λ first q. ap (λ o. is_shut o && is_sought_tree (told_entry trees (name ∷ first ∷ q) d)) (none (first ∷ q)) ∙ stopped_here name first q d other none) (rest ++ last ∷ []) in
+      omega (arith, passes_deeper (is_unopened trees d) name rest last, here, below)
+  asked_count path last dirs new asked (down name rest d inner e entries more has named is opens) =
+      asked_count rest last (in_dir name d) inner more opens
+      ∙ sym (passes_open name rest last d entries is ∙ same_passes (λ q. is_unopened trees d (name ∷ q)) (is_unopened trees (in_dir name d))
+      (λ first q. ap (λ o. is_shut (d (name ∷ first ∷ q)) && is_sought_tree (shut_or_open o (told_in trees (first ∷ q) (list_of trees (entry_of name (d [])))) (told_entry trees (first ∷ q) (in_dir name d)))) is) (rest ++ last ∷ []))
+  asked_count path last dirs new asked (found name rest d inner e entries first more entry tree none finds opens) =
+      let here : one_if (is_unopened trees d (name ∷ [])) ≡ length first =
+          ap (λ o. one_if (is_shut o && is_sought_tree (entry_of name (d [])))) (none []) ∙ ap (λ o. one_if (is_sought_tree o)) (the_entry name (d []) e entry)
+          ∙ ap (λ b. one_if (b && is_sought e.id)) tree ∙ sym (first_asked e.id entries first finds) in
+      let below : passes (λ q. is_unopened trees d (name ∷ q)) (rest ++ last ∷ []) ≡ length more =
+          same_passes (λ q. is_unopened trees d (name ∷ q)) (is_unopened trees (only entries))
+          (λ first_name q. ap (λ o. is_shut o && is_sought_tree (told_entry trees (name ∷ first_name ∷ q) d)) (none (first_name ∷ q)) ∙ ap is_sought_tree (found_below name first_name q d e entries first entry tree (none []) finds)) (rest ++ last ∷ [])
+          ∙ sym (asked_count rest last (only entries) inner more opens) in
+      omega (arith, length-append first more, passes_deeper (is_unopened trees d) name rest last, here, below)
