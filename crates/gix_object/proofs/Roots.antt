@@ -6,17 +6,19 @@ use Rattle.std.specs.FinMap as map
 use Rattle.gixobj_base.specs.Entries.{EntryView, IsWellFormed}
 use Rattle.gixobj_base.specs.ids.hash.kind.Kind.{Kind}
 use Rattle.gixobj_base.specs.ids.hash.object_id.ObjectId.{ObjectId}
-use Rattle.gix_object.specs.Editing.{kept}
+use Rattle.gixobj_files.specs.Editing.{kept}
 use Rattle.gix_object.specs.EditorCalls.{EditorFiles, IsStorable, StoppedBy}
 use Rattle.gix_object.specs.declared.tree.editor.WriteError.{WriteError}
 use Rattle.gix_object.specs.declared.tree.editor.WriteError.TheVariants as write
-use Rattle.gix_object.specs.Files.{Agrees, FileSet, NamedFiles, SameFiles, Table, is_null}
-use Rattle.gix_object.specs.HandingOut.{HandsOut}
-use Rattle.gix_object.specs.Opening.{OpenFiles}
-use Rattle.gix_object.specs.State.{DirMap, State, open_dirs, root_alone}
-use Rattle.gix_object.proofs.Sublists.{all_pass}
-use Rattle.gix_object.proofs.Formed.{well_formed_kept}
-use Rattle.gix_object.proofs.EditedFiles.{hands_out_root, kept_open, named_root, root_open, same_refl}
+use Rattle.gixobj_files.specs.Files.{FileSet, NamedFiles, SameFiles, Table, is_null}
+use Rattle.gixobj_files.specs.HandingOut.{HandsOut}
+use Rattle.gixobj_files.specs.Opening.{OpenFiles}
+use Rattle.gixobj_files.specs.State.{DirMap, State, open_dirs, root_alone}
+use Rattle.gixobj_files.proofs.Sublists.{all_pass}
+use Rattle.gixobj_files.proofs.Formed.{well_formed_kept}
+use Rattle.gixobj_files.specs.Tables.{AgreesWithPairs}
+use Rattle.gix_object.proofs.OneLevel.{hands_out_root, kept_open, named_root}
+use Rattle.gixobj_files.proofs.EditedFiles.{root_open, same_refl}
 
 some_same : {X : Type 0} (x y : X) → Some x ≡ Some y → x ≡ y
 some_same x y e = cc e
@@ -41,9 +43,9 @@ files_after old new inner edit Edited T n view is same =
 
 -- the files of the tree that was handed out
 pub named_after : {S : Type 0} (old : State S) (root : List EntryView) (id : ObjectId) (pairs : List (ObjectId × List EntryView)) (T : Table) (n : ℕ)
-    → old.dirs ≡ root_alone root → pairs ≡ (id, kept root) ∷ [] → Agrees T pairs → SameFiles (NamedFiles T n id) (EditorFiles T n old)
+    → old.dirs ≡ root_alone root → pairs ≡ (id, kept root) ∷ [] → AgreesWithPairs T pairs → SameFiles (NamedFiles T n id) (EditorFiles T n old)
 named_after old root id pairs T n view is agrees =
-    let has : T.tree_at id ≡ Some (kept root) = All-head (λ (pair : ObjectId × List EntryView). T.tree_at pair.0 ≡ Some pair.1) (id, kept root) [] (subst (Agrees T) is agrees) in
+    let has : T.tree_at id ≡ Some (kept root) = All-head (λ (pair : ObjectId × List EntryView). T.tree_at pair.0 ≡ Some pair.1) (id, kept root) [] (subst (AgreesWithPairs T) is agrees) in
     subst (λ (m : DirMap). SameFiles (NamedFiles T n id) (OpenFiles T n (λ p. map.get m p))) (sym view) (named_root T n id root has)
 
 pub handed_after : {S : Type 0} (old : State S) (root : List EntryView) (id : ObjectId) (pairs : List (ObjectId × List EntryView))

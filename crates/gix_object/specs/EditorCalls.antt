@@ -5,9 +5,10 @@ use Rattle.bstr.specs.Owned.{bstring_bytes}
 use Rattle.bstr.specs.declared.bstring.BString.{BString}
 use Rattle.gixobj_base.specs.Entries.{EntryView, IsEntryName, IsWellFormed}
 use Rattle.gixobj_base.specs.ids.hash.object_id.ObjectId.{ObjectId}
-use Rattle.gix_object.specs.Files.{FileSet, Path, Table, is_null}
-use Rattle.gix_object.specs.Opening.{OpenFiles}
-use Rattle.gix_object.specs.State.{State, open_dirs}
+use Rattle.gixobj_files.specs.Editing.{with_entry, without}
+use Rattle.gixobj_files.specs.Files.{FileSet, Path, Table, is_null}
+use Rattle.gixobj_files.specs.Opening.{OpenFiles}
+use Rattle.gixobj_files.specs.State.{State, open_dirs}
 use Rattle.gix_object.specs.declared.tree.editor.Error.{Error}
 use Rattle.gix_object.specs.declared.tree.editor.Error.TheVariants as error
 use Rattle.gix_object.specs.declared.tree.editor.WriteError.{WriteError}
@@ -16,6 +17,16 @@ use Rattle.gixobj_base.specs.Bytes.{slash}
 
 abbrev pub names_of : List BString → Path
 names_of path = map bstring_bytes path
+
+-- an upsert at a path of at most one name
+abbrev pub upserted_entries : Path → ℕ → ObjectId → List EntryView → List EntryView
+upserted_entries [] mode id entries = entries
+upserted_entries (name ∷ path) mode id entries = with_entry (record { mode = mode; name = name; id = id }) entries
+
+-- a removal at a path of at most one name
+abbrev pub removed_entries : Path → List EntryView → List EntryView
+removed_entries [] entries = entries
+removed_entries (name ∷ path) entries = without name entries
 
 -- the files of an editor
 abbrev pub EditorFiles : {S : Type 0} → Table → ℕ → State S → FileSet

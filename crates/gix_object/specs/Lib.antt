@@ -1,8 +1,10 @@
-pub mod Editing
 pub mod EditorCalls
-pub mod Files
-pub mod HandingOut
-pub mod History
-pub mod Listing
-pub mod Opening
-pub mod State
+pub use Rattle.gixobj_files.specs.Editing
+pub use Rattle.gixobj_files.specs.Edits
+pub use Rattle.gixobj_files.specs.Files
+pub use Rattle.gixobj_files.specs.HandingOut
+pub use Rattle.gixobj_files.specs.History
+pub use Rattle.gixobj_files.specs.Opening
+pub use Rattle.gixobj_files.specs.State
+pub use Rattle.gixobj_files.specs.Tables
+pub use Rattle.gixobj_files.specs.Unopened

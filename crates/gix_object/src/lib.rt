@@ -5,7 +5,6 @@
 //! in stores. Its own is [`tree::editor`].
 #![tactic(auto)]
 
-pub mod laws;
 pub mod tree;
 
 pub use gixobj_base::{
@@ -17,5 +16,6 @@ pub use gixobj_codec::{
     LooseDecodeError, Object, ObjectRef, Store, Tag, TagRef, TagRefIter, TreeRef, TreeRefIter,
     commit, data, tag,
 };
+pub use gixobj_files::laws;
 pub use gixobj_lookups::{FindExt, HeaderExt, Write, find, write};
 pub use gixobj_text::signature;

@@ -9,12 +9,12 @@ use Rattle.gixobj_base.specs.ids.hash.kind.Kind.{Kind}
 use Rattle.gixobj_base.specs.ids.hash.kind.Kind.TheVariants as hash
 use Rattle.gixobj_base.specs.ids.hash.object_id.ObjectId.{ObjectId}
 use Rattle.gixobj_base.specs.ids.kind.Kind.TheVariants.{Tree}
-use Rattle.gix_object.specs.Files.{Below, FileSet, Files, Path, SameFiles, Table, is_null, stands_for}
-use Rattle.gix_object.specs.HandingOut.{Pair}
-use Rattle.gix_object.specs.Listing.{IsFirst, IsTableOf}
+use Rattle.gixobj_files.specs.Files.{Below, FileSet, Files, Path, SameFiles, Table, is_null, stands_for}
+use Rattle.gixobj_files.specs.HandingOut.{Pair}
+use Rattle.gixobj_files.specs.Tables.{IsFirst, IsTableOf}
 use Rattle.gix_object_tests.specs.Lists.{FileView, Lists, in_front}
-use Rattle.gix_object.proofs.EditedFiles.{Has-append, Has-left, Has-right}
-use Rattle.gix_object.proofs.NullIds.{null_tested}
+use Rattle.gixobj_files.proofs.EditedFiles.{Has-append, Has-left, Has-right}
+use Rattle.gixobj_files.proofs.NullIds.{null_tested}
 
 -- appended lists
 Lists-append : (fs gs : List FileView) (path : Path) (mode : ℕ) (id : ObjectId) → Lists (fs ++ gs) path mode id → Lists fs path mode id ⊎ Lists gs path mode id

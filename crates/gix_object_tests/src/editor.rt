@@ -3,8 +3,9 @@ ghost use Rattle.std.specs.Prelude.{◌≡◌, ◌≤◌, ℕ, ◌∷◌, [], If
 ghost use Rattle.gixobj_base.specs.Mode.{mode_of_kind};
 ghost use Rattle.gixobj_base.specs.trees.tree.entry_kind.EntryKind.TheVariants.{Blob};
 ghost use Rattle.gix_object.specs.EditorCalls.{EditorFiles, IsCallableOnTrees, names_of};
-ghost use Rattle.gix_object.specs.Files.{Agrees, NamedFiles, SameFiles, Table};
-ghost use Rattle.gix_object.specs.History.{History, remove, upsert};
+ghost use Rattle.gixobj_files.specs.Files.{NamedFiles, SameFiles, Table};
+ghost use Rattle.gixobj_files.specs.Tables.{AgreesWithPairs};
+ghost use Rattle.gixobj_files.specs.History.{History, remove, upsert};
 
 use crate::listing::files_of;
 use bstr::BString;
@@ -94,7 +95,7 @@ fn edited_and_written<S, E: Drop, F: FnMut(&Tree) -> Result<ObjectId, E> + Drop>
 ) -> Result<Option<Written>, Error>
     requires short { (length first.now ≤ 1) × (length second.now ≤ 1) }
     requires callable { IsCallableOnTrees F.pre }
-    ensures { IfOk result (λ it. IfSome it (λ written. (T : Table) (n : ℕ) → Agrees T written.trees.items → SameFiles (NamedFiles T n written.id)
+    ensures { IfOk result (λ it. IfSome it (λ written. (T : Table) (n : ℕ) → AgreesWithPairs T written.trees.items → SameFiles (NamedFiles T n written.id)
         (History T n (upsert (names_of first.now) (mode_of_kind Blob) id ∷ remove (names_of second.now) ∷ []) (EditorFiles T n editor.old)))) }
 {
     editor.try_upsert(first, EntryKind::Blob, id)?;

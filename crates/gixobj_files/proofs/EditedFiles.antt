@@ -1,7 +1,6 @@
 -- The files of edited entries: of an entry put in, of entries taken out, and of the entries that are kept; and those of a root
 -- that is open alone.
-use Rattle.std.proofs.Common.{◌≡◌, ◌≢◌, ◌⊎◌, inl, inr, ⊎_elim, ℕ, zero, suc, ◌-◌, ◌≤◌, Bool, true, false, not, cond, List, [], ◌∷◌, ◌++◌, length, refl, sym, ap, subst, ◌∙◌, arith, Option, Some, None}
-use Rattle.std.specs.Prelude.{MatchOption}
+use Rattle.std.proofs.Common.{◌≡◌, ◌≢◌, ◌⊎◌, inl, inr, ⊎_elim, ℕ, zero, suc, ◌-◌, Bool, true, false, not, cond, List, [], ◌∷◌, ◌++◌, length, refl, sym, ap, subst, ◌∙◌, arith, Some, None}
 use Rattle.std.specs.List.{filter}
 use Rattle.std.specs.Cmp.Lexicographic.{bytes_decides, lists_total, nat_list_cmp_total, slice_cmp}
 use Rattle.std.specs.Ordering.{nat_cmp}
@@ -9,9 +8,8 @@ use Rattle.std.specs.FinMap as map
 use Rattle.gixobj_trees.specs.Entries.{EntryView}
 use Rattle.gixobj_ids.specs.declared.hash.object_id.ObjectId.{ObjectId}
 use Rattle.gixobj_files.specs.Editing.{comes_before, kept, same_name, with_entry, without}
-use Rattle.gixobj_files.specs.Files.{Below, FileSet, Files, Has, NamedFiles, Path, Removed, SameFiles, Table, Upserted, is_null}
-use Rattle.gixobj_files.specs.HandingOut.{HandsOut, Walks, end, leaves, shut}
-use Rattle.gixobj_files.specs.Opening.{Dirs, HasAt, OpenFiles, in_dir}
+use Rattle.gixobj_files.specs.Files.{Below, FileSet, Files, Has, Path, Removed, SameFiles, Table, Upserted, is_null}
+use Rattle.gixobj_files.specs.Opening.{OpenFiles}
 use Rattle.gixobj_files.specs.State.{root_alone}
 use Rattle.gixobj_files.proofs.OpenedFiles.{root_only}
 

@@ -1,5 +1,5 @@
 -- As many ids are asked for on a path as there are directories above its last name that aren't open and would be looked up.
-use Rattle.std.proofs.Common.{◌≡◌, ◌≢◌, ◌⊎◌, inl, inr, ℕ, ◌+◌, Bool, true, false, not, cond, List, [], ◌∷◌, ◌++◌, length, refl, sym, ap, subst, ◌∙◌, arith, Option, Some, None}
+use Rattle.std.proofs.Common.{◌≡◌, ◌⊎◌, inl, inr, ℕ, ◌+◌, Bool, true, false, not, cond, List, [], ◌∷◌, ◌++◌, length, refl, sym, ap, ◌∙◌, arith, Option, Some, None}
 use Rattle.std.specs.Prelude.{◌&&◌, map}
 use Rattle.std.specs.List.{filter, find}
 use Rattle.std.specs.Cmp.Lexicographic.{bytes_decides}
@@ -12,7 +12,7 @@ use Rattle.gixobj_ids.specs.declared.hash.object_id.ObjectId.{ObjectId}
 use Rattle.gixobj_ids.specs.declared.hash.object_id.ObjectId.TheVariants as id
 use Rattle.gixobj_ids.specs.declared.kind.Kind.TheVariants.{Tree}
 use Rattle.gixobj_files.specs.Editing.{same_name}
-use Rattle.gixobj_files.specs.Edits.{Finds, IsEntryOf, Opens, arrived, down, entry_of, found, only, stops, with_dir}
+use Rattle.gixobj_files.specs.Edits.{Finds, IsEntryOf, Opens, arrived, down, entry_of, found, only, stops}
 use Rattle.gixobj_files.specs.Files.{Has, Path, Trees, is_null}
 use Rattle.gixobj_files.specs.Opening.{Dirs, HasAt, in_dir}
 use Rattle.gixobj_files.specs.Tables.{IsEmptyId}
@@ -208,7 +208,7 @@ module _ (trees : Trees) where
   asked_count path last dirs new asked (stops name rest d other none) =
       let here : one_if (is_unopened trees d (name ∷ [])) ≡ 0 = ap one_if (ap (λ o. is_shut o && is_sought_tree (entry_of name (d []))) (none []) ∙ (other_entry name d other).0) in
       let below : passes (λ q. is_unopened trees d (name ∷ q)) (rest ++ last ∷ []) ≡ 0 =
-          no_passes (λ q. is_unopened trees d (name ∷ q)) (λ first q. ap (λ o. is_shut o && is_sought_tree (told_entry trees (name ∷ first ∷ q) d)) (none (first ∷ q)) ∙ stopped_here name first q d other none) (rest ++ last ∷ []) in
+      no_passes (λ q. is_unopened trees d (name ∷ q)) (λ first q. ap (λ o. is_shut o && is_sought_tree (told_entry trees (name ∷ first ∷ q) d)) (none (first ∷ q)) ∙ stopped_here name first q d other none) (rest ++ last ∷ []) in
       omega (arith, passes_deeper (is_unopened trees d) name rest last, here, below)
   asked_count path last dirs new asked (down name rest d inner e entries more has named is opens) =
       asked_count rest last (in_dir name d) inner more opens
@@ -216,10 +216,10 @@ module _ (trees : Trees) where
       (λ first q. ap (λ o. is_shut (d (name ∷ first ∷ q)) && is_sought_tree (shut_or_open o (told_in trees (first ∷ q) (list_of trees (entry_of name (d [])))) (told_entry trees (first ∷ q) (in_dir name d)))) is) (rest ++ last ∷ []))
   asked_count path last dirs new asked (found name rest d inner e entries first more entry tree none finds opens) =
       let here : one_if (is_unopened trees d (name ∷ [])) ≡ length first =
-          ap (λ o. one_if (is_shut o && is_sought_tree (entry_of name (d [])))) (none []) ∙ ap (λ o. one_if (is_sought_tree o)) (the_entry name (d []) e entry)
-          ∙ ap (λ b. one_if (b && is_sought e.id)) tree ∙ sym (first_asked e.id entries first finds) in
+      ap (λ o. one_if (is_shut o && is_sought_tree (entry_of name (d [])))) (none []) ∙ ap (λ o. one_if (is_sought_tree o)) (the_entry name (d []) e entry)
+      ∙ ap (λ b. one_if (b && is_sought e.id)) tree ∙ sym (first_asked e.id entries first finds) in
       let below : passes (λ q. is_unopened trees d (name ∷ q)) (rest ++ last ∷ []) ≡ length more =
-          same_passes (λ q. is_unopened trees d (name ∷ q)) (is_unopened trees (only entries))
-          (λ first_name q. ap (λ o. is_shut o && is_sought_tree (told_entry trees (name ∷ first_name ∷ q) d)) (none (first_name ∷ q)) ∙ ap is_sought_tree (found_below name first_name q d e entries first entry tree (none []) finds)) (rest ++ last ∷ [])
-          ∙ sym (asked_count rest last (only entries) inner more opens) in
+      same_passes (λ q. is_unopened trees d (name ∷ q)) (is_unopened trees (only entries))
+      (λ first_name q. ap (λ o. is_shut o && is_sought_tree (told_entry trees (name ∷ first_name ∷ q) d)) (none (first_name ∷ q)) ∙ ap is_sought_tree (found_below name first_name q d e entries first entry tree (none []) finds)) (rest ++ last ∷ [])
+      ∙ sym (asked_count rest last (only entries) inner more opens) in
       omega (arith, length-append first more, passes_deeper (is_unopened trees d) name rest last, here, below)

@@ -1,18 +1,15 @@
 -- What an edit of the open directories makes of the files, whatever the directories are kept in.
-use mathlib.Core.Bool.{true≢false}
 use Rattle.std.proofs.Common.{◌≡◌, ◌≢◌, ◌⊎◌, inl, inr, ⊎_elim, ℕ, zero, suc, ◌-◌, true, false, cond, List, [], ◌∷◌, ◌++◌, length, refl, sym, ap, subst, ◌∙◌, arith, Option, Some, None}
-use Rattle.std.specs.Prelude.{MatchOption}
-use Rattle.std.specs.Option.{option_map}
 use Rattle.gixobj_trees.specs.Entries.{EntryView}
 use Rattle.gixobj_trees.specs.Mode.{is_tree_mode, tree_type}
 use Rattle.gixobj_ids.specs.declared.hash.object_id.ObjectId.{ObjectId}
 use Rattle.gixobj_files.specs.Editing.{has_tree, with_entry}
-use Rattle.gixobj_files.specs.Edits.{or_empty, removed_dirs, upserted_dirs, with_directory}
-use Rattle.gixobj_files.specs.Files.{Begins, Below, FileSet, Files, Has, Path, Placed, Removed, SameFiles, Table, Upserted, is_null}
+use Rattle.gixobj_files.specs.Edits.{or_empty, upserted_dirs, with_directory}
+use Rattle.gixobj_files.specs.Files.{Begins, Below, FileSet, Files, Has, Path, Placed, SameFiles, Table, Upserted}
 use Rattle.gixobj_files.specs.Opening.{Dirs, HasAt, OpenFiles, in_dir}
-use Rattle.gixobj_files.proofs.EditedFiles.{has_new, has_other, has_put, has_still, has_without, same_refl}
+use Rattle.gixobj_files.proofs.EditedFiles.{has_new, has_put, has_still, same_refl}
 use Rattle.gixobj_files.proofs.HasTrees.{has_tree_of, tree_there}
-use Rattle.gixobj_files.proofs.OpenedFiles.{elsewhere, from_open, from_shut, into_open, into_shut, name_itself, name_other, no_entries, no_tree_below, none_open, same_names}
+use Rattle.gixobj_files.proofs.OpenedFiles.{elsewhere, from_open, from_shut, into_open, into_shut, name_itself, name_other, no_tree_below, none_open, same_names}
 
 -- where a directory is made, entries of other names stay as they are
 has_directory : (name : List ℕ) (null : ObjectId) (es : List EntryView) (e : EntryView) → e.name ≢ name → Has (with_directory name null es) e → Has es e

@@ -1,7 +1,6 @@
 -- The files of the tree that a write hands out for a directory are those of the open directories.
-use mathlib.Core.Bool.{true≢false}
-use Rattle.std.proofs.Common.{◌≡◌, ◌≢◌, ◌⊎◌, inl, inr, ⊎_elim, ℕ, zero, suc, Bool, true, false, cond, List, [], ◌∷◌, ◌++◌, refl, sym, ap, subst, ◌∙◌, Option, Some, None}
-use Rattle.std.specs.Prelude.{MatchOption, IsFalse}
+use Rattle.std.proofs.Common.{◌≡◌, ◌≢◌, ◌⊎◌, inl, inr, ⊎_elim, ℕ, zero, suc, true, false, cond, List, [], ◌∷◌, ◌++◌, refl, sym, ap, subst, ◌∙◌, Option, Some, None}
+use Rattle.std.specs.Prelude.{MatchOption}
 use Rattle.std.specs.List.{AllByRecursion}
 use Rattle.gixobj_trees.specs.Entries.{EachLater, EntryView}
 use Rattle.gixobj_trees.specs.Mode.{is_tree_mode}
@@ -10,7 +9,6 @@ use Rattle.gixobj_files.specs.Files.{Below, Files, Has, Path, SameFiles, Table, 
 use Rattle.gixobj_files.specs.HandingOut.{Leaves, Walks, emptied, end, entry_with, leaves, shut, written}
 use Rattle.gixobj_files.specs.Opening.{Dirs, HasAt, IsOpened, OpenFiles, in_dir}
 use Rattle.gixobj_files.specs.Tables.{Pair}
-use Rattle.gixobj_files.proofs.EditedFiles.{Has-append, Has-left, Has-right}
 use Rattle.gixobj_files.proofs.OpenedFiles.{no_entries}
 
 -- the entries of open directories are trees'
@@ -69,7 +67,8 @@ mutual
   leaves_files T dirs ps own (leaves d es below os is walk) trees known (suc k) (name ∷ path) mode id =
       let w = walk_files T d es below os walk (λ e l h there. trees [] e l (subst (λ o. HasAt o e) (sym is) h) there) (λ first q. trees (first ∷ q)) known k name path mode id in (
         (λ h. let p = w.0 h in (p.0, subst (λ o. HasAt o p.0) (sym is) p.1, p.2, p.3)),
-        λ h. w.1 (h.0, subst (λ o. HasAt o h.0) is h.1, h.2, h.3))
+        λ h. w.1 (h.0, subst (λ o. HasAt o h.0) is h.1, h.2, h.3),
+      )
 
   walk_files : (T : Table) (dirs : Dirs) (es : List EntryView) (ps : List Pair) (own : List EntryView) → Walks dirs es ps own → ((e : EntryView) (l : List EntryView) → Has es e → dirs (e.name ∷ []) ≡ Some l → is_tree_mode e.mode ≡ true)
       → ((first : List ℕ) → AreTrees (in_dir first dirs)) → Known T ps → (k : ℕ) (name : List ℕ) (path : Path) (mode : ℕ) (id : ObjectId)
@@ -81,18 +80,20 @@ mutual
         (λ h. ⊎_elim (λ one. (e, inl refl, ap (λ (x : EntryView). x.name) one.1 ∙ h.2, subst (At e) (sym (subst (λ n. d (n ∷ []) ≡ None) (ap (λ (x : EntryView). x.name) one.1 ∙ h.2) none)) (subst (λ (x : EntryView). Below T (Files T k) x.mode x.id path mode id) (sym one.1) h.3)))
             (λ l. more T k d e rest name path mode id (w.0 (h.0, l, h.2, h.3))) (kept_has e e.id os h.0 h.1)),
         λ p. ⊎_elim (λ same. let named : e.name ≡ name = ap (λ (x : EntryView). x.name) same ∙ p.2 in
-              let here = subst (At p.0) (subst (λ n. d (n ∷ []) ≡ None) named none) p.3 in
-              let mine = subst (λ (x : EntryView). Below T (Files T k) x.mode x.id path mode id) (sym same) here in
-              (e, has_kept e e.id os mine.0, named, mine))
-            (λ l. let f = w.1 (p.0, l, p.2, p.3) in (f.0, has_behind e e.id os f.0 f.1, f.2, f.3)) p.1)
+            let here = subst (At p.0) (subst (λ n. d (n ∷ []) ≡ None) named none) p.3 in
+            let mine = subst (λ (x : EntryView). Below T (Files T k) x.mode x.id path mode id) (sym same) here in
+            (e, has_kept e e.id os mine.0, named, mine))
+            (λ l. let f = w.1 (p.0, l, p.2, p.3) in (f.0, has_behind e e.id os f.0 f.1, f.2, f.3)) p.1,
+      )
   walk_files T dirs es ps own (emptied d e rest inner below os found walk) trees deeper known k name path mode id =
       let w = walk_files T d rest below os walk (λ x l h. trees x l (inr h)) deeper (known_right T inner below known) k name path mode id in
       let root = root_of (in_dir e.name d) inner [] found in
       let lower = leaves_files T (in_dir e.name d) inner [] found (deeper e.name) (known_left T inner below known) k path mode id in (
         (λ h. more T k d e rest name path mode id (w.0 h)),
         λ p. ⊎_elim (λ same. let named : e.name ≡ name = ap (λ (x : EntryView). x.name) same ∙ p.2 in
-              absurd (no_entries T k path mode id (lower.1 (subst (λ n. OpenFiles T k (in_dir n d) path mode id) (sym named) (at_open T k d name root.0 p.0 path mode id (subst (λ n. d (n ∷ []) ≡ Some root.0) named root.1) p.3)))))
-            (λ l. w.1 (p.0, l, p.2, p.3)) p.1)
+            absurd (no_entries T k path mode id (lower.1 (subst (λ n. OpenFiles T k (in_dir n d) path mode id) (sym named) (at_open T k d name root.0 p.0 path mode id (subst (λ n. d (n ∷ []) ≡ Some root.0) named root.1) p.3)))))
+            (λ l. w.1 (p.0, l, p.2, p.3)) p.1,
+      )
   walk_files T dirs es ps own (written d e first rest more_own inner below os named_id found walk) trees deeper known k name path mode id =
       let pair = known_right T inner ((named_id, first ∷ more_own) ∷ below) known in
       let w = walk_files T d rest below os walk (λ x l h. trees x l (inr h)) deeper pair.1 k name path mode id in
@@ -103,13 +104,14 @@ mutual
       let At : Option (List EntryView) → Type 0 = λ o. MatchOption o ((path ≡ []) × (mode ≡ e.mode) × (id ≡ named_id)) (λ l. Files T k l path mode id) in
       let lower = leaves_files T (in_dir e.name d) inner (first ∷ more_own) found (deeper e.name) (known_left T inner ((named_id, first ∷ more_own) ∷ below) known) k path mode id in (
         (λ h. ⊎_elim (λ one. let named : e.name ≡ name = ap (λ (x : EntryView). x.name) one.1 ∙ h.2 in
-              let mine = subst (λ (x : EntryView). Below T (Files T k) x.mode x.id path mode id) (sym one.1) h.3 in
-              (e, inl refl, named, of_open T k d name root.0 e path mode id (subst (λ n. d (n ∷ []) ≡ Some root.0) named root.1) (subst (λ n. OpenFiles T k (in_dir n d) path mode id) named (lower.0 (subst At stands mine.1)))))
+            let mine = subst (λ (x : EntryView). Below T (Files T k) x.mode x.id path mode id) (sym one.1) h.3 in
+            (e, inl refl, named, of_open T k d name root.0 e path mode id (subst (λ n. d (n ∷ []) ≡ Some root.0) named root.1) (subst (λ n. OpenFiles T k (in_dir n d) path mode id) named (lower.0 (subst At stands mine.1)))))
             (λ l. more T k d e rest name path mode id (w.0 (h.0, l, h.2, h.3))) (kept_has e named_id os h.0 h.1)),
         λ p. ⊎_elim (λ same. let named : e.name ≡ name = ap (λ (x : EntryView). x.name) same ∙ p.2 in
-              let files = lower.1 (subst (λ n. OpenFiles T k (in_dir n d) path mode id) (sym named) (at_open T k d name root.0 p.0 path mode id (subst (λ n. d (n ∷ []) ≡ Some root.0) named root.1) p.3)) in
-              (new, has_kept e named_id os filled, named, (filled, subst At (sym stands) files)))
-            (λ l. let f = w.1 (p.0, l, p.2, p.3) in (f.0, has_behind e named_id os f.0 f.1, f.2, f.3)) p.1)
+            let files = lower.1 (subst (λ n. OpenFiles T k (in_dir n d) path mode id) (sym named) (at_open T k d name root.0 p.0 path mode id (subst (λ n. d (n ∷ []) ≡ Some root.0) named root.1) p.3)) in
+            (new, has_kept e named_id os filled, named, (filled, subst At (sym stands) files)))
+            (λ l. let f = w.1 (p.0, l, p.2, p.3) in (f.0, has_behind e named_id os f.0 f.1, f.2, f.3)) p.1,
+      )
 
 -- two entries of one name are one
 differs : (x : EntryView) (ys : List EntryView) (y : EntryView) → AllByRecursion (λ z. x.name ≢ z.name) ys → Has ys y → x.name ≢ y.name

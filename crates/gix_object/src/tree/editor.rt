@@ -8,11 +8,12 @@ ghost use Rattle.std.specs.Fn.{CalledAt};
 ghost use Rattle.bstr.specs.Owned.{bstring_bytes};
 ghost use Rattle.gixobj_base.specs.Entries.{EntryView, IsEntryName, IsWellFormed};
 ghost use Rattle.gixobj_base.specs.Mode.{mode_of_kind};
-ghost use Rattle.gix_object.specs.Editing.{kept, removed_entries, upserted_entries, with_entry, without};
-ghost use Rattle.gix_object.specs.EditorCalls.{AreNames, EditorFiles, RefusesEdit, RefusesName, IsCallableOnTrees, IsStorable, StoppedBy, names_of, with_store};
-ghost use Rattle.gix_object.specs.Files.{Agrees, NamedFiles, Removed, SameFiles, Table, Upserted};
-ghost use Rattle.gix_object.specs.HandingOut.{HandsOut};
-ghost use Rattle.gix_object.specs.State.{open_dirs, root_alone};
+ghost use Rattle.gixobj_files.specs.Editing.{kept, with_entry, without};
+ghost use Rattle.gix_object.specs.EditorCalls.{AreNames, EditorFiles, removed_entries, upserted_entries, RefusesEdit, RefusesName, IsCallableOnTrees, IsStorable, StoppedBy, names_of, with_store};
+ghost use Rattle.gixobj_files.specs.Files.{NamedFiles, Removed, SameFiles, Table, Upserted};
+ghost use Rattle.gixobj_files.specs.HandingOut.{HandsOut};
+ghost use Rattle.gixobj_files.specs.State.{open_dirs, root_alone};
+ghost use Rattle.gixobj_files.specs.Tables.{AgreesWithPairs};
 ghost use Rattle.gix_object.specs.contracts.tree.editor.Editor.{the_row};
 
 mod entries;
@@ -83,8 +84,8 @@ pub struct Editor<S> {
 
 impl<S> Model for Editor<S> {
     ghost use Rattle.gixobj_base.specs.Entries.{IsWellFormed};
-    ghost use Rattle.gix_object.specs.State.{State, root_alone};
-    ghost use Rattle.gix_object.specs.State.Codes.{state_code};
+    ghost use Rattle.gixobj_files.specs.State.{State, root_alone};
+    ghost use Rattle.gixobj_files.specs.State.Codes.{state_code};
 
     ghost Value = { State S };
 
@@ -221,7 +222,7 @@ impl<S> Editor<S> {
         out: F,
     ) -> Result<Written, WriteError<E>>
         requires { IsCallableOnTrees F.pre }
-        ensures files { IfOk result (λ it. (T : Table) (n : ℕ) → Agrees T it.trees.items → SameFiles (NamedFiles T n it.id) (EditorFiles T n self.old)) }
+        ensures files { IfOk result (λ it. (T : Table) (n : ℕ) → AgreesWithPairs T it.trees.items → SameFiles (NamedFiles T n it.id) (EditorFiles T n self.old)) }
         ensures same_files { (T : Table) (n : ℕ) → SameFiles (EditorFiles T n self.new) (EditorFiles T n self.old) }
         ensures handed_out { IfOk result (λ it. HandsOut (open_dirs self.old) it.trees.items) }
         ensures storable { IfOk result (λ it. All (λ pair. IsStorable pair.1) it.trees.items) }

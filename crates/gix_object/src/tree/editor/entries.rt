@@ -3,8 +3,8 @@ ghost use Rattle.std.specs.Prelude.{◌≡◌, ◌≢◌, ◌≤◌, ◌<◌, Al
 ghost use Rattle.std.specs.List.{position, prefix_len};
 ghost use Rattle.gixobj_base.specs.Entries.{EachLater, IsEntryName, IsWellFormed};
 ghost use Rattle.gixobj_base.specs.Parse.{IsFree};
-ghost use Rattle.gix_object.specs.Editing.{comes_before, kept, same_name, with_entry, without};
-ghost use Rattle.gix_object.specs.Files.{is_null};
+ghost use Rattle.gixobj_files.specs.Editing.{comes_before, kept, same_name, with_entry, without};
+ghost use Rattle.gixobj_files.specs.Files.{is_null};
 ghost use Rattle.gixobj_base.specs.Bytes.{slash};
 
 use crate::tree::{Entry, name_order};

@@ -1,12 +1,11 @@
 -- One name is taken out of the root.
 use Rattle.std.proofs.Common.{◌≡◌, [], ◌∷◌, ap, arith}
 use Rattle.bstr.specs.Owned.{bstring_bytes}
-use Rattle.gix_object.specs.Editing.{removed_entries}
-use Rattle.gix_object.specs.EditorCalls.{names_of}
-use Rattle.gix_object.specs.Files.{Removed}
-use Rattle.gix_object.specs.State.{root_alone}
-use Rattle.gix_object.proofs.EditedFiles.{removed_open}
-use Rattle.gix_object.proofs.Formed.{well_formed_without}
+use Rattle.gix_object.specs.EditorCalls.{names_of, removed_entries}
+use Rattle.gixobj_files.specs.Files.{Removed}
+use Rattle.gixobj_files.specs.State.{root_alone}
+use Rattle.gix_object.proofs.OneLevel.{removed_open}
+use Rattle.gixobj_files.proofs.Formed.{well_formed_without}
 use Rattle.gix_object.proofs.Paths.{one_name, short_path}
 use Rattle.gix_object.proofs.Roots.{after_edit, files_after}
 use Rattle.gix_object.proofs.tree.editor.Editor.try_remove.Goals as goal

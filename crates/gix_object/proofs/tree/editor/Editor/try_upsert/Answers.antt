@@ -2,12 +2,11 @@
 use Rattle.std.proofs.Common.{◌≡◌, [], ◌∷◌, ap, arith}
 use Rattle.bstr.specs.Owned.{bstring_bytes}
 use Rattle.gixobj_base.specs.Mode.{mode_of_kind}
-use Rattle.gix_object.specs.Editing.{upserted_entries}
-use Rattle.gix_object.specs.EditorCalls.{names_of}
-use Rattle.gix_object.specs.Files.{Upserted}
-use Rattle.gix_object.specs.State.{root_alone}
-use Rattle.gix_object.proofs.EditedFiles.{upserted_open}
-use Rattle.gix_object.proofs.Formed.{well_formed_with}
+use Rattle.gix_object.specs.EditorCalls.{names_of, upserted_entries}
+use Rattle.gixobj_files.specs.Files.{Upserted}
+use Rattle.gixobj_files.specs.State.{root_alone}
+use Rattle.gix_object.proofs.OneLevel.{upserted_open}
+use Rattle.gixobj_files.proofs.Formed.{well_formed_with}
 use Rattle.gix_object.proofs.Paths.{one_name, short_path}
 use Rattle.gix_object.proofs.Roots.{after_edit, files_after}
 use Rattle.gix_object.proofs.tree.editor.Editor.try_upsert.Goals as goal

@@ -1,8 +1,8 @@
 -- The tree that goes out is the root's, less null ids.
 use Rattle.std.proofs.Common.{◌≡◌, [], ◌∷◌, Err, Ok, ap, sym, rules}
 use Rattle.std.specs.Fn.{CalledAt}
-use Rattle.gix_object.specs.Editing.{kept}
-use Rattle.gix_object.proofs.Formed.{well_formed_kept}
+use Rattle.gixobj_files.specs.Editing.{kept}
+use Rattle.gixobj_files.proofs.Formed.{well_formed_kept}
 use Rattle.gix_object.proofs.Roots.{after_edit, storable}
 use Rattle.gix_object.proofs.tree.editor.Editor.write_root.Goals as goal
 

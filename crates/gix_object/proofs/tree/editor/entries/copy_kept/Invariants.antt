@@ -1,5 +1,5 @@
 use Rattle.std.proofs.Common.{◌≡◌, ◌++◌, drop}
-use Rattle.gix_object.specs.Editing.{kept}
+use Rattle.gixobj_files.specs.Editing.{kept}
 use Rattle.gix_object.proofs.tree.editor.entries.copy_kept.Given as goal
 
 abbrev pub invariant-loop-entry : goal.invariant-loop-entry

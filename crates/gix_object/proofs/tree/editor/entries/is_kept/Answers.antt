@@ -1,7 +1,7 @@
 use Rattle.std.proofs.Common.{◌∙◌, ap, not}
 use Rattle.gixobj_base.specs.Entries.{EntryView}
-use Rattle.gix_object.specs.Files.{is_null}
-use Rattle.gix_object.proofs.NullIds.{null_tested}
+use Rattle.gixobj_files.specs.Files.{is_null}
+use Rattle.gixobj_files.proofs.NullIds.{null_tested}
 use Rattle.gix_object.proofs.tree.editor.entries.is_kept.Goals as goal
 
 pub returns : goal.returns

@@ -1,6 +1,6 @@
 use Rattle.std.proofs.Common.{◌≡◌, ◌+◌, drop}
 use Rattle.std.specs.List.{prefix_len}
-use Rattle.gix_object.specs.Editing.{comes_before}
+use Rattle.gixobj_files.specs.Editing.{comes_before}
 use Rattle.gix_object.proofs.tree.editor.entries.place_for.Given as goal
 
 abbrev pub invariant-loop-other : goal.invariant-loop-other

@@ -1,8 +1,8 @@
 use Rattle.std.proofs.Common.{◌≡◌, ◌∙◌, ap, sym, subst, arith, All, List, ℕ, true, is_ok}
 use Rattle.gixobj_base.specs.Entries.{EntryView}
 use Rattle.gixobj_base.specs.Parse.{IsFree}
-use Rattle.gix_object.specs.Editing.{comes_before, without}
-use Rattle.gix_object.proofs.Placing.{free_names, placed, prefix_short}
+use Rattle.gixobj_files.specs.Editing.{comes_before, without}
+use Rattle.gixobj_files.proofs.Placing.{free_names, placed, prefix_short}
 use Rattle.gix_object.proofs.tree.editor.entries.put.Goals as goal
 
 -- the entries of other names

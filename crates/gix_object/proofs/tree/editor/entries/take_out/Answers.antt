@@ -1,5 +1,5 @@
 use Rattle.std.proofs.Common.{◌∙◌, sym}
-use Rattle.gix_object.proofs.Namesakes.{none_removed, removed_at}
+use Rattle.gixobj_files.proofs.Namesakes.{none_removed, removed_at}
 use Rattle.gix_object.proofs.tree.editor.entries.take_out.Goals as goal
 
 pub returns-in-Some-clause-items : goal.returns-in-Some-clause-items
