@@ -10,8 +10,7 @@ use Rattle.gixobj_base.specs.ids.hash.kind.Kind.TheVariants as hash
 use Rattle.gixobj_base.specs.ids.hash.object_id.ObjectId.{ObjectId}
 use Rattle.gixobj_base.specs.ids.kind.Kind.TheVariants.{Tree}
 use Rattle.gixobj_files.specs.Files.{Below, FileSet, Files, Path, SameFiles, Table, is_null, stands_for}
-use Rattle.gixobj_files.specs.HandingOut.{Pair}
-use Rattle.gixobj_files.specs.Tables.{IsFirst, IsTableOf}
+use Rattle.gixobj_files.specs.Tables.{IsFirst, IsTableOf, Pair}
 use Rattle.gix_object_tests.specs.Lists.{FileView, Lists, in_front}
 use Rattle.gixobj_files.proofs.EditedFiles.{Has-append, Has-left, Has-right}
 use Rattle.gixobj_files.proofs.NullIds.{null_tested}

@@ -1,6 +1,7 @@
 pub mod Editing
 pub mod Edits
 pub mod Files
+pub mod Halting
 pub mod HandingOut
 pub mod History
 pub mod Opening

@@ -1,0 +1,34 @@
+-- Where the opening of the directories on a path comes to a halt.
+use Rattle.std.specs.Prelude.{◌≡◌, ◌++◌, ℕ, true, List, [], ◌∷◌, Option, Some, None}
+use Rattle.gixobj_trees.specs.Entries.{EntryView}
+use Rattle.gixobj_trees.specs.Mode.{is_tree_mode}
+use Rattle.gixobj_ids.specs.declared.hash.object_id.ObjectId.{ObjectId}
+use Rattle.gixobj_files.specs.Edits.{Finds, IsEntryOf, only, with_dir}
+use Rattle.gixobj_files.specs.Files.{Path, Trees}
+use Rattle.gixobj_files.specs.Opening.{Dirs, HasAt, in_dir}
+use Rattle.gixobj_files.specs.Tables.{IsEmptyId}
+use Rattle.gixobj_files.specs.Unopened.{is_unopened, told_entry}
+
+-- the opening of the directories on a path came to a halt: which are open then, the ids asked for, and the id whose tree wasn't
+-- opened, if one was asked for in vain
+pub data Halts (trees : Trees) : Path → Dirs → Dirs → List ObjectId → Option ObjectId → Type 0 where
+  at_once : (path : Path) (dirs : Dirs) → Halts trees path dirs dirs [] None
+  in_vain : (name : List ℕ) (rest : Path) (dirs : Dirs) (e : EntryView) → IsEntryOf name (dirs []) e → is_tree_mode e.mode ≡ true → ((path : Path) → dirs (name ∷ path) ≡ None) → (IsEmptyId e.id → ⊥)
+      → Halts trees (name ∷ rest) dirs dirs (e.id ∷ []) (Some e.id)
+  down : (name : List ℕ) (rest : Path) (dirs inner : Dirs) (e : EntryView) (entries : List EntryView) (asked : List ObjectId) (vain : Option ObjectId) → HasAt (dirs []) e → e.name ≡ name → dirs (name ∷ []) ≡ Some entries
+      → Halts trees rest (in_dir name dirs) inner asked vain → Halts trees (name ∷ rest) dirs (with_dir name inner dirs) asked vain
+  found : (name : List ℕ) (rest : Path) (dirs inner : Dirs) (e : EntryView) (entries : List EntryView) (first asked : List ObjectId) (vain : Option ObjectId) → IsEntryOf name (dirs []) e → is_tree_mode e.mode ≡ true
+      → ((path : Path) → dirs (name ∷ path) ≡ None) → Finds trees e.id entries first → Halts trees rest (only entries) inner asked vain → Halts trees (name ∷ rest) dirs (with_dir name inner dirs) (first ++ asked) vain
+
+-- the place is one above the path and below the root
+abbrev pub IsAbove : Path → Path → Type 0
+IsAbove place path = (first : List ℕ) × (more : Path) × (next : List ℕ) × (rest : Path) × (place ≡ first ∷ more) × (path ≡ place ++ next ∷ rest)
+
+-- an unopened directory above a path, by its id
+pub record IsUnopenedAbove (trees : Trees) (dirs : Dirs) (path : Path) (id : ObjectId) : Type 0 where
+  pub place : Path
+  pub entry : EntryView
+  pub above : IsAbove place path
+  pub unopened : is_unopened trees dirs place ≡ true
+  pub told : told_entry trees place dirs ≡ Some entry
+  pub named : entry.id ≡ id
