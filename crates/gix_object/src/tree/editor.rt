@@ -15,8 +15,6 @@ ghost use Rattle.gix_object.specs.HandingOut.{HandsOut};
 ghost use Rattle.gix_object.specs.State.{open_dirs, root_alone};
 ghost use Rattle.gix_object.specs.contracts.tree.editor.Editor.{the_row};
 
-mod entries;
-
 use bstr::BString;
 use entries::{copy_kept, put, take_out};
 use gixobj_base::Tree;

@@ -1,8 +1,0 @@
-use Rattle.std.proofs.Common.{◌∙◌, ap, not}
-use Rattle.gixobj_base.specs.Entries.{EntryView}
-use Rattle.gix_object.specs.Files.{is_null}
-use Rattle.gix_object.proofs.NullIds.{null_tested}
-use Rattle.gix_object.proofs.tree.editor.entries.is_kept.Goals as goal
-
-pub returns : goal.returns
-returns c = ap not (null_tested c.entry.inside.oid _ c.is_null.ensures ∙ ap (λ (e : EntryView). is_null e.id) c.entry.view_is)
