@@ -9,14 +9,14 @@ use Rattle.gixobj_files.proofs.Sublists.{all_weaker}
 
 module _ {X : Type 0} (p : X → Bool) where
   -- no element that passes has a later one that does
-  abbrev PassOnce : List X → Type 0
+  abbrev pub PassOnce : List X → Type 0
   PassOnce xs = EachLater (λ x y. p x ≡ true → p y ≡ false) xs
 
-  all_stay : (xs : List X) → AllByRecursion (λ x. p x ≡ false) xs → filter (λ x. not (p x)) xs ≡ xs
+  pub all_stay : (xs : List X) → AllByRecursion (λ x. p x ≡ false) xs → filter (λ x. not (p x)) xs ≡ xs
   all_stay [] fail = refl
   all_stay (x ∷ xs) fail = rw fail.0 (ap (λ l. x ∷ l) (all_stay xs fail.1))
 
-  first_removed : (xs : List X) → PassOnce xs → position_or_len p xs < length xs → remove xs (position_or_len p xs) ≡ filter (λ x. not (p x)) xs
+  pub first_removed : (xs : List X) → PassOnce xs → position_or_len p xs < length xs → remove xs (position_or_len p xs) ≡ filter (λ x. not (p x)) xs
   first_removed [] once low = absurd (omega arith)
   first_removed (x ∷ xs) once low =
       elim (p x) as (λ b. p x ≡ b → cond (not b) (1 + position_or_len p xs) 0 < length (x ∷ xs)
@@ -25,7 +25,7 @@ module _ {X : Type 0} (p : X → Bool) where
         | false ↦ λ fails l. let rest = first_removed xs once.1 (omega (arith, l)) in rw one-add (ap (λ ys. x ∷ ys) rest)
       ] refl low
 
-  none_passes : (xs : List X) → length xs ≤ position_or_len p xs → filter (λ x. not (p x)) xs ≡ xs
+  pub none_passes : (xs : List X) → length xs ≤ position_or_len p xs → filter (λ x. not (p x)) xs ≡ xs
   none_passes [] high = refl
   none_passes (x ∷ xs) high =
       elim (p x) as (λ b. length (x ∷ xs) ≤ cond (not b) (1 + position_or_len p xs) 0 → cond (not b) (x ∷ filter (λ y. not (p y)) xs) (filter (λ y. not (p y)) xs) ≡ x ∷ xs) [

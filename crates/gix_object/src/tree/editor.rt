@@ -16,8 +16,6 @@ ghost use Rattle.gixobj_files.specs.State.{open_dirs, root_alone};
 ghost use Rattle.gixobj_files.specs.Tables.{AgreesWithPairs};
 ghost use Rattle.gix_object.specs.contracts.tree.editor.Editor.{the_row};
 
-mod entries;
-
 use bstr::BString;
 use entries::{copy_kept, put, take_out};
 use gixobj_base::Tree;

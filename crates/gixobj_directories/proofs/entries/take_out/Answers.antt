@@ -1,6 +1,6 @@
 use Rattle.std.proofs.Common.{◌∙◌, sym}
 use Rattle.gixobj_files.proofs.Namesakes.{none_removed, removed_at}
-use Rattle.gix_object.proofs.tree.editor.entries.take_out.Goals as goal
+use Rattle.gixobj_directories.proofs.entries.take_out.Goals as goal
 
 pub returns-in-Some-clause-items : goal.returns-in-Some-clause-items
 returns-in-Some-clause-items c = c.remove.ensures.items ∙ removed_at _ _ _ (rw (sym c.deref.ensures.value) c.in-Some.ensures) c.requires

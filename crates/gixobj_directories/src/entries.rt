@@ -1,18 +1,21 @@
-//! Edits of the entries of a directory.
+//! The entries of a directory: one put in, one taken out, and copies.
 ghost use Rattle.std.specs.Prelude.{◌≡◌, ◌≢◌, ◌≤◌, ◌<◌, All, IfOk, not, vec_len, vec_capacity};
 ghost use Rattle.std.specs.List.{position, prefix_len};
-ghost use Rattle.gixobj_base.specs.Entries.{EachLater, IsEntryName, IsWellFormed};
-ghost use Rattle.gixobj_base.specs.Parse.{IsFree};
+ghost use Rattle.gixobj_trees.specs.Entries.{EachLater, IsEntryName, IsWellFormed};
+ghost use Rattle.gixobj_texts.specs.Parse.{IsFree};
+ghost use Rattle.gixobj_texts.specs.Bytes.{slash};
 ghost use Rattle.gixobj_files.specs.Editing.{comes_before, kept, same_name, with_entry, without};
 ghost use Rattle.gixobj_files.specs.Files.{is_null};
-ghost use Rattle.gixobj_base.specs.Bytes.{slash};
 
-use crate::tree::{Entry, name_order};
 use bstr::BString;
+use gixobj_trees::tree::{Entry, name_order};
 use std::alloc::{AllocError, Global};
 
-/// Puts the entry at its key's place, instead of any entry of its name.
-pub(super) fn put(entries: &mut Vec<Entry>, entry: Entry)
+/// Puts an entry in, in place of any entry of its name: before the first of the others whose key comes
+/// after its own, where the key of a tree's entry is its name with a `/` behind it.
+///
+/// There must be room for one entry more. It takes no memory, and drops the entry that it replaces.
+pub fn put(entries: &mut Vec<Entry>, entry: Entry)
     requires room { vec_len entries.old < vec_capacity entries.old }
     requires well_formed { IsWellFormed entries.old.items }
     requires name { IsEntryName entry.name }
@@ -23,8 +26,10 @@ pub(super) fn put(entries: &mut Vec<Entry>, entry: Entry)
     let _ = entries.insert(place, entry);
 }
 
-/// Takes the entry of this name out.
-pub(super) fn take_out(entries: &mut Vec<Entry>, name: &[u8])
+/// Takes the entry of a name out, if there is one. The others stay as they stand.
+///
+/// No two entries may have one name. It takes no memory, and the list keeps the room that it has.
+pub fn take_out(entries: &mut Vec<Entry>, name: &[u8])
     requires { EachLater (λ x y. x.name ≢ y.name) entries.old.items }
     ensures items { entries.new.items ≡ without name.now entries.old.items }
     ensures room { vec_capacity entries.new ≡ vec_capacity entries.old }
@@ -35,8 +40,10 @@ pub(super) fn take_out(entries: &mut Vec<Entry>, name: &[u8])
     }
 }
 
-/// Copies the entries whose ids aren't null.
-pub(super) fn copy_kept(alloc: Global, entries: &[Entry]) -> Result<Vec<Entry>, AllocError>
+/// Copies of the entries whose ids aren't null, in their order.
+///
+/// It takes memory for the list and for each name, and fails only where that is wanting.
+pub fn copy_kept(alloc: Global, entries: &[Entry]) -> Result<Vec<Entry>, AllocError>
     ensures { IfOk result (λ copies. copies.items ≡ kept entries.now) }
 {
     let mut copies = Vec::new(alloc);
@@ -98,7 +105,10 @@ fn is_kept(entry: &Entry) -> bool
     !entry.oid.is_null()
 }
 
-fn copy(alloc: Global, entry: &Entry) -> Result<Entry, AllocError>
+/// A copy of the entry, with a name of its own.
+///
+/// It fails only where there is no memory for the name.
+pub fn copy(alloc: Global, entry: &Entry) -> Result<Entry, AllocError>
     ensures { IfOk result (λ copied. copied ≡ entry.now) }
 {
     Ok(Entry {

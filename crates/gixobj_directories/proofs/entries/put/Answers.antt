@@ -1,9 +1,9 @@
 use Rattle.std.proofs.Common.{◌≡◌, ◌∙◌, ap, sym, subst, arith, All, List, ℕ, true, is_ok}
-use Rattle.gixobj_base.specs.Entries.{EntryView}
-use Rattle.gixobj_base.specs.Parse.{IsFree}
+use Rattle.gixobj_trees.specs.Entries.{EntryView}
+use Rattle.gixobj_texts.specs.Parse.{IsFree}
 use Rattle.gixobj_files.specs.Editing.{comes_before, without}
 use Rattle.gixobj_files.proofs.Placing.{free_names, placed, prefix_short}
-use Rattle.gix_object.proofs.tree.editor.entries.put.Goals as goal
+use Rattle.gixobj_directories.proofs.entries.put.Goals as goal
 
 -- the entries of other names
 others : (c : goal.After-entry-1) → c.take_out.new.entries.items ≡ without c.args.entry.name c.args.entries.now.items

@@ -1,0 +1,297 @@
+-- One level of open directories: what is open at the directory itself, and at and below each name in it.
+use mathlib.Core.Bool.{true≢false}
+use Rattle.std.proofs.Common.{inl, inr, zero, suc, ◌≡◌, ◌≢◌, ◌<◌, ◌≤◌, ◌+◌, ℕ, Bool, true, false, not, cond, List, [], ◌∷◌, ◌++◌, Option, Some, None, get_or, length, nat_lt, refl, sym, ap, subst, ◌∙◌, one-add, arith}
+use Rattle.std.specs.Prelude.{◌&&◌, set}
+use Rattle.std.specs.Cmp.{tied_then}
+use Rattle.std.specs.Cmp.Lexicographic.{bytes_decides, slice_cmp, texts_ties}
+use Rattle.std.specs.List.{AllByRecursion, filter, position, position_or_len, remove}
+use Rattle.std.specs.Ordering.{eq_by_cmp, nat_cmp}
+use Rattle.std.proofs.lemmas.Bool.{ltb-false, ltb-true}
+use Rattle.bstr.specs.Owned.{bstring_bytes}
+use Rattle.gixobj_trees.specs.Entries.{EachLater, EntryView, IsEntryName}
+use Rattle.gixobj_ids.specs.declared.hash.object_id.ObjectId.{ObjectId}
+use Rattle.gixobj_files.specs.Editing.{has_tree, same_name, with_entry, without}
+use Rattle.gixobj_files.specs.Edits.{with_directory}
+use Rattle.gixobj_files.specs.Files.{Path}
+use Rattle.gixobj_directories.specs.Nested.{IsLevel, Opened, Part, below, dirs_of, in_part, opened, other_parts, part, parts, under}
+use Rattle.gixobj_files.specs.Opening.{Dirs}
+use Rattle.gixobj_directories.specs.declared.open.Child.{Child}
+use Rattle.gixobj_files.proofs.Formed.{well_formed_with, well_formed_without}
+use Rattle.gixobj_files.proofs.HasTrees.{formed_directory, tree_beside, tree_left, tree_still, tree_there}
+use Rattle.gixobj_files.proofs.Namesakes.{PassOnce, first_removed, none_passes}
+use Rattle.gixobj_files.proofs.Sublists.{all_append, all_weaker, later_append, later_kept}
+use Rattle.gixobj_files.proofs.OpenedFiles.{name_itself, name_other, same_names}
+
+abbrev pub tied : Path → Path → Bool
+tied = eq_by_cmp (slice_cmp (slice_cmp nat_cmp))
+
+pub tied_name : (x y : List ℕ) (p q : Path) → tied (x ∷ p) (y ∷ q) ≡ same_name x y && tied p q
+tied_name x y p q = sym (tied_then (slice_cmp nat_cmp x y) (slice_cmp (slice_cmp nat_cmp) p q)) ∙ ap (λ b. b && tied p q) (sym (texts_ties x y))
+
+in_under : (name : List ℕ) (ds rest : Opened) (path : Path) → dirs_of rest (name ∷ path) ≡ None → dirs_of (under name ds ++ rest) (name ∷ path) ≡ dirs_of ds path
+in_under name [] rest path none = none
+in_under name (d ∷ ds) rest path none =
+    rw (tied_name name name path d.0, name_itself name) (ap (λ r. cond (tied path d.0) (Some d.1) r) (in_under name ds rest path none))
+
+out_of_under : (name other : List ℕ) (ds rest : Opened) (path : Path) → other ≢ name → dirs_of (under name ds ++ rest) (other ∷ path) ≡ dirs_of rest (other ∷ path)
+out_of_under name other [] rest path differ = refl
+out_of_under name other (d ∷ ds) rest path differ = rw (tied_name other name path d.0, name_other other name differ) (out_of_under name other ds rest path differ)
+
+none_below : (name : List ℕ) (ps : List Part) (path : Path) → AllByRecursion (λ p. name ≢ p.0) ps → dirs_of (below ps) (name ∷ path) ≡ None
+none_below name [] path differ = refl
+none_below name (p ∷ ps) path differ = out_of_under p.0 name p.1 (below ps) path differ.0 ∙ none_below name ps path differ.1
+
+below_name : (name : List ℕ) (ps : List Part) (path : Path) → EachLater (λ x y. x.0 ≢ y.0) ps → dirs_of (below ps) (name ∷ path) ≡ in_part name ps path
+below_name name [] path apart = refl
+below_name name (p ∷ ps) path apart =
+    elim (same_names p.0 name) [
+      | inl same ↦ subst (λ (n : List ℕ). dirs_of (below (p ∷ ps)) (n ∷ path) ≡ in_part n (p ∷ ps) path) same
+          (rw (name_itself p.0) (in_under p.0 p.1 (below ps) path (none_below p.0 ps path apart.0)))
+      | inr differ ↦ rw (name_other p.0 name differ) (out_of_under p.0 name p.1 (below ps) path (λ e. differ (sym e)) ∙ below_name name ps path apart.1)
+    ]
+
+pub at_root : (es : List EntryView) (ps : List Part) → dirs_of (opened es ps) [] ≡ Some es
+at_root es ps = refl
+
+-- at and below a name: what is open in its directory
+pub at_name : (es : List EntryView) (ps : List Part) (name : List ℕ) (path : Path) → EachLater (λ x y. x.0 ≢ y.0) ps → dirs_of (opened es ps) (name ∷ path) ≡ in_part name ps path
+at_name es ps name path apart = below_name name ps path apart
+
+-- the directory of one name becomes another, or goes; those of other names are as before
+pub record Becomes (name : List ℕ) (next : Dirs) (old new : List Part) : Type 0 where
+  pub says : (first : List ℕ) (path : Path) → in_part first new path ≡ cond (same_name name first) (next path) (in_part first old path)
+
+abbrev pub called : List ℕ → Child → Bool
+called name child = same_name (bstring_bytes child.name) name
+
+pub chosen : (b : Bool) (k i : ℕ) → Some i ≡ cond b (Some k) None → (b ≡ true) × (k ≡ i)
+chosen true k i e = (refl, cc)
+chosen false k i e = absurd (cc)
+
+pub unchosen : (b : Bool) (k : ℕ) → None ≡ cond b (Some k) None → b ≡ false
+unchosen true k e = absurd (cc)
+unchosen false k e = refl
+
+found_first : (name : List ℕ) (cs : List Child) (d : Child) (path : Path) → position_or_len (called name) cs < length cs → in_part name (parts cs) path ≡ dirs_of (get_or cs (position_or_len (called name) cs) d).open path
+found_first name [] d path low = absurd (omega (arith, low))
+found_first name (c ∷ cs) d path low =
+    elim (called name c) as (λ b. cond (not b) (1 + position_or_len (called name) cs) 0 < length (c ∷ cs)
+    → cond b (dirs_of c.open path) (in_part name (parts cs) path) ≡ dirs_of (get_or (c ∷ cs) (cond (not b) (1 + position_or_len (called name) cs) 0) d).open path) [
+      | true ↦ λ l. refl
+      | false ↦ λ l. rw one-add (found_first name cs d path (omega (arith, l)))
+    ] low
+
+-- the child at the place that the search gave
+pub found : (name : List ℕ) (cs l : List Child) (i : ℕ) (child : Child) → l ≡ cs → Some i ≡ position (called name) l → child ≡ get_or cs i child → (path : Path) → in_part name (parts cs) path ≡ dirs_of child.open path
+found name cs l i child same found_at is path =
+    let at : Some i ≡ position (called name) cs = subst (λ (m : List Child). Some i ≡ position (called name) m) same found_at in
+    let place : ℕ = position_or_len (called name) cs in
+    let chose = chosen (nat_lt place (length cs)) place i at in
+    found_first name cs child path (ltb-true _ _ chose.0) ∙ ap (λ (c : Child). dirs_of c.open path) (ap (λ k. get_or cs k child) chose.1 ∙ sym is)
+
+none_first : (name : List ℕ) (cs : List Child) (path : Path) → length cs ≤ position_or_len (called name) cs → in_part name (parts cs) path ≡ None
+none_first name [] path high = refl
+none_first name (c ∷ cs) path high =
+    elim (called name c) as (λ b. length (c ∷ cs) ≤ cond (not b) (1 + position_or_len (called name) cs) 0 → cond b (dirs_of c.open path) (in_part name (parts cs) path) ≡ None) [
+      | true ↦ λ l. absurd (omega (arith, l))
+      | false ↦ λ l. none_first name cs path (omega (arith, l))
+    ] high
+
+pub not_found : (name : List ℕ) (cs l : List Child) → l ≡ cs → None ≡ position (called name) l → (path : Path) → in_part name (parts cs) path ≡ None
+not_found name cs l same found_at path =
+    let at : None ≡ position (called name) cs = subst (λ (m : List Child). None ≡ position (called name) m) same found_at in
+    none_first name cs path (ltb-false _ _ (unchosen (nat_lt (position_or_len (called name) cs) (length cs)) _ at))
+
+-- the directories of a level, by its list
+pub level_at : (ds : Opened) (es : List EntryView) (ps : List Part) → opened es ps ≡ ds → EachLater (λ x y. x.0 ≢ y.0) ps → (name : List ℕ) (path : Path) → dirs_of ds (name ∷ path) ≡ in_part name ps path
+level_at ds es ps is apart name path = subst (λ (d : Opened). dirs_of d (name ∷ path) ≡ in_part name ps path) is (at_name es ps name path apart)
+
+pub level_root : (ds : Opened) (es : List EntryView) (ps : List Part) → opened es ps ≡ ds → dirs_of ds [] ≡ Some es
+level_root ds es ps is = subst (λ (d : Opened). dirs_of d [] ≡ Some es) is refl
+
+twice : {X : Type 0} (b : Bool) (x y z : X) → cond b x z ≡ cond b x (cond b y z)
+twice true x y z = refl
+twice false x y z = refl
+
+crossed : {X : Type 0} (a b : Bool) (x y z : X) → (a ≡ true → b ≡ true → ⊥) → cond a x (cond b y z) ≡ cond b y (cond a x z)
+crossed true true x y z apart = absurd (apart refl refl)
+crossed true false x y z apart = refl
+crossed false b x y z apart = refl
+
+-- two names cannot both be a third, where they differ
+apart_names : (x y first : List ℕ) → same_name x y ≡ false → same_name x first ≡ true → same_name y first ≡ true → ⊥
+apart_names x y first differ p q = true≢false (sym ((bytes_decides x y).1 ((bytes_decides x first).0 p ∙ sym ((bytes_decides y first).0 q))) ∙ differ)
+
+-- a child that is set at its place
+set_first : (name : List ℕ) (cs : List Child) (d child : Child) (first : List ℕ) (path : Path) → position_or_len (called name) cs < length cs → bstring_bytes child.name ≡ bstring_bytes (get_or cs (position_or_len (called name) cs) d).name
+    → in_part first (parts (set cs (position_or_len (called name) cs) child)) path ≡ cond (same_name name first) (dirs_of child.open path) (in_part first (parts cs) path)
+set_first name [] d child first path low named = absurd (omega (arith, low))
+set_first name (c ∷ cs) d child first path low named =
+    elim (called name c) as (λ b. called name c ≡ b → cond (not b) (1 + position_or_len (called name) cs) 0 < length (c ∷ cs)
+    → bstring_bytes child.name ≡ bstring_bytes (get_or (c ∷ cs) (cond (not b) (1 + position_or_len (called name) cs) 0) d).name
+    → in_part first (parts (set (c ∷ cs) (cond (not b) (1 + position_or_len (called name) cs) 0) child)) path ≡ cond (same_name name first) (dirs_of child.open path) (cond (same_name (bstring_bytes c.name) first) (dirs_of c.open path) (in_part first (parts cs) path))) [
+      | true ↦ λ is l n. let own : bstring_bytes c.name ≡ name = (bytes_decides (bstring_bytes c.name) name).0 is in
+          rw (n, own) (twice (same_name name first) _ _ _)
+      | false ↦ λ is l n. let rest = set_first name cs d child first path (omega (arith, l)) (rw one-add at n) in
+          rw (one-add, rest) (crossed (same_name (bstring_bytes c.name) first) (same_name name first) _ _ _ (apart_names (bstring_bytes c.name) name first is))
+    ] refl low named
+
+pub set_becomes : (name : List ℕ) (cs l : List Child) (i : ℕ) (child next : Child) → l ≡ cs → Some i ≡ position (called name) l → child ≡ get_or cs i child → bstring_bytes next.name ≡ bstring_bytes child.name
+    → Becomes name (dirs_of next.open) (parts cs) (parts (set cs i next))
+set_becomes name cs l i child next same found_at is named =
+    let at : Some i ≡ position (called name) cs = subst (λ (m : List Child). Some i ≡ position (called name) m) same found_at in
+    let place : ℕ = position_or_len (called name) cs in
+    let chose = chosen (nat_lt place (length cs)) place i at in
+    record {
+      says = λ first path. subst (λ k. in_part first (parts (set cs k next)) path ≡ cond (same_name name first) (dirs_of next.open path) (in_part first (parts cs) path)) chose.1
+          (set_first name cs child next first path (ltb-true _ _ chose.0) (named ∙ ap (λ (c : Child). bstring_bytes c.name) (is ∙ ap (λ k. get_or cs k child) (sym chose.1))));
+    }
+
+-- a level stays one where a child with the same name is set
+all_set : (P : List ℕ → Type 0) (cs : List Child) (i : ℕ) (next : Child) → AllByRecursion (λ p. P p.0) (parts cs) → bstring_bytes next.name ≡ bstring_bytes (get_or cs i next).name → AllByRecursion (λ p. P p.0) (parts (set cs i next))
+all_set P [] i next h named = h
+all_set P (c ∷ cs) zero next h named = (subst P (sym named) h.0, h.1)
+all_set P (c ∷ cs) (suc i) next h named = (h.0, all_set P cs i next h.1 named)
+
+later_set : (R : List ℕ → List ℕ → Type 0) (cs : List Child) (i : ℕ) (next : Child) → EachLater (λ x y. R x.0 y.0) (parts cs) → bstring_bytes next.name ≡ bstring_bytes (get_or cs i next).name → EachLater (λ x y. R x.0 y.0) (parts (set cs i next))
+later_set R [] i next h named = h
+later_set R (c ∷ cs) zero next h named = (subst (λ n. AllByRecursion (λ p. R n p.0) (parts cs)) (sym named) h.0, h.1)
+later_set R (c ∷ cs) (suc i) next h named = (all_set (R (bstring_bytes c.name)) cs i next h.0 named, later_set R cs i next h.1 named)
+
+pub level_set : (es : List EntryView) (cs : List Child) (i : ℕ) (child next : Child) → child ≡ get_or cs i child → bstring_bytes next.name ≡ bstring_bytes child.name → IsLevel es (parts cs) → IsLevel es (parts (set cs i next))
+level_set es cs i child next is named level =
+    let own : bstring_bytes next.name ≡ bstring_bytes (get_or cs i next).name = own_name cs i child next is named in
+    record {
+      formed = level.formed;
+      apart = later_set (λ x y. x ≢ y) cs i next level.apart own;
+      above = all_set (λ n. has_tree n es ≡ true) cs i next level.above own;
+    }
+  where
+    own_name : (cs : List Child) (i : ℕ) (child next : Child) → child ≡ get_or cs i child → bstring_bytes next.name ≡ bstring_bytes child.name → bstring_bytes next.name ≡ bstring_bytes (get_or cs i next).name
+    own_name [] i child next is named = refl
+    own_name (c ∷ cs) zero child next is named = named ∙ ap (λ (d : Child). bstring_bytes d.name) is
+    own_name (c ∷ cs) (suc i) child next is named = own_name cs i child next is named
+
+-- the same child set: nothing changes
+pub set_same : (cs : List Child) (i : ℕ) (child next : Child) → child ≡ get_or cs i child → part next ≡ part child → parts (set cs i next) ≡ parts cs
+set_same [] i child next is same = refl
+set_same (c ∷ cs) zero child next is same = ap (λ p. p ∷ parts cs) (same ∙ ap part is)
+set_same (c ∷ cs) (suc i) child next is same = ap (λ ps. part c ∷ ps) (set_same cs i child next is same)
+
+-- the children of other names
+pub filter_parts : (name : List ℕ) (cs : List Child) → parts (filter (λ c. not (called name c)) cs) ≡ other_parts name (parts cs)
+filter_parts name [] = refl
+filter_parts name (c ∷ cs) =
+    elim (called name c) as (λ b. parts (cond (not b) (c ∷ filter (λ d. not (called name d)) cs) (filter (λ d. not (called name d)) cs)) ≡ cond (not b) (part c ∷ other_parts name (parts cs)) (other_parts name (parts cs))) [
+      | true ↦ filter_parts name cs
+      | false ↦ ap (λ ps. part c ∷ ps) (filter_parts name cs)
+    ]
+
+once : (name : List ℕ) (cs : List Child) → EachLater (λ x y. x.0 ≢ y.0) (parts cs) → PassOnce (called name) cs
+once name [] h = tt
+once name (c ∷ cs) h = (all_differ cs h.0, once name cs h.1)
+  where
+    all_differ : (ds : List Child) → AllByRecursion (λ p. bstring_bytes c.name ≢ p.0) (parts ds) → AllByRecursion (λ d. called name c ≡ true → called name d ≡ false) ds
+    all_differ [] k = tt
+    all_differ (d ∷ ds) k = ((λ is. name_other (bstring_bytes d.name) name (λ q. k.0 ((bytes_decides (bstring_bytes c.name) name).0 is ∙ sym q))), all_differ ds k.1)
+
+pub others_removed : (name : List ℕ) (cs l : List Child) (i : ℕ) → l ≡ cs → Some i ≡ position (called name) l → EachLater (λ x y. x.0 ≢ y.0) (parts cs) → parts (remove cs i) ≡ other_parts name (parts cs)
+others_removed name cs l i same found_at apart =
+    let at : Some i ≡ position (called name) cs = subst (λ (m : List Child). Some i ≡ position (called name) m) same found_at in
+    let place : ℕ = position_or_len (called name) cs in
+    let chose = chosen (nat_lt place (length cs)) place i at in
+    ap (λ k. parts (remove cs k)) (sym chose.1) ∙ ap parts (first_removed (called name) cs (once name cs apart) (ltb-true _ _ chose.0)) ∙ filter_parts name cs
+
+pub others_none : (name : List ℕ) (cs l : List Child) → l ≡ cs → None ≡ position (called name) l → parts cs ≡ other_parts name (parts cs)
+others_none name cs l same found_at =
+    let at : None ≡ position (called name) cs = subst (λ (m : List Child). None ≡ position (called name) m) same found_at in
+    sym (ap parts (none_passes (called name) cs (ltb-false _ _ (unchosen (nat_lt (position_or_len (called name) cs) (length cs)) _ at)))) ∙ filter_parts name cs
+
+others_first : (name : List ℕ) (ps : List Part) (first : List ℕ) (path : Path) → in_part first (other_parts name ps) path ≡ cond (same_name name first) None (in_part first ps path)
+others_first name [] first path = either (same_name name first)
+  where
+    either : (b : Bool) → ◌≡◌ {A = Option (List EntryView)} None (cond b None None)
+    either true = refl
+    either false = refl
+others_first name (p ∷ ps) first path =
+    elim (same_name p.0 name) as (λ b. same_name p.0 name ≡ b → in_part first (cond (not b) (p ∷ other_parts name ps) (other_parts name ps)) path ≡ cond (same_name name first) None (cond (same_name p.0 first) (dirs_of p.1 path) (in_part first ps path))) [
+      | true ↦ λ is. let own : p.0 ≡ name = (bytes_decides p.0 name).0 is in rw own (others_first name ps first path ∙ twice (same_name name first) _ _ _)
+      | false ↦ λ is. rw (others_first name ps first path) (crossed (same_name p.0 first) (same_name name first) _ _ _ (apart_names p.0 name first is))
+    ] refl
+
+pub others_becomes : (name : List ℕ) (ps : List Part) → Becomes name (λ _. None) ps (other_parts name ps)
+others_becomes name ps = record { says = λ first path. others_first name ps first path }
+
+-- a directory is added
+pub none_named : (name : List ℕ) (cs l : List Child) → l ≡ cs → None ≡ position (called name) l → AllByRecursion (λ p. p.0 ≢ name) (parts cs)
+none_named name cs l same found_at =
+    let at : None ≡ position (called name) cs = subst (λ (m : List Child). None ≡ position (called name) m) same found_at in
+    each cs (ltb-false _ _ (unchosen (nat_lt (position_or_len (called name) cs) (length cs)) _ at))
+  where
+    each : (ds : List Child) → length ds ≤ position_or_len (called name) ds → AllByRecursion (λ p. p.0 ≢ name) (parts ds)
+    each [] high = tt
+    each (d ∷ ds) high = elim (called name d) as (λ b. called name d ≡ b → length (d ∷ ds) ≤ cond (not b) (1 + position_or_len (called name) ds) 0 → (bstring_bytes d.name ≢ name) × AllByRecursion (λ p. p.0 ≢ name) (parts ds)) [
+      | true ↦ λ is h. absurd (omega (arith, h))
+      | false ↦ λ is h. ((λ q. true≢false (sym ((bytes_decides (bstring_bytes d.name) name).1 q) ∙ is)), each ds (omega (arith, h)))
+    ] refl high
+
+push_first : (name : List ℕ) (ds : Opened) (ps : List Part) → AllByRecursion (λ p. p.0 ≢ name) ps → (first : List ℕ) (path : Path) → in_part first (ps ++ (name, ds) ∷ []) path ≡ cond (same_name name first) (dirs_of ds path) (in_part first ps path)
+push_first name ds [] others first path = refl
+push_first name ds (p ∷ ps) others first path =
+    rw (push_first name ds ps others.1 first path) (crossed (same_name p.0 first) (same_name name first) _ _ _ (apart_names p.0 name first (name_other p.0 name others.0)))
+
+pub push_becomes : (name : List ℕ) (ds : Opened) (ps : List Part) → AllByRecursion (λ p. p.0 ≢ name) ps → Becomes name (dirs_of ds) ps (ps ++ (name, ds) ∷ [])
+push_becomes name ds ps others = record { says = push_first name ds ps others }
+
+others_above : (name : List ℕ) (next es : List EntryView) (ps : List Part) → ((n : List ℕ) → n ≢ name → has_tree n es ≡ true → has_tree n next ≡ true) → AllByRecursion (λ p. has_tree p.0 es ≡ true) ps → AllByRecursion (λ p. has_tree p.0 next ≡ true) (other_parts name ps)
+others_above name next es [] keeps h = tt
+others_above name next es (p ∷ ps) keeps h =
+    elim (same_name p.0 name) as (λ b. same_name p.0 name ≡ b → AllByRecursion (λ q. has_tree q.0 next ≡ true) (cond (not b) (p ∷ other_parts name ps) (other_parts name ps))) [
+      | true ↦ λ is. others_above name next es ps keeps h.1
+      | false ↦ λ is. (keeps p.0 (λ q. true≢false (sym ((bytes_decides p.0 name).1 q) ∙ is)) h.0, others_above name next es ps keeps h.1)
+    ] refl
+
+-- levels after an edit
+pub level_put : (x : EntryView) (es : List EntryView) (ps : List Part) → IsEntryName x.name → IsLevel es ps → IsLevel (with_entry x es) (other_parts x.name ps)
+level_put x es ps is_name level = record {
+  formed = well_formed_with x es level.formed is_name;
+  apart = later_kept (λ p q. p.0 ≢ q.0) (λ p. not (same_name p.0 x.name)) ps level.apart;
+  above = others_above x.name (with_entry x es) es ps (λ n differ h. tree_still n x es differ h) level.above;
+}
+
+pub level_taken : (name : List ℕ) (es : List EntryView) (ps : List Part) → IsLevel es ps → IsLevel (without name es) (other_parts name ps)
+level_taken name es ps level = record {
+  formed = well_formed_without name es level.formed;
+  apart = later_kept (λ p q. p.0 ≢ q.0) (λ p. not (same_name p.0 name)) ps level.apart;
+  above = others_above name (without name es) es ps (λ n differ h. tree_left n name es differ h) level.above;
+}
+
+pub level_added : (name : List ℕ) (null : ObjectId) (ds : Opened) (es : List EntryView) (ps : List Part) → IsEntryName name → AllByRecursion (λ p. p.0 ≢ name) ps → IsLevel es ps → IsLevel (with_directory name null es) (ps ++ (name, ds) ∷ [])
+level_added name null ds es ps is_name others level = record {
+  formed = formed_directory name null es level.formed is_name;
+  apart = later_append (λ (p q : Part). p.0 ≢ q.0) ps ((name, ds) ∷ []) level.apart (tt, tt) (all_weaker (λ (p : Part). p.0 ≢ name) (λ (p : Part). AllByRecursion (λ (q : Part). p.0 ≢ q.0) ((name, ds) ∷ [])) (λ p differ. (differ, tt)) ps others);
+  above = all_append (λ (p : Part). has_tree p.0 (with_directory name null es) ≡ true) ps ((name, ds) ∷ []) (all_weaker (λ (p : Part). has_tree p.0 es ≡ true) (λ (p : Part). has_tree p.0 (with_directory name null es) ≡ true) (λ p h. tree_beside p.0 name null es h) ps level.above) (tree_there name null es, tt);
+}
+
+-- the directory of a name that is open has a tree's entry
+above_first : (es : List EntryView) (name : List ℕ) (cs : List Child) → position_or_len (called name) cs < length cs → AllByRecursion (λ p. has_tree p.0 es ≡ true) (parts cs) → has_tree name es ≡ true
+above_first es name [] low above = absurd (omega (arith, low))
+above_first es name (c ∷ cs) low above =
+    elim (called name c) as (λ b. called name c ≡ b → cond (not b) (1 + position_or_len (called name) cs) 0 < length (c ∷ cs) → has_tree name es ≡ true) [
+      | true ↦ λ is l. subst (λ n. has_tree n es ≡ true) ((bytes_decides (bstring_bytes c.name) name).0 is) above.0
+      | false ↦ λ is l. above_first es name cs (omega (arith, l)) above.1
+    ] refl low
+
+pub child_above : (es : List EntryView) (name : List ℕ) (cs l : List Child) (i : ℕ) → l ≡ cs → Some i ≡ position (called name) l → AllByRecursion (λ p. has_tree p.0 es ≡ true) (parts cs) → has_tree name es ≡ true
+child_above es name cs l i same found_at above =
+    let at : Some i ≡ position (called name) cs = subst (λ (m : List Child). Some i ≡ position (called name) m) same found_at in
+    let place : ℕ = position_or_len (called name) cs in
+    above_first es name cs (ltb-true _ _ (chosen (nat_lt place (length cs)) place i at).0) above
+
+-- a directory is added that has a tree's entry
+pub level_pushed : (name : List ℕ) (ds : Opened) (es : List EntryView) (ps : List Part) → has_tree name es ≡ true → AllByRecursion (λ p. p.0 ≢ name) ps → IsLevel es ps → IsLevel es (ps ++ (name, ds) ∷ [])
+level_pushed name ds es ps tree others level = record {
+  formed = level.formed;
+  apart = later_append (λ (p q : Part). p.0 ≢ q.0) ps ((name, ds) ∷ []) level.apart (tt, tt) (all_weaker (λ (p : Part). p.0 ≢ name) (λ (p : Part). AllByRecursion (λ (q : Part). p.0 ≢ q.0) ((name, ds) ∷ [])) (λ p differ. (differ, tt)) ps others);
+  above = all_append (λ (p : Part). has_tree p.0 es ≡ true) ps ((name, ds) ∷ []) level.above (tree, tt);
+}

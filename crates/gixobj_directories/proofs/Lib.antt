@@ -1,0 +1,4 @@
+pub mod Handing
+pub mod Levels
+pub mod OpeningSteps
+pub mod Steps

@@ -1,0 +1,153 @@
+-- One step of opening the directories on a path.
+use Rattle.std.proofs.Common.{◌≡◌, ◌≢◌, inl, inr, ◌∙◌, ◌≤◌, ◌+◌, ℕ, min, true, false, cond, List, [], ◌∷◌, ◌++◌, Option, Some, None, get_or, length, refl, sym, ap, subst, arith, Result, Ok, Err}
+use Rattle.std.specs.Prelude.{IfNone, OnErr, set}
+use Rattle.std.proofs.lemmas.List.{map-append}
+use Rattle.std.specs.Option.{option_copied}
+use denote.Ref.{Bor}
+use Rattle.std.specs.List.{AllByRecursion, find, position}
+use Rattle.std.specs.Cmp.Lexicographic.{bytes_decides}
+use Rattle.bstr.specs.Owned.{bstring_bytes}
+use Rattle.gixobj_trees.specs.Entries.{EachLater, EntryView}
+use Rattle.gixobj_trees.specs.Mode.{is_tree_mode}
+use Rattle.gixobj_ids.specs.declared.hash.object_id.ObjectId.{ObjectId}
+use Rattle.bstr.specs.declared.bstring.BString.{BString}
+use Rattle.gixobj_directories.specs.Calls.{names_of}
+use Rattle.gixobj_files.specs.Editing.{same_name}
+use Rattle.gixobj_files.specs.Edits.{Finds, IsEntryOf, Opens, arrived, counted, down, found, only, stops, with_dir}
+use Rattle.gixobj_files.specs.Files.{Has, Path, Trees}
+use Rattle.gixobj_directories.specs.Nested.{IsLevel, Opened, Part, dirs_of, in_part, opened, part, parts}
+use Rattle.gixobj_files.specs.Opening.{Dirs, in_dir}
+use Rattle.gixobj_directories.specs.declared.open.Child.{Child}
+use Rattle.gixobj_files.proofs.HasTrees.{has_tree_of, of_has_tree}
+use Rattle.gixobj_directories.proofs.Levels.{at_name, called, child_above, level_pushed, level_set, push_becomes, set_becomes}
+use Rattle.gixobj_directories.proofs.Levels as levels
+use Rattle.gixobj_directories.proofs.Steps.{replaced}
+
+-- the first entry of a name is the only one
+pub first_entry : (name : List ℕ) (es : List EntryView) (e : EntryView) → find (λ x. same_name x.name name) es ≡ Some e → EachLater (λ x y. x.name ≢ y.name) es → IsEntryOf name (Some es) e
+first_entry name [] e is apart = absurd (cc is)
+first_entry name (x ∷ xs) e is apart =
+    elim (same_name x.name name) as (λ b. same_name x.name name ≡ b → cond b (Some x) (find (λ y. same_name y.name name) xs) ≡ Some e → IsEntryOf name (Some (x ∷ xs)) e) [
+      | true ↦ λ called_so k. let same : x ≡ e = cc k in let named : x.name ≡ name = (bytes_decides x.name name).0 called_so in
+          (inl same, ap (λ (y : EntryView). y.name) (sym same) ∙ named, λ other h n. only_first other h n same named)
+      | false ↦ λ other_name k. let rest = first_entry name xs e k apart.1 in
+          (inr rest.0, rest.1, λ other h n. later other h n other_name rest)
+    ] refl is
+  where
+    differs : (ys : List EntryView) (other : EntryView) → AllByRecursion (λ y. x.name ≢ y.name) ys → Has ys other → x.name ≢ other.name
+    differs [] other h k = absurd k
+    differs (y ∷ ys) other h (inl same) = λ q. h.0 (q ∙ ap (λ (z : EntryView). z.name) (sym same))
+    differs (y ∷ ys) other h (inr k) = differs ys other h.1 k
+
+    only_first : (other : EntryView) → Has (x ∷ xs) other → other.name ≡ name → x ≡ e → x.name ≡ name → other ≡ e
+    only_first other (inl same) n is_e named = sym same ∙ is_e
+    only_first other (inr k) n is_e named = absurd (differs xs other apart.0 k (named ∙ sym n))
+
+    later : (other : EntryView) → Has (x ∷ xs) other → other.name ≡ name → same_name x.name name ≡ false → IsEntryOf name (Some xs) e → other ≡ e
+    later other (inl same) n apart_so rest = absurd (let yes : same_name x.name name ≡ true = (bytes_decides x.name name).1 (ap (λ (z : EntryView). z.name) same ∙ n) in let bad : true ≡ false = sym yes ∙ apart_so in cc bad)
+    later other (inr k) n apart_so rest = rest.2 other k n
+
+pub no_entry : (name : List ℕ) (es : List EntryView) → find (λ x. same_name x.name name) es ≡ None → (e : EntryView) → Has es e → e.name ≢ name
+no_entry name [] is e h = absurd h
+no_entry name (x ∷ xs) is e h =
+    elim (same_name x.name name) as (λ b. same_name x.name name ≡ b → cond b (Some x) (find (λ y. same_name y.name name) xs) ≡ None → e.name ≢ name) [
+      | true ↦ λ called_so k. absurd (cc k)
+      | false ↦ λ other_name k. here h other_name (λ l. no_entry name xs k e l)
+    ] refl is
+  where
+    here : Has (x ∷ xs) e → same_name x.name name ≡ false → (Has xs e → e.name ≢ name) → e.name ≢ name
+    here (inl same) apart_so k = λ q. let yes : same_name x.name name ≡ true = (bytes_decides x.name name).1 (ap (λ (z : EntryView). z.name) same ∙ q) in let bad : true ≡ false = sym yes ∙ apart_so in cc bad
+    here (inr l) apart_so k = k l
+
+pub counted_more : (n : ℕ) (first asked : List ObjectId) → counted (counted n first) asked ≡ counted n (first ++ asked)
+counted_more n [] asked = refl
+counted_more n (id ∷ first) asked = counted_more (min (n + 1) 18446744073709551615) first asked
+
+pub finds_one : (trees : Trees) (id : ObjectId) (entries : List EntryView) (asked : List ObjectId) → Finds trees id entries asked → length asked ≤ 1
+finds_one trees id entries asked (formed, inl h) = subst (λ (l : List ObjectId). length l ≤ 1) (sym h.2) (omega arith)
+finds_one trees id entries asked (formed, inr h) = subst (λ (l : List ObjectId). length l ≤ 1) (sym h.2) (omega arith)
+
+-- nothing but a directory's own list is open
+pub only_is : (es : List EntryView) → dirs_of (opened es []) ≡ only es
+only_is es = λ i at. here at i
+  where
+    here : (at : Path) → dirs_of (opened es []) at ≡ only es at
+    here [] = refl
+    here (name ∷ path) = refl
+
+module _ (trees : Trees) (es : List EntryView) where
+  pub stop_step : (ps : List Part) → IsLevel es ps → (name : List ℕ) (rest : Path) → ((path : Path) → in_part name ps path ≡ None) → ((e : EntryView) → Has es e → e.name ≡ name → is_tree_mode e.mode ≡ false)
+      → Opens trees (name ∷ rest) (dirs_of (opened es ps)) (dirs_of (opened es ps)) []
+  stop_step ps level name rest none other = stops name rest (dirs_of (opened es ps)) other (λ path. at_name es ps name path level.apart ∙ none path)
+
+  pub down_step : (cs l : List Child) → IsLevel es (parts cs) → (name : List ℕ) (rest : Path) (i : ℕ) (child next : Child) → l ≡ cs → Some i ≡ position (called name) l → child ≡ get_or cs i child → bstring_bytes next.name ≡ bstring_bytes child.name
+      → (entries : List EntryView) → dirs_of child.open [] ≡ Some entries → (asked : List ObjectId) → Opens trees rest (dirs_of child.open) (dirs_of next.open) asked
+      → Opens trees (name ∷ rest) (dirs_of (opened es (parts cs))) (dirs_of (opened es (parts (set cs i next)))) asked
+  down_step cs l level name rest i child next same at is named entries root asked opens =
+      let old : Dirs = dirs_of (opened es (parts cs)) in
+      let e = has_tree_of name es (child_above es name cs l i same at level.above) in
+      let inside : in_dir name old ≡ dirs_of child.open = λ j path. (at_name es (parts cs) name path level.apart ∙ levels.found name cs l i child same at is path) j in
+      let new_is : dirs_of (opened es (parts (set cs i next))) ≡ with_dir name (dirs_of next.open) old = λ j path. replaced (opened es (parts cs)) es es (parts cs) (parts (set cs i next)) refl level.apart (level_set es cs i child next is named level).apart name (dirs_of next.open) (set_becomes name cs l i child next same at is named) refl path j in
+      subst (λ (d : Dirs). Opens trees (name ∷ rest) old d asked) (sym new_is)
+      (down name rest old (dirs_of next.open) e.0 entries asked e.1 e.2 (ap (λ (d : Dirs). d []) inside ∙ root) (subst (λ (d : Dirs). Opens trees rest d (dirs_of next.open) asked) (sym inside) opens))
+
+  pub found_step : (ps : List Part) → IsLevel es ps → (name : List ℕ) (rest : Path) → AllByRecursion (λ p. p.0 ≢ name) ps → ((path : Path) → in_part name ps path ≡ None) → (e : EntryView) → IsEntryOf name (Some es) e → is_tree_mode e.mode ≡ true
+      → (entries : List EntryView) (first asked : List ObjectId) → Finds trees e.id entries first → (inner : Opened) → Opens trees rest (dirs_of (opened entries [])) (dirs_of inner) asked
+      → Opens trees (name ∷ rest) (dirs_of (opened es ps)) (dirs_of (opened es (ps ++ (name, inner) ∷ []))) (first ++ asked)
+  found_step ps level name rest others none e entry tree entries first asked finds inner opens =
+      let old : Dirs = dirs_of (opened es ps) in
+      let more = level_pushed name inner es ps (of_has_tree name es e entry.0 entry.1 tree) others level in
+      let new_is : dirs_of (opened es (ps ++ (name, inner) ∷ [])) ≡ with_dir name (dirs_of inner) old = λ j path. replaced (opened es ps) es es ps (ps ++ (name, inner) ∷ []) refl level.apart more.apart name (dirs_of inner) (push_becomes name inner ps others) refl path j in
+      subst (λ (d : Dirs). Opens trees (name ∷ rest) old d (first ++ asked)) (sym new_is)
+      (found name rest old (dirs_of inner) e entries first asked entry tree (λ path. at_name es ps name path level.apart ∙ none path) finds (subst (λ (d : Dirs). Opens trees rest d (dirs_of inner) asked) (only_is entries) opens))
+
+-- an option that was copied
+pub copied_some : {X : Type 0} (r : Option (Bor X)) (o : Option X) (x : Bor X) → option_copied r ≡ o → r ≡ Some x → o ≡ Some x.now
+copied_some r o x is some = sym is ∙ ap option_copied some
+
+pub copied_none : {X : Type 0} (r : Option (Bor X)) (o : Option X) → option_copied r ≡ o → r ≡ None → o ≡ None
+copied_none r o is none = sym is ∙ ap option_copied none
+
+pub none_weaker : {X : Type 0} (r : Option X) (P : Type 0) → r ≡ None → P → IfNone r P
+none_weaker r P is p = subst (λ (o : Option _). IfNone o P) (sym is) p
+
+-- the same, for a level seen whole and a path that is known by parts
+module _ (trees : Trees) (es : List EntryView) (ds : Opened) (path : Path) (name : List ℕ) (rest : Path) (path_is : path ≡ name ∷ rest) where
+  pub stop_in : (ps : List Part) → opened es ps ≡ ds → IsLevel es ps → ((at : Path) → in_part name ps at ≡ None) → ((e : EntryView) → Has es e → e.name ≡ name → is_tree_mode e.mode ≡ false) → Opens trees path (dirs_of ds) (dirs_of ds) []
+  stop_in ps view level none other =
+      subst (λ p. Opens trees p (dirs_of ds) (dirs_of ds) []) (sym path_is) (subst (λ (d : Opened). Opens trees (name ∷ rest) (dirs_of d) (dirs_of d) []) view (stop_step trees es ps level name rest none other))
+
+  pub down_in : (cs l : List Child) → opened es (parts cs) ≡ ds → IsLevel es (parts cs) → (i : ℕ) (child next : Child) → l ≡ cs → Some i ≡ position (called name) l → child ≡ get_or cs i child → bstring_bytes next.name ≡ bstring_bytes child.name
+      → (entries : List EntryView) → dirs_of child.open [] ≡ Some entries → (asked : List ObjectId) → Opens trees rest (dirs_of child.open) (dirs_of next.open) asked
+      → Opens trees path (dirs_of ds) (dirs_of (opened es (parts (set cs i next)))) asked
+  down_in cs l view level i child next same at is named entries root asked opens =
+      subst (λ p. Opens trees p (dirs_of ds) (dirs_of (opened es (parts (set cs i next)))) asked) (sym path_is)
+      (subst (λ (d : Opened). Opens trees (name ∷ rest) (dirs_of d) (dirs_of (opened es (parts (set cs i next)))) asked) view (down_step trees es cs l level name rest i child next same at is named entries root asked opens))
+
+  pub found_in : (cs : List Child) → opened es (parts cs) ≡ ds → IsLevel es (parts cs) → AllByRecursion (λ p. p.0 ≢ name) (parts cs) → ((at : Path) → in_part name (parts cs) at ≡ None) → (e : EntryView) → IsEntryOf name (Some es) e → is_tree_mode e.mode ≡ true
+      → (entries : List EntryView) (first asked : List ObjectId) → Finds trees e.id entries first → (inner : Child) → bstring_bytes inner.name ≡ name → (new : List Child) → new ≡ cs ++ inner ∷ [] → Opens trees rest (dirs_of (opened entries [])) (dirs_of inner.open) asked
+      → Opens trees path (dirs_of ds) (dirs_of (opened es (parts new))) (first ++ asked)
+  found_in cs view level others none e entry tree entries first asked finds inner named new is opens =
+      let more : parts new ≡ parts cs ++ (name, inner.open) ∷ [] = ap parts is ∙ map-append part cs (inner ∷ []) ∙ ap (λ (n : List ℕ). parts cs ++ (n, inner.open) ∷ []) named in
+      subst (λ p. Opens trees p (dirs_of ds) (dirs_of (opened es (parts new))) (first ++ asked)) (sym path_is)
+      (subst (λ (ps : List Part). Opens trees (name ∷ rest) (dirs_of ds) (dirs_of (opened es ps)) (first ++ asked)) (sym more)
+      (subst (λ (d : Opened). Opens trees (name ∷ rest) (dirs_of d) (dirs_of (opened es (parts cs ++ (name, inner.open) ∷ []))) (first ++ asked)) view
+      (found_step trees es (parts cs) level name rest others none e entry tree entries first asked finds inner.open opens)))
+
+pub level_new : (name : List ℕ) (es : List EntryView) (cs : List Child) → IsLevel es (parts cs) → AllByRecursion (λ p. p.0 ≢ name) (parts cs) → (e : EntryView) → IsEntryOf name (Some es) e → is_tree_mode e.mode ≡ true → (inner : Child) → bstring_bytes inner.name ≡ name
+    → (new : List Child) → new ≡ cs ++ inner ∷ [] → IsLevel es (parts new)
+level_new name es cs level others e entry tree inner named new is =
+    let more : parts new ≡ parts cs ++ (name, inner.open) ∷ [] = ap parts is ∙ map-append part cs (inner ∷ []) ∙ ap (λ (n : List ℕ). parts cs ++ (n, inner.open) ∷ []) named in
+    subst (IsLevel es) (sym more) (level_pushed name inner.open es (parts cs) (of_has_tree name es e entry.0 entry.1 tree) others level)
+
+pub names_none : (path : List BString) → length path ≡ 0 → names_of path ≡ []
+names_none [] h = refl
+names_none (name ∷ rest) h = absurd (omega (arith, h))
+
+pub on_err : {X E : Type 0} (r : Result X E) (P : Type 0) → P → OnErr r P
+on_err (Ok x) P p = tt
+on_err (Err error) P p = p
+
+-- nothing was opened
+pub arrived_in : (trees : Trees) (es : List EntryView) (ds : Opened) (cs new : List Child) → opened es (parts cs) ≡ ds → new ≡ cs → Opens trees [] (dirs_of ds) (dirs_of (opened es (parts new))) []
+arrived_in trees es ds cs new view same = subst (λ (d : Opened). Opens trees [] (dirs_of ds) (dirs_of d) []) (sym (ap (λ (l : List Child). opened es (parts l)) same ∙ view)) (arrived (dirs_of ds))

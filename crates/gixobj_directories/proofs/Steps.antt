@@ -1,0 +1,105 @@
+-- What an edit of one level makes of the open directories.
+use mathlib.Core.Bool.{true≢false}
+use Rattle.std.proofs.Common.{◌≡◌, ◌≢◌, ◌∙◌, ℕ, true, false, cond, List, [], ◌∷◌, Some, None, length, refl, sym, ap, arith}
+use Rattle.std.specs.Prelude.{◌==◌}
+use Rattle.std.proofs.lemmas.Bool.{eqb-true}
+use Rattle.std.specs.Option.{option_map}
+use Rattle.std.specs.Cmp.Lexicographic.{bytes_decides}
+use Rattle.bstr.specs.Owned.{bstring_bytes}
+use Rattle.bstr.specs.declared.bstring.BString.{BString}
+use Rattle.gixobj_trees.specs.Entries.{EachLater, EntryView}
+use Rattle.gixobj_ids.specs.declared.hash.object_id.ObjectId.{ObjectId}
+use Rattle.gixobj_directories.specs.Calls.{names_of}
+use Rattle.gixobj_files.specs.Editing.{same_name, with_entry, without}
+use Rattle.gixobj_files.specs.Edits.{entry_at, or_empty, removed_dirs, upserted_dirs, with_dir, with_directory}
+use Rattle.gixobj_files.specs.Files.{Path}
+use Rattle.gixobj_directories.specs.Nested.{Opened, Part, dirs_of, in_part, opened}
+use Rattle.gixobj_files.specs.Opening.{Dirs, in_dir}
+use Rattle.gixobj_directories.proofs.Levels.{Becomes, at_name, level_at, level_root}
+
+-- a path of one name, and one of more
+pub one_left : (path : List BString) (name : BString) (rest : List BString) → path ≡ name ∷ rest → true ≡ (length rest == 0) → names_of path ≡ bstring_bytes name ∷ []
+one_left path name [] is end = ap names_of is
+one_left path name (next ∷ rest) is end = let none : length (next ∷ rest) ≡ 0 = eqb-true (length (next ∷ rest)) 0 (sym end) in absurd (omega (arith, none))
+
+pub record More (path : List BString) (name : BString) (rest : List BString) : Type 0 where
+  pub next : List ℕ
+  pub after : Path
+  pub rest_is : names_of rest ≡ next ∷ after
+  pub path_is : names_of path ≡ bstring_bytes name ∷ next ∷ after
+
+pub more_left : (path : List BString) (name : BString) (rest : List BString) → path ≡ name ∷ rest → false ≡ (length rest == 0) → More path name rest
+more_left path name [] is end = absurd (true≢false (sym end))
+more_left path name (next ∷ rest) is end = record { next = bstring_bytes next; after = names_of rest; rest_is = refl; path_is = ap names_of is }
+
+-- the directories in a name, as a function
+pub in_dir_is : (ds : Opened) (es : List EntryView) (ps : List Part) → opened es ps ≡ ds → EachLater (λ x y. x.0 ≢ y.0) ps → (name : List ℕ) → in_dir name (dirs_of ds) ≡ in_part name ps
+in_dir_is ds es ps is apart name = λ i path. level_at ds es ps is apart name path i
+
+module _ (old : Opened) (es es' : List EntryView) (ps ps' : List Part) (view : opened es ps ≡ old) (apart : EachLater (λ x y. x.0 ≢ y.0) ps) (apart' : EachLater (λ x y. x.0 ≢ y.0) ps') (name : List ℕ) (next : Dirs) (becomes : Becomes name next ps ps') where
+  -- at another path than the directory's own
+  elsewhere : (first : List ℕ) (path : Path) → dirs_of (opened es' ps') (first ∷ path) ≡ cond (same_name name first) (next path) (dirs_of old (first ∷ path))
+  elsewhere first path = at_name es' ps' first path apart' ∙ becomes.says first path ∙ ap (λ o. cond (same_name name first) (next path) o) (sym (level_at old es ps view apart first path))
+
+  pub put_last : (mode : ℕ) (id null : ObjectId) → es' ≡ with_entry (record { mode = mode; name = name; id = id }) es → ((path : Path) → next path ≡ None) → (at : Path) → dirs_of (opened es' ps') at ≡ upserted_dirs (name ∷ []) mode id null (dirs_of old) at
+  put_last mode id null is gone [] = ap Some is ∙ ap (λ o. Some (with_entry (record { mode = mode; name = name; id = id }) (or_empty o))) (sym (level_root old es ps view))
+  put_last mode id null is gone (first ∷ path) = elsewhere first path ∙ ap (λ o. cond (same_name name first) o (dirs_of old (first ∷ path))) (gone path)
+
+  pub put_deeper : (second : List ℕ) (rest : Path) (mode : ℕ) (id null : ObjectId) → es' ≡ with_directory name null es → ((path : Path) → next path ≡ upserted_dirs (second ∷ rest) mode id null (in_part name ps) path)
+      → (at : Path) → dirs_of (opened es' ps') at ≡ upserted_dirs (name ∷ second ∷ rest) mode id null (dirs_of old) at
+  put_deeper second rest mode id null is below [] = ap Some is ∙ ap (λ o. Some (with_directory name null (or_empty o))) (sym (level_root old es ps view))
+  put_deeper second rest mode id null is below (first ∷ path) =
+      elsewhere first path ∙ ap (λ o. cond (same_name name first) o (dirs_of old (first ∷ path))) (below path ∙ ap (λ (d : Dirs). upserted_dirs (second ∷ rest) mode id null d path) (sym (in_dir_is old es ps view apart name)))
+
+  pub taken_last : es' ≡ without name es → ((path : Path) → next path ≡ None) → (at : Path) → dirs_of (opened es' ps') at ≡ removed_dirs (name ∷ []) (dirs_of old) at
+  taken_last is gone [] = ap Some is ∙ ap (option_map (without name)) (sym (level_root old es ps view))
+  taken_last is gone (first ∷ path) = elsewhere first path ∙ ap (λ o. cond (same_name name first) o (dirs_of old (first ∷ path))) (gone path)
+
+  pub taken_deeper : (second : List ℕ) (rest : Path) → es' ≡ es → ((path : Path) → next path ≡ removed_dirs (second ∷ rest) (in_part name ps) path) → (at : Path) → dirs_of (opened es' ps') at ≡ removed_dirs (name ∷ second ∷ rest) (dirs_of old) at
+  taken_deeper second rest is below [] = ap Some is ∙ sym (level_root old es ps view)
+  taken_deeper second rest is below (first ∷ path) =
+      elsewhere first path ∙ ap (λ o. cond (same_name name first) o (dirs_of old (first ∷ path))) (below path ∙ ap (λ (d : Dirs). removed_dirs (second ∷ rest) d path) (sym (in_dir_is old es ps view apart name)))
+
+  -- the directories of one name are replaced
+  pub replaced : es' ≡ es → (at : Path) → dirs_of (opened es' ps') at ≡ with_dir name next (dirs_of old) at
+  replaced is [] = ap Some is ∙ sym (level_root old es ps view)
+  replaced is (first ∷ path) = elsewhere first path
+
+-- where nothing is open, nothing is taken out
+pub removed_none : (path : Path) (dirs : Dirs) → ((at : Path) → dirs at ≡ None) → (at : Path) → removed_dirs path dirs at ≡ None
+removed_none [] dirs none at = none at
+removed_none (name ∷ []) dirs none [] = ap (option_map (without name)) (none [])
+removed_none (name ∷ []) dirs none (first ∷ at) = elim (same_name name first) as (λ b. cond b None (dirs (first ∷ at)) ≡ None) [ true ↦ refl | false ↦ none (first ∷ at) ]
+removed_none (name ∷ next ∷ rest) dirs none [] = none []
+removed_none (name ∷ next ∷ rest) dirs none (first ∷ at) =
+    elim (same_name name first) as (λ b. cond b (removed_dirs (next ∷ rest) (in_dir name dirs) at) (dirs (first ∷ at)) ≡ None) [ true ↦ removed_none (next ∷ rest) (in_dir name dirs) (λ q. none (name ∷ q)) at | false ↦ none (first ∷ at) ]
+
+-- a removal below a name that isn't open changes nothing
+pub taken_nothing : (old : Opened) (es : List EntryView) (ps : List Part) → opened es ps ≡ old → EachLater (λ x y. x.0 ≢ y.0) ps → (name second : List ℕ) (rest : Path) → ((path : Path) → in_part name ps path ≡ None)
+    → (at : Path) → dirs_of old at ≡ removed_dirs (name ∷ second ∷ rest) (dirs_of old) at
+taken_nothing old es ps view apart name second rest none [] = refl
+taken_nothing old es ps view apart name second rest none (first ∷ at) =
+    let shut : (q : Path) → dirs_of old (name ∷ q) ≡ None = λ q. level_at old es ps view apart name q ∙ none q in
+    elim (same_name name first) as (λ b. same_name name first ≡ b → dirs_of old (first ∷ at) ≡ cond b (removed_dirs (second ∷ rest) (in_dir name (dirs_of old)) at) (dirs_of old (first ∷ at))) [
+      | true ↦ λ is. ap (λ n. dirs_of old (n ∷ at)) (sym ((bytes_decides name first).0 is)) ∙ shut at ∙ sym (removed_none (second ∷ rest) (in_dir name (dirs_of old)) shut at)
+      | false ↦ λ is. refl
+    ] refl
+
+-- the entry at a path of more names
+pub entry_deeper : (old : Opened) (es : List EntryView) (ps : List Part) → opened es ps ≡ old → EachLater (λ x y. x.0 ≢ y.0) ps → (name second : List ℕ) (rest : Path) (dirs : Dirs) → ((path : Path) → in_part name ps path ≡ dirs path)
+    → entry_at (name ∷ second ∷ rest) (dirs_of old) ≡ entry_at (second ∷ rest) dirs
+entry_deeper old es ps view apart name second rest dirs is =
+    let same : in_part name ps ≡ dirs = λ i path. is path i in
+    ap (entry_at (second ∷ rest)) (in_dir_is old es ps view apart name ∙ same)
+
+pub entry_none : (path : Path) → entry_at path (λ _. None) ≡ None
+entry_none [] = refl
+entry_none (name ∷ []) = refl
+entry_none (name ∷ next ∷ rest) = entry_none (next ∷ rest)
+
+-- an upsert where nothing is open, and in an empty open directory
+pub fresh : (name : List ℕ) (path : Path) (mode : ℕ) (id null : ObjectId) (at : Path) → upserted_dirs (name ∷ path) mode id null (dirs_of (opened [] [])) at ≡ upserted_dirs (name ∷ path) mode id null (λ _. None) at
+fresh name [] mode id null [] = refl
+fresh name [] mode id null (first ∷ at) = refl
+fresh name (next ∷ rest) mode id null [] = refl
+fresh name (next ∷ rest) mode id null (first ∷ at) = refl

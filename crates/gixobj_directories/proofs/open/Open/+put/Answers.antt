@@ -1,0 +1,70 @@
+use Rattle.std.proofs.Common.{◌≡◌, ◌∙◌, ◌++◌, [], ◌∷◌, None, ap, sym, refl, subst}
+use Rattle.std.specs.List.{AllByRecursion}
+use Rattle.bstr.specs.Owned.{bstring_bytes}
+use Rattle.gixobj_trees.specs.Entries.{EntryView, IsEntryName}
+use Rattle.gixobj_trees.specs.Mode.{mode_bits}
+use Rattle.gixobj_files.specs.Editing.{with_entry}
+use Rattle.gixobj_files.specs.Edits.{upserted_dirs, with_directory}
+use Rattle.gixobj_directories.specs.Nested.{dirs_of, in_part, other_parts, parts}
+use Rattle.std.proofs.lemmas.Result.{MatchResult-weaker}
+use Rattle.gixobj_files.proofs.HasTrees.{directory_same}
+use Rattle.gixobj_directories.proofs.Levels.{child_above, found, level_put, level_set, level_added, none_named, not_found, others_becomes, push_becomes, set_becomes}
+use Rattle.gixobj_directories.proofs.Steps.{fresh, more_left, one_left, put_deeper, put_last}
+use Rattle.gixobj_directories.proofs.open.Open.+put.Goals as goal
+
+pub invariant_of-self-then-is_empty : goal.invariant_of-self-then-is_empty
+invariant_of-self-then-is_empty t c =
+    let x : EntryView = record { mode = mode_bits c.args.mode; name = bstring_bytes c.in-Some.name.now; id = c.args.id } in
+    let path = one_left c.args.path.now c.in-Some.name.now c.in-Some.rest.now c.in-Some.ensures.cases.0 (c.if-is_empty.ensures {u = tt}) in
+    rw (c.in_ok-put_entry.ensures.ok, c.drop_child.ensures) (level_put x c.self.inside.tree (parts c.self.inside.children.items) (subst (AllByRecursion IsEntryName) path c.requires).0 c.self.invariant)
+
+pub returns-then-is_empty-clause-ok : goal.returns-then-is_empty-clause-ok
+returns-then-is_empty-clause-ok t c =
+    let name = bstring_bytes c.in-Some.name.now in
+    let x : EntryView = record { mode = mode_bits c.args.mode; name = name; id = c.args.id } in
+    let ps = parts c.self.inside.children.items in
+    let path = one_left c.args.path.now c.in-Some.name.now c.in-Some.rest.now c.in-Some.ensures.cases.0 (c.if-is_empty.ensures {u = tt}) in
+    let level = level_put x c.self.inside.tree ps (subst (AllByRecursion IsEntryName) path c.requires).0 c.self.invariant in
+    rw (path, c.in_ok-put_entry.ensures.ok, c.drop_child.ensures)
+    (put_last c.args.self.now c.self.inside.tree (with_entry x c.self.inside.tree) ps (other_parts name ps) c.self.view_is c.self.invariant.apart level.apart name (λ _. None) (others_becomes name ps) (mode_bits c.args.mode) c.args.id c.args.null refl (λ _. refl))
+
+pub invariant_of-self-2 : goal.invariant_of-self-2
+invariant_of-self-2 t c = level_set c.self.inside.tree c.self.inside.children.items c.in-Some-child_at.place c.index_mut-child.result.now _ c.index_mut-child.ensures.value refl c.self.invariant
+
+pub invariant_of-self-in_default-child_at : goal.invariant_of-self-in_default-child_at
+invariant_of-self-in_default-child_at t c =
+    let name = bstring_bytes c.in-Some.name.now in
+    let cs = c.self.inside.children.items in
+    let m = more_left c.args.path.now c.in-Some.name.now c.in-Some.rest.now c.in-Some.ensures.cases.0 (c.if-is_empty.ensures {u = tt}) in
+    rw (c.in_ok-add_directory.ensures.ok.0, c.in_ok-add_directory.ensures.ok.1)
+    (level_added name c.args.null c.put.new.self c.self.inside.tree (parts cs) (subst (AllByRecursion IsEntryName) m.path_is c.requires).0
+    (none_named name cs c.deref.result.now c.deref.ensures.value (c.in_default-child_at.ensures {u = tt})) c.self.invariant)
+
+pub returns-in_default-child_at-clause-ok : goal.returns-in_default-child_at-clause-ok
+returns-in_default-child_at-clause-ok t c =
+    let name = bstring_bytes c.in-Some.name.now in
+    let cs = c.self.inside.children.items in
+    let m = more_left c.args.path.now c.in-Some.name.now c.in-Some.rest.now c.in-Some.ensures.cases.0 (c.if-is_empty.ensures {u = tt}) in
+    let others = none_named name cs c.deref.result.now c.deref.ensures.value (c.in_default-child_at.ensures {u = tt}) in
+    let level = level_added name c.args.null c.put.new.self c.self.inside.tree (parts cs) (subst (AllByRecursion IsEntryName) m.path_is c.requires).0 others c.self.invariant in
+    let none : in_part name (parts cs) ≡ (λ _. None) = λ i path. not_found name cs c.deref.result.now c.deref.ensures.value (c.in_default-child_at.ensures {u = tt}) path i in
+    let inner = c.in_ok-put.ensures.ok in
+    rw (m.path_is, c.in_ok-add_directory.ensures.ok.0, c.in_ok-add_directory.ensures.ok.1)
+    (put_deeper c.args.self.now c.self.inside.tree (with_directory name c.args.null c.self.inside.tree) (parts cs) (parts cs ++ (name, c.put.new.self) ∷ []) c.self.view_is c.self.invariant.apart level.apart name (dirs_of c.put.new.self)
+    (push_becomes name c.put.new.self (parts cs) others) m.next m.after (mode_bits c.args.mode) c.args.id c.args.null refl
+    (λ path. rw none ((rw (c.new-inner.ensures, c.empty.ensures, m.rest_is) at inner) path ∙ fresh m.next m.after (mode_bits c.args.mode) c.args.id c.args.null path)))
+
+pub returns-clause-ok : goal.returns-clause-ok
+returns-clause-ok t c = MatchResult-weaker c.put-2.result c.put-2.ensures.ok (λ _ ok.
+    let name = bstring_bytes c.in-Some.name.now in
+    let cs = c.self.inside.children.items in
+    let m = more_left c.args.path.now c.in-Some.name.now c.in-Some.rest.now c.in-Some.ensures.cases.0 (c.if-is_empty.ensures {u = tt}) in
+    let child = c.index_mut-child.result.now in
+    let here = c.in-Some-child_at.ensures {u = tt} in
+    let level = level_set c.self.inside.tree cs c.in-Some-child_at.place child (record { name = child.name; «open» = c.put-2.new.self }) c.index_mut-child.ensures.value refl c.self.invariant in
+    let was : in_part name (parts cs) ≡ dirs_of child.open = λ i path. found name cs c.deref.result.now c.in-Some-child_at.place child c.deref.ensures.value here c.index_mut-child.ensures.value path i in
+    rw m.path_is
+    (put_deeper c.args.self.now c.self.inside.tree c.self.inside.tree (parts cs) _ c.self.view_is c.self.invariant.apart level.apart name (dirs_of c.put-2.new.self)
+    (set_becomes name cs c.deref.result.now c.in-Some-child_at.place child _ c.deref.ensures.value here c.index_mut-child.ensures.value refl)
+    m.next m.after (mode_bits c.args.mode) c.args.id c.args.null (sym (directory_same name c.args.null c.self.inside.tree (child_above c.self.inside.tree name cs c.deref.result.now c.in-Some-child_at.place c.deref.ensures.value here c.self.invariant.above)))
+    (λ path. rw was (ok path ∙ ap (λ p. upserted_dirs p (mode_bits c.args.mode) c.args.id c.args.null (dirs_of child.open) path) m.rest_is)))) (λ _ u. u)

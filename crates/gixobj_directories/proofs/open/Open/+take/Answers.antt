@@ -1,0 +1,41 @@
+use Rattle.std.proofs.Common.{◌≡◌, ◌∙◌, None, ap, refl}
+use Rattle.bstr.specs.Owned.{bstring_bytes}
+use Rattle.gixobj_files.specs.Editing.{without}
+use Rattle.gixobj_files.specs.Edits.{removed_dirs}
+use Rattle.gixobj_directories.specs.Nested.{dirs_of, in_part, other_parts, parts}
+use Rattle.gixobj_directories.proofs.Levels.{found, level_set, level_taken, not_found, others_becomes, set_becomes}
+use Rattle.gixobj_directories.proofs.Steps.{more_left, one_left, taken_deeper, taken_last, taken_nothing}
+use Rattle.gixobj_directories.proofs.open.Open.+take.Goals as goal
+
+pub invariant_of-self : goal.invariant_of-self
+invariant_of-self t c = rw (c.take_entry.ensures, c.drop_child.ensures) (level_taken (bstring_bytes c.in-Some.name.now) c.self.inside.tree (parts c.self.inside.children.items) c.self.invariant)
+
+pub returns-then-is_empty : goal.returns-then-is_empty
+returns-then-is_empty t c =
+    let name = bstring_bytes c.in-Some.name.now in
+    let ps = parts c.self.inside.children.items in
+    let level = level_taken name c.self.inside.tree ps c.self.invariant in
+    rw (one_left c.args.path.now c.in-Some.name.now c.in-Some.rest.now c.in-Some.ensures.cases.0 (c.if-is_empty.ensures {u = tt}), c.take_entry.ensures, c.drop_child.ensures)
+    (taken_last c.args.self.now c.self.inside.tree (without name c.self.inside.tree) ps (other_parts name ps) c.self.view_is c.self.invariant.apart level.apart name (λ _. None) (others_becomes name ps) refl (λ _. refl))
+
+pub invariant_of-self-in-Some-child_at : goal.invariant_of-self-in-Some-child_at
+invariant_of-self-in-Some-child_at t c = level_set c.self.inside.tree c.self.inside.children.items c.in-Some-child_at.place c.index_mut-child.result.now _ c.index_mut-child.ensures.value refl c.self.invariant
+
+pub returns-in-Some-child_at : goal.returns-in-Some-child_at
+returns-in-Some-child_at t c =
+    let name = bstring_bytes c.in-Some.name.now in
+    let cs = c.self.inside.children.items in
+    let m = more_left c.args.path.now c.in-Some.name.now c.in-Some.rest.now c.in-Some.ensures.cases.0 (c.if-is_empty.ensures {u = tt}) in
+    let level = level_set c.self.inside.tree cs c.in-Some-child_at.place c.index_mut-child.result.now (record { name = c.index_mut-child.result.now.name; «open» = c.take.new.self }) c.index_mut-child.ensures.value refl c.self.invariant in
+    let was : in_part name (parts cs) ≡ dirs_of c.index_mut-child.result.now.open = λ i path. found name cs c.deref.result.now c.in-Some-child_at.place c.index_mut-child.result.now c.deref.ensures.value (c.in-Some-child_at.ensures {u = tt}) c.index_mut-child.ensures.value path i in
+    rw m.path_is
+    (taken_deeper c.args.self.now c.self.inside.tree c.self.inside.tree (parts cs) _ c.self.view_is c.self.invariant.apart level.apart name (dirs_of c.take.new.self)
+    (set_becomes name cs c.deref.result.now c.in-Some-child_at.place c.index_mut-child.result.now _ c.deref.ensures.value (c.in-Some-child_at.ensures {u = tt}) c.index_mut-child.ensures.value refl)
+    m.next m.after refl (λ path. rw was (c.take.ensures path ∙ ap (λ p. removed_dirs p (dirs_of c.index_mut-child.result.now.open) path) m.rest_is)))
+
+pub returns-in_default-child_at : goal.returns-in_default-child_at
+returns-in_default-child_at t c =
+    let name = bstring_bytes c.in-Some.name.now in
+    let m = more_left c.args.path.now c.in-Some.name.now c.in-Some.rest.now c.in-Some.ensures.cases.0 (c.if-is_empty.ensures {u = tt}) in
+    rw m.path_is (taken_nothing c.args.self.now c.self.inside.tree (parts c.self.inside.children.items) c.self.view_is c.self.invariant.apart name m.next m.after
+    (not_found name c.self.inside.children.items c.deref.result.now c.deref.ensures.value (c.in_default-child_at.ensures {u = tt})))

@@ -1,0 +1,11 @@
+use Rattle.std.proofs.Common.{◌≡◌, [], ◌∷◌, Ok, Err, refl}
+use Rattle.std.specs.Fn.{CalledAt}
+use Rattle.gixobj_ids.specs.declared.hash.object_id.ObjectId.{ObjectId}
+use Rattle.gixobj_ids.specs.declared.hash.object_id.ObjectId.TheVariants.{Sha1}
+use Rattle.gixobj_directories.proofs.Handing.{err_weaker, stopped_here}
+use Rattle.gixobj_directories.proofs.write.hand.Goals as goal
+
+pub returns-in_err-reserve-clause-stopped : goal.returns-in_err-reserve-clause-stopped
+returns-in_err-reserve-clause-stopped g c =
+    err_weaker c.from_residual.result _ _ c.from_residual.ensures.1
+    (stopped_here (λ f p h. CalledAt g.F.FnMut f p.1 (Ok p.0) h) (λ f tree e h. CalledAt g.F.FnMut f tree (Err e) h) (λ ps. (id : ObjectId) × (ps ≡ (id, c.args.tree) ∷ [])) c.args.out.now c.args.out.now [] ((Sha1 [], c.args.tree) ∷ []) refl (Sha1 [], refl))

@@ -1,0 +1,23 @@
+-- What the calls promise.
+use Rattle.std.specs.Prelude.{List, All, IsFalse, map}
+use denote.Ref.{Bor}
+use Rattle.bstr.specs.Owned.{bstring_bytes}
+use Rattle.bstr.specs.declared.bstring.BString.{BString}
+use Rattle.gixobj_trees.specs.Entries.{EntryView, IsEntryName, IsWellFormed}
+use Rattle.gixobj_files.specs.Files.{Path, is_null}
+
+abbrev pub names_of : List BString → Path
+names_of path = map bstring_bytes path
+
+-- each name is one that an entry may have
+abbrev pub AreNames : Path → Type 0
+AreNames path = All IsEntryName path
+
+-- a tree that may be handed out: well-formed, and without null ids
+pub record IsStorable (entries : List EntryView) : Type 0 where
+  pub well_formed : IsWellFormed entries
+  pub no_nulls : All (λ e. IsFalse (is_null e.id)) entries
+
+-- a closure of this condition may be called on each such tree, whatever it was called on before
+abbrev pub IsCallableOnTrees : {F : Type 0} → (F → Bor (List EntryView) → Type 0) → Type 0
+IsCallableOnTrees {F} pre = (state : F) (tree : Bor (List EntryView)) → IsStorable tree.now → pre state tree

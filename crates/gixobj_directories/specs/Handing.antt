@@ -1,0 +1,23 @@
+-- How a write goes through open directories: what one entry hands out, and where a write stops.
+use Rattle.std.specs.Prelude.{◌≡◌, List, ◌∷◌, ◌++◌}
+use Rattle.std.specs.List.{FoldsTo}
+use Rattle.gixobj_trees.specs.Entries.{EntryView}
+use Rattle.gixobj_ids.specs.declared.hash.object_id.ObjectId.{ObjectId}
+use Rattle.gixobj_files.specs.HandingOut.{Walks}
+use Rattle.gixobj_files.specs.Tables.{Pair}
+use Rattle.gixobj_files.specs.Opening.{Dirs, in_dir}
+use Rattle.gixobj_directories.specs.declared.write.WriteError.{WriteError}
+use Rattle.gixobj_directories.specs.declared.write.WriteError.TheVariants as write
+
+-- the entry hands these pairs out and leaves these entries, whatever comes behind it; the directories are those in it
+abbrev pub Visits : Dirs → EntryView → List Pair → List EntryView → Type 0
+Visits inside e inner kept =
+    (dirs : Dirs) → in_dir e.name dirs ≡ inside → (entries : List EntryView) (below : List Pair) (own : List EntryView) → Walks dirs entries below own
+    → Walks dirs (e ∷ entries) (inner ++ below) (kept ++ own)
+
+-- a write stopped: calls were answered for the first pairs of what goes out, and then one was refused, or memory was wanting
+abbrev pub Stopped : {F E : Type 0} → (F → Pair → F → Type 0) → (F → List EntryView → E → F → Type 0) → (List Pair → Type 0) → F → F → WriteError E → Type 0
+Stopped {F} gave refused goes_out old new (write.Out e) =
+    (before : List Pair) × (tree : List EntryView) × (asked : F) × FoldsTo gave old before asked × refused asked tree e new
+    × ((id : ObjectId) → (rest : List Pair) × goes_out (before ++ (id, tree) ∷ rest))
+Stopped {F} gave refused goes_out old new write.OutOfMemory = (before rest : List Pair) × FoldsTo gave old before new × goes_out (before ++ rest)

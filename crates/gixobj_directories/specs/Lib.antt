@@ -1,0 +1,4 @@
+pub mod Calls
+pub mod Falls
+pub mod Handing
+pub mod Nested

@@ -1,0 +1,6 @@
+//! Open directories, each with the open directories in it: looked at, edited by paths, copied and written.
+#![tactic(auto)]
+
+pub mod entries;
+pub mod open;
+pub mod write;

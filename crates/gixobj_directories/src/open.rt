@@ -1,0 +1,354 @@
+//! Open directories, each with the open directories in it.
+ghost use Rattle.std.specs.Prelude.{◌≡◌, ◌≢◌, ◌<◌, ◌&&◌, true, false, IfNone, IfSome, Some, ◌∷◌, [], ◌++◌, IfOk, OnErr, OnOk, vec_capacity, vec_len};
+ghost use Rattle.std.specs.List.{AllByRecursion, find, position};
+ghost use Rattle.std.specs.Option.{option_copied};
+ghost use Rattle.bstr.specs.Owned.{bstring_bytes};
+ghost use Rattle.gixobj_trees.specs.Entries.{EachLater, EntryView, IsEntryName, IsWellFormed};
+ghost use Rattle.gixobj_trees.specs.Mode.{is_tree_mode, mode_bits};
+ghost use Rattle.gixobj_files.specs.Editing.{has_tree, same_name, with_entry, without};
+ghost use Rattle.gixobj_files.specs.Edits.{IsEntryOf, entry_at, removed_dirs, upserted_dirs, with_directory};
+ghost use Rattle.gixobj_files.specs.Files.{Has, Path};
+ghost use Rattle.gixobj_directories.specs.Calls.{names_of};
+ghost use Rattle.gixobj_directories.specs.Nested.{dirs_of, opened, other_parts, parts};
+
+use crate::entries::{copy, put, take_out};
+use bstr::BString;
+use gixobj_ids::hash::ObjectId;
+use gixobj_trees::Tree;
+use gixobj_trees::tree::{Entry, EntryKind, EntryMode};
+use std::alloc::{AllocError, Global};
+use std::marker::Model;
+
+/// An open directory: its tree, and the open directories in it.
+///
+/// In contracts it is the list of the open paths, each with the entries of its directory; its own path,
+/// without names, is the first. Its tree is well-formed, and each open directory in it has a name of its
+/// own, that of a tree's entry. A path is a list of names.
+#[cycle(open)]
+#[derive(Drop)]
+pub struct Open {
+    pub(crate) tree: Tree,
+    pub(crate) children: Vec<Child>,
+}
+
+/// An open directory in another, and its name.
+#[cycle(open)]
+#[derive(Drop)]
+pub(crate) struct Child {
+    name: BString,
+    pub(crate) open: Open,
+}
+
+impl Model for Open {
+    ghost use Rattle.std.specs.Prelude.{List, ℕ, ◌∷◌, [], length};
+    ghost use Rattle.gixobj_trees.specs.Entries.{EntryView};
+
+    ghost Value = { List (List (List ℕ) × List EntryView) };
+
+    ghost use Rattle.gixobj_directories.specs.Nested.{IsLevel, opened, parts};
+
+    ghost view = { λ a. opened a.tree (parts a.children.items) };
+
+    ghost invariant = { λ a. IsLevel a.tree (parts a.children.items) };
+
+    ghost size = { length };
+
+    ghost use Rattle.std.proofs.Common.{arith};
+    ghost use Rattle.gixobj_directories.specs.Falls.{most_le-below};
+
+    ghost size_decreases = { λ a h. omega (arith, most_le-below a.children.items) };
+}
+
+/// The place of a directory among those that are open.
+pub(crate) fn child_at(children: &[Child], name: &BString) -> Option<usize>
+    ensures { result ≡ position (λ c. same_name (bstring_bytes c.name) (bstring_bytes name.now)) children.now }
+{
+    children.iter().position(|child| is_named(child, name))
+}
+
+fn is_named(child: &Child, name: &BString) -> bool
+    ensures { result ≡ same_name (bstring_bytes child.now.name) (bstring_bytes name.now) }
+{
+    child.name.as_bytes() == name.as_bytes()
+}
+
+impl Open {
+    /// A directory of this tree, with nothing open in it.
+    ///
+    /// The tree must be well-formed, as [`Tree::is_well_formed`] tells. It takes no memory: `alloc` is only
+    /// kept with the directories that are opened in it.
+    pub fn new(alloc: Global, tree: Tree) -> Open
+        requires { IsWellFormed tree }
+        ensures { result ≡ opened tree [] }
+    {
+        Open {
+            tree,
+            children: Vec::new(alloc),
+        }
+    }
+
+    /// The tree of the directory at a path, where that is open. Without names that is the directory's own.
+    ///
+    /// It takes no memory.
+    pub fn tree(&self, path: &[BString]) -> Option<&Tree>
+        ensures { option_copied result ≡ dirs_of self.now (names_of path.now) }
+    {
+        let Some((name, rest)) = path.split_first() else {
+            return Some(&self.tree);
+        };
+        let Some(place) = child_at(&self.children, name) else {
+            return None;
+        };
+        let child = &self.children[place];
+        child.open.tree(rest)
+    }
+
+    /// The entry at a path, where the directory above it is open and has one. Without names there is none.
+    ///
+    /// It takes no memory, and looks no directory up.
+    pub fn get(&self, path: &[BString]) -> Option<&Entry>
+        ensures { option_copied result ≡ entry_at (names_of path.now) (dirs_of self.now) }
+    {
+        let Some((name, rest)) = path.split_first() else {
+            return None;
+        };
+        if rest.is_empty() {
+            return find_entry(&self.tree, name);
+        }
+        let Some(place) = child_at(&self.children, name) else {
+            return None;
+        };
+        let child = &self.children[place];
+        child.open.get(rest)
+    }
+
+    /// Puts an entry at a path, in place of any entry that is there. What is open at or below the path is
+    /// shut. Without names nothing changes.
+    ///
+    /// Each beginning of the path is an open directory then. One that isn't open is opened as empty: an
+    /// entry of a tree's mode that is there stays, and else one with the id `null` is put in, in place of any
+    /// entry of that name.
+    ///
+    /// It fails only where memory is wanting, and then nothing has changed.
+    pub fn put(
+        &mut self,
+        alloc: Global,
+        path: &[BString],
+        mode: EntryMode,
+        id: ObjectId,
+        null: ObjectId,
+    ) -> Result<(), AllocError>
+        requires { AllByRecursion IsEntryName (names_of path.now) }
+        ensures ok { OnOk result ((at : Path) → dirs_of self.new at ≡ upserted_dirs (names_of path.now) (mode_bits mode) id null (dirs_of self.old) at) }
+        ensures unchanged { OnErr result (self.new ≡ self.old) }
+    {
+        let Some((name, rest)) = path.split_first() else {
+            return Ok(());
+        };
+        if rest.is_empty() {
+            put_entry(&mut self.tree, name, mode, id)?;
+            drop_child(&mut self.children, name);
+            return Ok(());
+        }
+        let Some(place) = child_at(&self.children, name) else {
+            let mut inner = Open::new(alloc, Tree::empty(alloc));
+            inner.put(alloc, rest, mode, id, null)?;
+            add_directory(&mut self.tree, &mut self.children, name, null, inner)?;
+            return Ok(());
+        };
+        let child = &mut self.children[place];
+        child.open.put(alloc, rest, mode, id, null)
+    }
+
+    /// Takes out the entry at a path, where the directory above it is open, and shuts what is open at or
+    /// below the path. Without names, or where that directory isn't open, nothing changes.
+    ///
+    /// It takes no memory.
+    pub fn take(&mut self, path: &[BString])
+        ensures { (at : Path) → dirs_of self.new at ≡ removed_dirs (names_of path.now) (dirs_of self.old) at }
+    {
+        let Some((name, rest)) = path.split_first() else {
+            return;
+        };
+        if rest.is_empty() {
+            take_entry(&mut self.tree, name);
+            drop_child(&mut self.children, name);
+            return;
+        }
+        if let Some(place) = child_at(&self.children, name) {
+            let child = &mut self.children[place];
+            child.open.take(rest);
+        }
+    }
+}
+
+/// Copying
+impl Open {
+    /// A copy of the directory and of all that is open in it.
+    ///
+    /// It fails only where memory is wanting.
+    pub fn copy(&self, alloc: Global) -> Result<Open, AllocError>
+        ensures { IfOk result (λ it. it ≡ self.now) }
+    {
+        let tree = copy_tree(alloc, &self.tree)?;
+        let mut children = Vec::new(alloc);
+        for child in &self.children {
+            let name = BString::from_slice(alloc, child.name.as_bytes())?;
+            let inner = child.open.copy(alloc)?;
+            children.push(Child { name, open: inner })?;
+        }
+        Ok(Open { tree, children })
+    }
+}
+
+/// A copy of the tree, with names of its own.
+pub(crate) fn copy_tree(alloc: Global, tree: &Tree) -> Result<Tree, AllocError>
+    ensures { IfOk result (λ it. it ≡ tree.now) }
+{
+    let mut entries = Vec::new(alloc);
+    for entry in &tree.entries {
+        entries.push(copy(alloc, entry)?)?;
+    }
+    Ok(Tree { entries })
+}
+
+/// Puts an entry in, in place of any entry of its name.
+fn put_entry(
+    tree: &mut Tree,
+    name: &BString,
+    mode: EntryMode,
+    id: ObjectId,
+) -> Result<(), AllocError>
+    requires well_formed { IsWellFormed tree.old }
+    requires name { IsEntryName (bstring_bytes name.now) }
+    ensures ok { OnOk result (tree.new ≡ with_entry (record { mode = mode_bits mode; name = bstring_bytes name.now; id = id }) tree.old) }
+    ensures unchanged { OnErr result (tree.new ≡ tree.old) }
+{
+    let alloc = *tree.entries.allocator();
+    let filename = BString::from_slice(alloc, name.as_bytes())?;
+    tree.entries.reserve(1)?;
+    let entry = Entry {
+        mode,
+        filename,
+        oid: id,
+    };
+    put(&mut tree.entries, entry);
+    Ok(())
+}
+
+/// Takes the entry of a name out, if there is one.
+fn take_entry(tree: &mut Tree, name: &BString)
+    requires { IsWellFormed tree.old }
+    ensures { tree.new ≡ without (bstring_bytes name.now) tree.old }
+{
+    take_out(&mut tree.entries, name.as_bytes());
+}
+
+/// Whether there is a tree's entry of this name.
+fn has_tree_named(tree: &Tree, name: &BString) -> bool
+    ensures { result ≡ has_tree (bstring_bytes name.now) tree.now }
+{
+    tree.entries.iter().any(|entry| is_tree_named(entry, name))
+}
+
+fn is_tree_named(entry: &Entry, name: &BString) -> bool
+    ensures { result ≡ (same_name entry.now.name (bstring_bytes name.now) && is_tree_mode entry.now.mode) }
+{
+    has_name(entry, name) && entry.mode.is_tree()
+}
+
+/// Puts a tree's entry with the null id in, unless there is a tree's entry of that name.
+fn make_directory(tree: &mut Tree, name: &BString, null: ObjectId) -> Result<(), AllocError>
+    requires well_formed { IsWellFormed tree.old }
+    requires name { IsEntryName (bstring_bytes name.now) }
+    ensures ok { OnOk result (tree.new ≡ with_directory (bstring_bytes name.now) null tree.old) }
+    ensures unchanged { OnErr result (tree.new ≡ tree.old) }
+{
+    if has_tree_named(tree, name) {
+        return Ok(());
+    }
+    put_entry(tree, name, EntryKind::Tree.into(), null)
+}
+
+/// Adds an open directory, with an entry for it.
+fn add_directory(
+    tree: &mut Tree,
+    children: &mut Vec<Child>,
+    name: &BString,
+    null: ObjectId,
+    inner: Open,
+) -> Result<(), AllocError>
+    requires well_formed { IsWellFormed tree.old }
+    requires name { IsEntryName (bstring_bytes name.now) }
+    ensures ok { OnOk result ((tree.new ≡ with_directory (bstring_bytes name.now) null tree.old) × (parts children.new.items ≡ parts children.old.items ++ (bstring_bytes name.now, inner) ∷ [])) }
+    ensures unchanged { OnErr result ((tree.new ≡ tree.old) × (children.new.items ≡ children.old.items)) }
+{
+    let alloc = *tree.entries.allocator();
+    let name_copy = BString::from_slice(alloc, name.as_bytes())?;
+    children.reserve(1)?;
+    make_directory(tree, name, null)?;
+    let _ = children.push(Child {
+        name: name_copy,
+        open: inner,
+    });
+    Ok(())
+}
+
+/// Shuts the directory of a name.
+fn drop_child(children: &mut Vec<Child>, name: &BString)
+    requires { EachLater (λ x y. x.0 ≢ y.0) (parts children.old.items) }
+    ensures { parts children.new.items ≡ other_parts (bstring_bytes name.now) (parts children.old.items) }
+{
+    if let Some(place) = child_at(children, name) {
+        children.remove(place);
+    }
+}
+
+/// Room for one directory more, and a copy of its name.
+pub(crate) fn room_for(
+    alloc: Global,
+    children: &mut Vec<Child>,
+    name: &BString,
+) -> Result<BString, AllocError>
+    ensures ok { IfOk result (λ copied. (bstring_bytes copied ≡ bstring_bytes name.now) × (vec_len children.new < vec_capacity children.new)) }
+    ensures items { children.new.items ≡ children.old.items }
+{
+    let copied = BString::from_slice(alloc, name.as_bytes())?;
+    children.reserve(1)?;
+    Ok(copied)
+}
+
+/// Adds a directory, where there is room.
+pub(crate) fn push_child(children: &mut Vec<Child>, name: BString, inner: Open)
+    requires { vec_len children.old < vec_capacity children.old }
+    ensures { children.new.items ≡ children.old.items ++ record { name = name; «open» = inner } ∷ [] }
+{
+    let _ = children.push(Child { name, open: inner });
+}
+
+/// The id of the entry of a name, where that is of a tree's mode.
+pub(crate) fn tree_id(tree: &Tree, name: &BString) -> Option<ObjectId>
+    requires { IsWellFormed tree.now }
+    ensures some { IfSome result (λ id. (e : EntryView) × IsEntryOf (bstring_bytes name.now) (Some tree.now) e × (is_tree_mode e.mode ≡ true) × (e.id ≡ id)) }
+    ensures none { IfNone result ((e : EntryView) → Has tree.now e → e.name ≡ bstring_bytes name.now → is_tree_mode e.mode ≡ false) }
+{
+    let entry = find_entry(tree, name)?;
+    if entry.mode.is_tree() {
+        Some(entry.oid)
+    } else {
+        None
+    }
+}
+
+/// The entry of a name.
+fn find_entry<'a>(tree: &'a Tree, name: &BString) -> Option<&'a Entry>
+    ensures { option_copied result ≡ find (λ e. same_name e.name (bstring_bytes name.now)) tree.now }
+{
+    tree.entries.iter().find(|entry| has_name(entry, name))
+}
+
+fn has_name(entry: &Entry, name: &BString) -> bool
+    ensures { result ≡ same_name entry.now.name (bstring_bytes name.now) }
+{
+    entry.filename.as_bytes() == name.as_bytes()
+}
