@@ -3,7 +3,7 @@ use Rattle.std.proofs.Common.{◌≡◌, ◌≤◌, List, [], ◌∷◌, length,
 use Rattle.std.proofs.lemmas.List.{length-map}
 use Rattle.bstr.specs.Owned.{bstring_bytes}
 use Rattle.bstr.specs.declared.bstring.BString.{BString}
-use Rattle.gix_object.specs.EditorCalls.{names_of}
+use Rattle.gixobj_directories.specs.Calls.{names_of}
 
 pub one_name : (path : List BString) (name : BString) → length path ≡ 1 → name ≡ get_or path 0 name → names_of path ≡ bstring_bytes name ∷ []
 one_name [] name l q = cc l

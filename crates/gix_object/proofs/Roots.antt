@@ -7,9 +7,10 @@ use Rattle.gixobj_base.specs.Entries.{EntryView, IsWellFormed}
 use Rattle.gixobj_base.specs.ids.hash.kind.Kind.{Kind}
 use Rattle.gixobj_base.specs.ids.hash.object_id.ObjectId.{ObjectId}
 use Rattle.gixobj_files.specs.Editing.{kept}
-use Rattle.gix_object.specs.EditorCalls.{EditorFiles, IsStorable, StoppedBy}
-use Rattle.gix_object.specs.declared.tree.editor.WriteError.{WriteError}
-use Rattle.gix_object.specs.declared.tree.editor.WriteError.TheVariants as write
+use Rattle.gix_object.specs.EditorCalls.{EditorFiles, StoppedBy}
+use Rattle.gixobj_directories.specs.Calls.{IsStorable}
+use Rattle.gixobj_directories.specs.declared.write.WriteError.{WriteError}
+use Rattle.gixobj_directories.specs.declared.write.WriteError.TheVariants as write
 use Rattle.gixobj_files.specs.Files.{FileSet, NamedFiles, SameFiles, Table, is_null}
 use Rattle.gixobj_files.specs.HandingOut.{HandsOut}
 use Rattle.gixobj_files.specs.Opening.{OpenFiles}

@@ -1,4 +1,5 @@
 pub mod EditorCalls
+pub use Rattle.gixobj_directories.specs.Calls
 pub use Rattle.gixobj_files.specs.Editing
 pub use Rattle.gixobj_files.specs.Edits
 pub use Rattle.gixobj_files.specs.Files

@@ -28,7 +28,7 @@ pub(crate) struct Listed {
 }
 
 impl Model for Listed {
-    ghost use Rattle.gix_object.specs.EditorCalls.{names_of};
+    ghost use Rattle.gixobj_directories.specs.Calls.{names_of};
     ghost use Rattle.gixobj_base.specs.Mode.{mode_bits};
     ghost use Rattle.gix_object_tests.specs.Lists.{FileView};
 

@@ -9,7 +9,8 @@ ghost use Rattle.bstr.specs.Owned.{bstring_bytes};
 ghost use Rattle.gixobj_base.specs.Entries.{EntryView, IsEntryName, IsWellFormed};
 ghost use Rattle.gixobj_base.specs.Mode.{mode_of_kind};
 ghost use Rattle.gixobj_files.specs.Editing.{kept, with_entry, without};
-ghost use Rattle.gix_object.specs.EditorCalls.{AreNames, EditorFiles, removed_entries, upserted_entries, RefusesEdit, RefusesName, IsCallableOnTrees, IsStorable, StoppedBy, names_of, with_store};
+ghost use Rattle.gix_object.specs.EditorCalls.{EditorFiles, RefusesEdit, RefusesName, StoppedBy, removed_entries, upserted_entries, with_store};
+ghost use Rattle.gixobj_directories.specs.Calls.{AreNames, IsCallableOnTrees, IsStorable, names_of};
 ghost use Rattle.gixobj_files.specs.Files.{NamedFiles, Removed, SameFiles, Table, Upserted};
 ghost use Rattle.gixobj_files.specs.HandingOut.{HandsOut};
 ghost use Rattle.gixobj_files.specs.State.{open_dirs, root_alone};
@@ -17,14 +18,15 @@ ghost use Rattle.gixobj_files.specs.Tables.{AgreesWithPairs};
 ghost use Rattle.gix_object.specs.contracts.tree.editor.Editor.{the_row};
 
 use bstr::BString;
-use entries::{copy_kept, put, take_out};
 use gixobj_base::Tree;
 use gixobj_base::hash::{self, ObjectId};
 use gixobj_base::parse::has_byte;
 use gixobj_base::tree::{Entry, EntryKind};
+use gixobj_directories::entries::{copy_kept, put, take_out};
 use std::alloc::AllocError;
-use std::fmt::Display;
 use std::marker::Model;
+
+pub use gixobj_directories::write::{WriteError, Written};
 
 /// The refusal of an edit. The editor is as it was.
 #[derive(Debug, Drop, thiserror::Error)]
@@ -48,27 +50,6 @@ impl From<AllocError> for Error {
     fn from(_: AllocError) -> Error {
         Error::OutOfMemory
     }
-}
-
-/// What a write handed out.
-#[derive(Debug, Drop)]
-pub struct Written {
-    /// The id of the root.
-    pub id: ObjectId,
-    /// Each tree with its id, in the order handed out; the root is the last.
-    pub trees: Vec<(ObjectId, Tree)>,
-}
-
-/// Why a write stopped. The editor is as it was.
-#[derive(Debug, Drop, thiserror::Error)]
-#[error_bound(E: Display)]
-pub enum WriteError<E> {
-    /// A tree was refused.
-    #[error("a tree was refused: {0}")]
-    Out(E),
-    /// There was no memory.
-    #[error("out of memory")]
-    OutOfMemory,
 }
 
 /// An editor of a tree. An entry with a null id is a placeholder, which is never written.

@@ -1,7 +1,8 @@
 -- One name is taken out of the root.
 use Rattle.std.proofs.Common.{◌≡◌, [], ◌∷◌, ap, arith}
 use Rattle.bstr.specs.Owned.{bstring_bytes}
-use Rattle.gix_object.specs.EditorCalls.{names_of, removed_entries}
+use Rattle.gix_object.specs.EditorCalls.{removed_entries}
+use Rattle.gixobj_directories.specs.Calls.{names_of}
 use Rattle.gixobj_files.specs.Files.{Removed}
 use Rattle.gixobj_files.specs.State.{root_alone}
 use Rattle.gix_object.proofs.OneLevel.{removed_open}

@@ -2,7 +2,8 @@
 use Rattle.std.proofs.Common.{◌≡◌, [], ◌∷◌, ap, arith}
 use Rattle.bstr.specs.Owned.{bstring_bytes}
 use Rattle.gixobj_base.specs.Mode.{mode_of_kind}
-use Rattle.gix_object.specs.EditorCalls.{names_of, upserted_entries}
+use Rattle.gix_object.specs.EditorCalls.{upserted_entries}
+use Rattle.gixobj_directories.specs.Calls.{names_of}
 use Rattle.gixobj_files.specs.Files.{Upserted}
 use Rattle.gixobj_files.specs.State.{root_alone}
 use Rattle.gix_object.proofs.OneLevel.{upserted_open}

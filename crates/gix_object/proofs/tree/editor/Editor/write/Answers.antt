@@ -6,7 +6,7 @@ use Rattle.std.proofs.lemmas.Result.{IfOk-weaker, MatchResult-weaker}
 use Rattle.gixobj_base.specs.Entries.{EntryView}
 use Rattle.gixobj_files.specs.Editing.{kept}
 use Rattle.gixobj_base.specs.ids.hash.object_id.ObjectId.{ObjectId}
-use Rattle.gix_object.specs.EditorCalls.{IsStorable}
+use Rattle.gixobj_directories.specs.Calls.{IsStorable}
 use Rattle.gixobj_files.specs.HandingOut.{HandsOut}
 use Rattle.gixobj_files.specs.State.{open_dirs, root_alone}
 use Rattle.gix_object.proofs.Roots.{handed_after, named_after, same_after, same_root, stopped_weaker}
