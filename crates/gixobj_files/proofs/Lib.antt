@@ -1,5 +1,6 @@
 pub mod EditedFiles
 pub mod Formed
+pub mod Halted
 pub mod HasTrees
 pub mod KeyOrder
 pub mod ListedTables

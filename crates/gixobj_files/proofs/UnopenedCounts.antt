@@ -1,6 +1,6 @@
 -- As many ids are asked for on a path as there are directories above its last name that aren't open and would be looked up.
 use Rattle.std.proofs.Common.{◌≡◌, ◌⊎◌, inl, inr, ℕ, ◌+◌, Bool, true, false, not, cond, List, [], ◌∷◌, ◌++◌, length, refl, sym, ap, ◌∙◌, arith, Option, Some, None}
-use Rattle.std.specs.Prelude.{◌&&◌, map}
+use Rattle.std.specs.Prelude.{◌&&◌, ◌≤◌, map}
 use Rattle.std.specs.List.{filter, find}
 use Rattle.std.specs.Cmp.Lexicographic.{bytes_decides}
 use Rattle.std.proofs.lemmas.List.{length-append}
@@ -29,7 +29,7 @@ sought_if it filled = (
   elim (is_empty_tree_id it) as (λ b. is_empty_tree_id it ≡ b → b ≡ false) [ true ↦ λ is. absurd (filled (inr (empty_tree_id it is))) | false ↦ λ is. refl ] refl,
 )
 
-sought : (it : ObjectId) → (IsEmptyId it → ⊥) → is_sought it ≡ true
+pub sought : (it : ObjectId) → (IsEmptyId it → ⊥) → is_sought it ≡ true
 sought it filled = let both = sought_if it filled in rw (both.0, both.1) refl
 
 not_either : (x y : Bool) → (x ≡ true) ⊎ (y ≡ true) → (not x && not y) ≡ false
@@ -41,7 +41,7 @@ not_either false false (inr h) = absurd (cc h)
 is_empty_id : (it : ObjectId) → it ≡ id_of (id_kind it) Tree [] → is_empty_tree_id it ≡ true
 is_empty_id it is = (bytes_decides (id_bytes it) (id_bytes (id_of (id_kind it) Tree []))).1 (ap id_bytes is)
 
-unsought : (it : ObjectId) → IsEmptyId it → is_sought it ≡ false
+pub unsought : (it : ObjectId) → IsEmptyId it → is_sought it ≡ false
 unsought it (inl null) = not_either (is_null it) (is_empty_tree_id it) (inl null)
 unsought it (inr is) = not_either (is_null it) (is_empty_tree_id it) (inr (is_empty_id it is))
 
@@ -133,6 +133,12 @@ never_passes (name ∷ next ∷ rest) = omega (arith, passes_more never name nex
 no_passes : (p : Path → Bool) → ((first : List ℕ) (path : Path) → p (first ∷ path) ≡ false) → (path : Path) → passes p path ≡ 0
 no_passes p fails path = same_passes p never fails path ∙ never_passes path
 
+passes_deeper_none : (p : Path → Bool) (name : List ℕ) (rest : Path) (last : List ℕ) → p (name ∷ []) ≡ false → ((first : List ℕ) (path : Path) → p (name ∷ first ∷ path) ≡ false) → passes p (name ∷ (rest ++ last ∷ [])) ≡ 0
+passes_deeper_none p name rest last here below =
+    let none : one_if (p (name ∷ [])) ≡ 0 = ap one_if here in
+    let nothing : passes (λ path. p (name ∷ path)) (rest ++ last ∷ []) ≡ 0 = no_passes (λ path. p (name ∷ path)) below (rest ++ last ∷ []) in
+    omega (arith, passes_deeper p name rest last, none, nothing)
+
 -- entries below a list
 module _ (trees : Trees) where
   told_none : (path : Path) → told_in trees path None ≡ None
@@ -187,7 +193,7 @@ module _ (trees : Trees) where
       is_empty (inl null) some = absurd (let bad : true ≡ false = sym null ∙ some in cc bad)
       is_empty (inr is) some = is_empty_id it is
 
-  found_below : (name first : List ℕ) (path : Path) (dirs : Dirs) (e : EntryView) (entries : List EntryView) (asks : List ObjectId) → IsEntryOf name (dirs []) e → is_tree_mode e.mode ≡ true → dirs (name ∷ []) ≡ None → Finds trees e.id entries asks
+  pub found_below : (name first : List ℕ) (path : Path) (dirs : Dirs) (e : EntryView) (entries : List EntryView) (asks : List ObjectId) → IsEntryOf name (dirs []) e → is_tree_mode e.mode ≡ true → dirs (name ∷ []) ≡ None → Finds trees e.id entries asks
       → told_entry trees (name ∷ first ∷ path) dirs ≡ told_entry trees (first ∷ path) (only entries)
   found_below name first path dirs e entries asks entry tree none finds =
       told_shut name first path dirs none
@@ -196,30 +202,53 @@ module _ (trees : Trees) where
       ∙ below_found e.id entries asks finds (first ∷ path)
       ∙ sym (told_only (first ∷ path) entries)
 
-  -- an open directory isn't counted
-  passes_open : (name : List ℕ) (rest : Path) (last : List ℕ) (dirs : Dirs) (entries : List EntryView) → dirs (name ∷ []) ≡ Some entries
-      → passes (is_unopened trees dirs) (name ∷ (rest ++ last ∷ [])) ≡ passes (λ q. is_unopened trees dirs (name ∷ q)) (rest ++ last ∷ [])
-  passes_open name rest last dirs entries is =
+  -- below an open directory
+  pub told_open : (name first : List ℕ) (path : Path) (dirs : Dirs) (entries : List EntryView) → dirs (name ∷ []) ≡ Some entries → told_entry trees (name ∷ first ∷ path) dirs ≡ told_entry trees (first ∷ path) (in_dir name dirs)
+  told_open name first path dirs entries is = ap (λ o. shut_or_open o (told_in trees (first ∷ path) (list_of trees (entry_of name (dirs [])))) (told_entry trees (first ∷ path) (in_dir name dirs))) is
+
+  pub unopened_open : (name first : List ℕ) (path : Path) (dirs : Dirs) (entries : List EntryView) → dirs (name ∷ []) ≡ Some entries → is_unopened trees dirs (name ∷ first ∷ path) ≡ is_unopened trees (in_dir name dirs) (first ∷ path)
+  unopened_open name first path dirs entries is = ap (λ o. is_shut (dirs (name ∷ first ∷ path)) && is_sought_tree o) (told_open name first path dirs entries is)
+
+  -- below a directory that is opened
+  pub unopened_found : (name first : List ℕ) (path : Path) (dirs : Dirs) (e : EntryView) (entries : List EntryView) (asks : List ObjectId) → IsEntryOf name (dirs []) e → is_tree_mode e.mode ≡ true → ((path : Path) → dirs (name ∷ path) ≡ None)
+      → Finds trees e.id entries asks → is_unopened trees dirs (name ∷ first ∷ path) ≡ is_unopened trees (only entries) (first ∷ path)
+  unopened_found name first path dirs e entries asks entry tree none finds =
+      ap (λ o. is_shut o && is_sought_tree (told_entry trees (name ∷ first ∷ path) dirs)) (none (first ∷ path)) ∙ ap is_sought_tree (found_below name first path dirs e entries asks entry tree (none []) finds)
+
+  -- a shut directory
+  pub unopened_here : (name : List ℕ) (dirs : Dirs) (e : EntryView) → IsEntryOf name (dirs []) e → is_tree_mode e.mode ≡ true → dirs (name ∷ []) ≡ None → is_unopened trees dirs (name ∷ []) ≡ is_sought e.id
+  unopened_here name dirs e entry tree none =
+      ap (λ o. is_shut o && is_sought_tree (entry_of name (dirs []))) none ∙ ap is_sought_tree (the_entry name (dirs []) e entry) ∙ ap (λ b. b && is_sought e.id) tree
+
+  -- no directory of the name
+  pub unopened_nowhere : (name : List ℕ) (path : Path) (dirs : Dirs) → ((e : EntryView) → HasAt (dirs []) e → e.name ≡ name → is_tree_mode e.mode ≡ false) → ((path : Path) → dirs (name ∷ path) ≡ None) → is_unopened trees dirs (name ∷ path) ≡ false
+  unopened_nowhere name [] dirs other none = ap (λ o. is_shut o && is_sought_tree (entry_of name (dirs []))) (none []) ∙ (other_entry name dirs other).0
+  unopened_nowhere name (first ∷ path) dirs other none = ap (λ o. is_shut o && is_sought_tree (told_entry trees (name ∷ first ∷ path) dirs)) (none (first ∷ path)) ∙ stopped_here name first path dirs other none
+
+  -- counts, a name deeper
+  pub count_open : (name : List ℕ) (rest : Path) (last : List ℕ) (dirs : Dirs) (entries : List EntryView) → dirs (name ∷ []) ≡ Some entries
+      → unopened_count trees dirs (name ∷ (rest ++ last ∷ [])) ≡ unopened_count trees (in_dir name dirs) (rest ++ last ∷ [])
+  count_open name rest last dirs entries is =
       let here : one_if (is_unopened trees dirs (name ∷ [])) ≡ 0 = ap (λ o. one_if (is_shut o && is_sought_tree (entry_of name (dirs [])))) is in
+      let below = same_passes (λ q. is_unopened trees dirs (name ∷ q)) (is_unopened trees (in_dir name dirs)) (λ first q. unopened_open name first q dirs entries is) (rest ++ last ∷ []) in
+      omega (arith, passes_deeper (is_unopened trees dirs) name rest last, here, below)
+
+  pub count_found : (name : List ℕ) (rest : Path) (last : List ℕ) (dirs : Dirs) (e : EntryView) (entries : List EntryView) (first : List ObjectId) → IsEntryOf name (dirs []) e → is_tree_mode e.mode ≡ true → ((path : Path) → dirs (name ∷ path) ≡ None)
+      → Finds trees e.id entries first → unopened_count trees dirs (name ∷ (rest ++ last ∷ [])) ≡ length first + unopened_count trees (only entries) (rest ++ last ∷ [])
+  count_found name rest last dirs e entries first entry tree none finds =
+      let here : one_if (is_unopened trees dirs (name ∷ [])) ≡ length first = ap one_if (unopened_here name dirs e entry tree (none [])) ∙ sym (first_asked e.id entries first finds) in
+      let below = same_passes (λ q. is_unopened trees dirs (name ∷ q)) (is_unopened trees (only entries)) (λ next q. unopened_found name next q dirs e entries first entry tree none finds) (rest ++ last ∷ []) in
+      omega (arith, passes_deeper (is_unopened trees dirs) name rest last, here, below)
+
+  pub count_vain : (name : List ℕ) (rest : Path) (last : List ℕ) (dirs : Dirs) (e : EntryView) → IsEntryOf name (dirs []) e → is_tree_mode e.mode ≡ true → dirs (name ∷ []) ≡ None → (IsEmptyId e.id → ⊥) → 1 ≤ unopened_count trees dirs (name ∷ (rest ++ last ∷ []))
+  count_vain name rest last dirs e entry tree none filled =
+      let here : one_if (is_unopened trees dirs (name ∷ [])) ≡ 1 = ap one_if (unopened_here name dirs e entry tree none ∙ sought e.id filled) in
       omega (arith, passes_deeper (is_unopened trees dirs) name rest last, here)
 
   pub asked_count : (path : Path) (last : List ℕ) (dirs new : Dirs) (asked : List ObjectId) → Opens trees path dirs new asked → length asked ≡ unopened_count trees dirs (path ++ last ∷ [])
   asked_count path last dirs new asked (arrived d) = refl
   asked_count path last dirs new asked (stops name rest d other none) =
-      let here : one_if (is_unopened trees d (name ∷ [])) ≡ 0 = ap one_if (ap (λ o. is_shut o && is_sought_tree (entry_of name (d []))) (none []) ∙ (other_entry name d other).0) in
-      let below : passes (λ q. is_unopened trees d (name ∷ q)) (rest ++ last ∷ []) ≡ 0 =
-      no_passes (λ q. is_unopened trees d (name ∷ q)) (λ first q. ap (λ o. is_shut o && is_sought_tree (told_entry trees (name ∷ first ∷ q) d)) (none (first ∷ q)) ∙ stopped_here name first q d other none) (rest ++ last ∷ []) in
-      omega (arith, passes_deeper (is_unopened trees d) name rest last, here, below)
-  asked_count path last dirs new asked (down name rest d inner e entries more has named is opens) =
-      asked_count rest last (in_dir name d) inner more opens
-      ∙ sym (passes_open name rest last d entries is ∙ same_passes (λ q. is_unopened trees d (name ∷ q)) (is_unopened trees (in_dir name d))
-      (λ first q. ap (λ o. is_shut (d (name ∷ first ∷ q)) && is_sought_tree (shut_or_open o (told_in trees (first ∷ q) (list_of trees (entry_of name (d [])))) (told_entry trees (first ∷ q) (in_dir name d)))) is) (rest ++ last ∷ []))
+      sym (passes_deeper_none (is_unopened trees d) name rest last (unopened_nowhere name [] d other none) (λ first q. unopened_nowhere name (first ∷ q) d other none))
+  asked_count path last dirs new asked (down name rest d inner e entries more has named is opens) = asked_count rest last (in_dir name d) inner more opens ∙ sym (count_open name rest last d entries is)
   asked_count path last dirs new asked (found name rest d inner e entries first more entry tree none finds opens) =
-      let here : one_if (is_unopened trees d (name ∷ [])) ≡ length first =
-      ap (λ o. one_if (is_shut o && is_sought_tree (entry_of name (d [])))) (none []) ∙ ap (λ o. one_if (is_sought_tree o)) (the_entry name (d []) e entry)
-      ∙ ap (λ b. one_if (b && is_sought e.id)) tree ∙ sym (first_asked e.id entries first finds) in
-      let below : passes (λ q. is_unopened trees d (name ∷ q)) (rest ++ last ∷ []) ≡ length more =
-      same_passes (λ q. is_unopened trees d (name ∷ q)) (is_unopened trees (only entries))
-      (λ first_name q. ap (λ o. is_shut o && is_sought_tree (told_entry trees (name ∷ first_name ∷ q) d)) (none (first_name ∷ q)) ∙ ap is_sought_tree (found_below name first_name q d e entries first entry tree (none []) finds)) (rest ++ last ∷ [])
-      ∙ sym (asked_count rest last (only entries) inner more opens) in
-      omega (arith, length-append first more, passes_deeper (is_unopened trees d) name rest last, here, below)
+      omega (arith, length-append first more, count_found name rest last d e entries first entry tree none finds, asked_count rest last (only entries) inner more opens)
