@@ -16,7 +16,10 @@ use Rattle.gixobj_files.specs.Editing.{same_name}
 use Rattle.gixobj_files.specs.Edits.{Finds, IsEntryOf, Opens, arrived, counted, down, found, only, stops, with_dir}
 use Rattle.gixobj_files.specs.Files.{Has, Path, Trees}
 use Rattle.gixobj_directories.specs.Nested.{IsLevel, Opened, Part, dirs_of, in_part, opened, part, parts}
-use Rattle.gixobj_files.specs.Opening.{Dirs, in_dir}
+use Rattle.gixobj_files.specs.Halting.{Halts, at_once, in_vain}
+use Rattle.gixobj_files.specs.Halting as halting
+use Rattle.gixobj_files.specs.Opening.{Dirs, HasAt, in_dir}
+use Rattle.gixobj_files.specs.Tables.{IsEmptyId}
 use Rattle.gixobj_directories.specs.declared.open.Child.{Child}
 use Rattle.gixobj_files.proofs.HasTrees.{has_tree_of, of_has_tree}
 use Rattle.gixobj_directories.proofs.Levels.{at_name, called, child_above, level_pushed, level_set, push_becomes, set_becomes}
@@ -75,31 +78,42 @@ only_is es = λ i at. here at i
     here [] = refl
     here (name ∷ path) = refl
 
-module _ (trees : Trees) (es : List EntryView) where
-  pub stop_step : (ps : List Part) → IsLevel es ps → (name : List ℕ) (rest : Path) → ((path : Path) → in_part name ps path ≡ None) → ((e : EntryView) → Has es e → e.name ≡ name → is_tree_mode e.mode ≡ false)
-      → Opens trees (name ∷ rest) (dirs_of (opened es ps)) (dirs_of (opened es ps)) []
-  stop_step ps level name rest none other = stops name rest (dirs_of (opened es ps)) other (λ path. at_name es ps name path level.apart ∙ none path)
+-- what goes on in the directory of a name goes on in the one above it
+abbrev pub GoesDown : (Path → Dirs → Dirs → List ObjectId → Type 0) → Type 0
+GoesDown R =
+    (name : List ℕ) (rest : Path) (dirs inner : Dirs) (e : EntryView) (entries : List EntryView) (asked : List ObjectId) → HasAt (dirs []) e → e.name ≡ name → dirs (name ∷ []) ≡ Some entries
+    → R rest (in_dir name dirs) inner asked → R (name ∷ rest) dirs (with_dir name inner dirs) asked
 
+abbrev pub GoesIn : Trees → (Path → Dirs → Dirs → List ObjectId → Type 0) → Type 0
+GoesIn trees R =
+    (name : List ℕ) (rest : Path) (dirs inner : Dirs) (e : EntryView) (entries : List EntryView) (first asked : List ObjectId) → IsEntryOf name (dirs []) e → is_tree_mode e.mode ≡ true → ((path : Path) → dirs (name ∷ path) ≡ None)
+    → Finds trees e.id entries first → R rest (only entries) inner asked → R (name ∷ rest) dirs (with_dir name inner dirs) (first ++ asked)
+
+pub stop_step : (trees : Trees) (es : List EntryView) (ps : List Part) → IsLevel es ps → (name : List ℕ) (rest : Path) → ((path : Path) → in_part name ps path ≡ None) → ((e : EntryView) → Has es e → e.name ≡ name → is_tree_mode e.mode ≡ false)
+    → Opens trees (name ∷ rest) (dirs_of (opened es ps)) (dirs_of (opened es ps)) []
+stop_step trees es ps level name rest none other = stops name rest (dirs_of (opened es ps)) other (λ path. at_name es ps name path level.apart ∙ none path)
+
+module _ (trees : Trees) (R : Path → Dirs → Dirs → List ObjectId → Type 0) (goes_down : GoesDown R) (goes_in : GoesIn trees R) (es : List EntryView) where
   pub down_step : (cs l : List Child) → IsLevel es (parts cs) → (name : List ℕ) (rest : Path) (i : ℕ) (child next : Child) → l ≡ cs → Some i ≡ position (called name) l → child ≡ get_or cs i child → bstring_bytes next.name ≡ bstring_bytes child.name
-      → (entries : List EntryView) → dirs_of child.open [] ≡ Some entries → (asked : List ObjectId) → Opens trees rest (dirs_of child.open) (dirs_of next.open) asked
-      → Opens trees (name ∷ rest) (dirs_of (opened es (parts cs))) (dirs_of (opened es (parts (set cs i next)))) asked
+      → (entries : List EntryView) → dirs_of child.open [] ≡ Some entries → (asked : List ObjectId) → R rest (dirs_of child.open) (dirs_of next.open) asked
+      → R (name ∷ rest) (dirs_of (opened es (parts cs))) (dirs_of (opened es (parts (set cs i next)))) asked
   down_step cs l level name rest i child next same at is named entries root asked opens =
       let old : Dirs = dirs_of (opened es (parts cs)) in
       let e = has_tree_of name es (child_above es name cs l i same at level.above) in
       let inside : in_dir name old ≡ dirs_of child.open = λ j path. (at_name es (parts cs) name path level.apart ∙ levels.found name cs l i child same at is path) j in
       let new_is : dirs_of (opened es (parts (set cs i next))) ≡ with_dir name (dirs_of next.open) old = λ j path. replaced (opened es (parts cs)) es es (parts cs) (parts (set cs i next)) refl level.apart (level_set es cs i child next is named level).apart name (dirs_of next.open) (set_becomes name cs l i child next same at is named) refl path j in
-      subst (λ (d : Dirs). Opens trees (name ∷ rest) old d asked) (sym new_is)
-      (down name rest old (dirs_of next.open) e.0 entries asked e.1 e.2 (ap (λ (d : Dirs). d []) inside ∙ root) (subst (λ (d : Dirs). Opens trees rest d (dirs_of next.open) asked) (sym inside) opens))
+      subst (λ (d : Dirs). R (name ∷ rest) old d asked) (sym new_is)
+      (goes_down name rest old (dirs_of next.open) e.0 entries asked e.1 e.2 (ap (λ (d : Dirs). d []) inside ∙ root) (subst (λ (d : Dirs). R rest d (dirs_of next.open) asked) (sym inside) opens))
 
   pub found_step : (ps : List Part) → IsLevel es ps → (name : List ℕ) (rest : Path) → AllByRecursion (λ p. p.0 ≢ name) ps → ((path : Path) → in_part name ps path ≡ None) → (e : EntryView) → IsEntryOf name (Some es) e → is_tree_mode e.mode ≡ true
-      → (entries : List EntryView) (first asked : List ObjectId) → Finds trees e.id entries first → (inner : Opened) → Opens trees rest (dirs_of (opened entries [])) (dirs_of inner) asked
-      → Opens trees (name ∷ rest) (dirs_of (opened es ps)) (dirs_of (opened es (ps ++ (name, inner) ∷ []))) (first ++ asked)
+      → (entries : List EntryView) (first asked : List ObjectId) → Finds trees e.id entries first → (inner : Opened) → R rest (dirs_of (opened entries [])) (dirs_of inner) asked
+      → R (name ∷ rest) (dirs_of (opened es ps)) (dirs_of (opened es (ps ++ (name, inner) ∷ []))) (first ++ asked)
   found_step ps level name rest others none e entry tree entries first asked finds inner opens =
       let old : Dirs = dirs_of (opened es ps) in
       let more = level_pushed name inner es ps (of_has_tree name es e entry.0 entry.1 tree) others level in
       let new_is : dirs_of (opened es (ps ++ (name, inner) ∷ [])) ≡ with_dir name (dirs_of inner) old = λ j path. replaced (opened es ps) es es ps (ps ++ (name, inner) ∷ []) refl level.apart more.apart name (dirs_of inner) (push_becomes name inner ps others) refl path j in
-      subst (λ (d : Dirs). Opens trees (name ∷ rest) old d (first ++ asked)) (sym new_is)
-      (found name rest old (dirs_of inner) e entries first asked entry tree (λ path. at_name es ps name path level.apart ∙ none path) finds (subst (λ (d : Dirs). Opens trees rest d (dirs_of inner) asked) (only_is entries) opens))
+      subst (λ (d : Dirs). R (name ∷ rest) old d (first ++ asked)) (sym new_is)
+      (goes_in name rest old (dirs_of inner) e entries first asked entry tree (λ path. at_name es ps name path level.apart ∙ none path) finds (subst (λ (d : Dirs). R rest d (dirs_of inner) asked) (only_is entries) opens))
 
 -- an option that was copied
 pub copied_some : {X : Type 0} (r : Option (Bor X)) (o : Option X) (x : Bor X) → option_copied r ≡ o → r ≡ Some x → o ≡ Some x.now
@@ -111,28 +125,29 @@ copied_none r o is none = sym is ∙ ap option_copied none
 pub none_weaker : {X : Type 0} (r : Option X) (P : Type 0) → r ≡ None → P → IfNone r P
 none_weaker r P is p = subst (λ (o : Option _). IfNone o P) (sym is) p
 
--- the same, for a level seen whole and a path that is known by parts
-module _ (trees : Trees) (es : List EntryView) (ds : Opened) (path : Path) (name : List ℕ) (rest : Path) (path_is : path ≡ name ∷ rest) where
-  pub stop_in : (ps : List Part) → opened es ps ≡ ds → IsLevel es ps → ((at : Path) → in_part name ps at ≡ None) → ((e : EntryView) → Has es e → e.name ≡ name → is_tree_mode e.mode ≡ false) → Opens trees path (dirs_of ds) (dirs_of ds) []
-  stop_in ps view level none other =
-      subst (λ p. Opens trees p (dirs_of ds) (dirs_of ds) []) (sym path_is) (subst (λ (d : Opened). Opens trees (name ∷ rest) (dirs_of d) (dirs_of d) []) view (stop_step trees es ps level name rest none other))
+pub stop_in : (trees : Trees) (es : List EntryView) (ds : Opened) (path : Path) (name : List ℕ) (rest : Path) → path ≡ name ∷ rest → (ps : List Part) → opened es ps ≡ ds → IsLevel es ps → ((at : Path) → in_part name ps at ≡ None)
+    → ((e : EntryView) → Has es e → e.name ≡ name → is_tree_mode e.mode ≡ false) → Opens trees path (dirs_of ds) (dirs_of ds) []
+stop_in trees es ds path name rest path_is ps view level none other =
+    subst (λ p. Opens trees p (dirs_of ds) (dirs_of ds) []) (sym path_is) (subst (λ (d : Opened). Opens trees (name ∷ rest) (dirs_of d) (dirs_of d) []) view (stop_step trees es ps level name rest none other))
 
+-- the same, for a level seen whole and a path that is known by parts
+module _ (trees : Trees) (R : Path → Dirs → Dirs → List ObjectId → Type 0) (goes_down : GoesDown R) (goes_in : GoesIn trees R) (es : List EntryView) (ds : Opened) (path : Path) (name : List ℕ) (rest : Path) (path_is : path ≡ name ∷ rest) where
   pub down_in : (cs l : List Child) → opened es (parts cs) ≡ ds → IsLevel es (parts cs) → (i : ℕ) (child next : Child) → l ≡ cs → Some i ≡ position (called name) l → child ≡ get_or cs i child → bstring_bytes next.name ≡ bstring_bytes child.name
-      → (entries : List EntryView) → dirs_of child.open [] ≡ Some entries → (asked : List ObjectId) → Opens trees rest (dirs_of child.open) (dirs_of next.open) asked
-      → Opens trees path (dirs_of ds) (dirs_of (opened es (parts (set cs i next)))) asked
+      → (entries : List EntryView) → dirs_of child.open [] ≡ Some entries → (asked : List ObjectId) → R rest (dirs_of child.open) (dirs_of next.open) asked
+      → R path (dirs_of ds) (dirs_of (opened es (parts (set cs i next)))) asked
   down_in cs l view level i child next same at is named entries root asked opens =
-      subst (λ p. Opens trees p (dirs_of ds) (dirs_of (opened es (parts (set cs i next)))) asked) (sym path_is)
-      (subst (λ (d : Opened). Opens trees (name ∷ rest) (dirs_of d) (dirs_of (opened es (parts (set cs i next)))) asked) view (down_step trees es cs l level name rest i child next same at is named entries root asked opens))
+      subst (λ p. R p (dirs_of ds) (dirs_of (opened es (parts (set cs i next)))) asked) (sym path_is)
+      (subst (λ (d : Opened). R (name ∷ rest) (dirs_of d) (dirs_of (opened es (parts (set cs i next)))) asked) view (down_step trees R goes_down goes_in es cs l level name rest i child next same at is named entries root asked opens))
 
   pub found_in : (cs : List Child) → opened es (parts cs) ≡ ds → IsLevel es (parts cs) → AllByRecursion (λ p. p.0 ≢ name) (parts cs) → ((at : Path) → in_part name (parts cs) at ≡ None) → (e : EntryView) → IsEntryOf name (Some es) e → is_tree_mode e.mode ≡ true
-      → (entries : List EntryView) (first asked : List ObjectId) → Finds trees e.id entries first → (inner : Child) → bstring_bytes inner.name ≡ name → (new : List Child) → new ≡ cs ++ inner ∷ [] → Opens trees rest (dirs_of (opened entries [])) (dirs_of inner.open) asked
-      → Opens trees path (dirs_of ds) (dirs_of (opened es (parts new))) (first ++ asked)
+      → (entries : List EntryView) (first asked : List ObjectId) → Finds trees e.id entries first → (inner : Child) → bstring_bytes inner.name ≡ name → (new : List Child) → new ≡ cs ++ inner ∷ [] → R rest (dirs_of (opened entries [])) (dirs_of inner.open) asked
+      → R path (dirs_of ds) (dirs_of (opened es (parts new))) (first ++ asked)
   found_in cs view level others none e entry tree entries first asked finds inner named new is opens =
       let more : parts new ≡ parts cs ++ (name, inner.open) ∷ [] = ap parts is ∙ map-append part cs (inner ∷ []) ∙ ap (λ (n : List ℕ). parts cs ++ (n, inner.open) ∷ []) named in
-      subst (λ p. Opens trees p (dirs_of ds) (dirs_of (opened es (parts new))) (first ++ asked)) (sym path_is)
-      (subst (λ (ps : List Part). Opens trees (name ∷ rest) (dirs_of ds) (dirs_of (opened es ps)) (first ++ asked)) (sym more)
-      (subst (λ (d : Opened). Opens trees (name ∷ rest) (dirs_of d) (dirs_of (opened es (parts cs ++ (name, inner.open) ∷ []))) (first ++ asked)) view
-      (found_step trees es (parts cs) level name rest others none e entry tree entries first asked finds inner.open opens)))
+      subst (λ p. R p (dirs_of ds) (dirs_of (opened es (parts new))) (first ++ asked)) (sym path_is)
+      (subst (λ (ps : List Part). R (name ∷ rest) (dirs_of ds) (dirs_of (opened es ps)) (first ++ asked)) (sym more)
+      (subst (λ (d : Opened). R (name ∷ rest) (dirs_of d) (dirs_of (opened es (parts cs ++ (name, inner.open) ∷ []))) (first ++ asked)) view
+      (found_step trees R goes_down goes_in es (parts cs) level name rest others none e entry tree entries first asked finds inner.open opens)))
 
 pub level_new : (name : List ℕ) (es : List EntryView) (cs : List Child) → IsLevel es (parts cs) → AllByRecursion (λ p. p.0 ≢ name) (parts cs) → (e : EntryView) → IsEntryOf name (Some es) e → is_tree_mode e.mode ≡ true → (inner : Child) → bstring_bytes inner.name ≡ name
     → (new : List Child) → new ≡ cs ++ inner ∷ [] → IsLevel es (parts new)
@@ -151,3 +166,33 @@ on_err (Err error) P p = p
 -- nothing was opened
 pub arrived_in : (trees : Trees) (es : List EntryView) (ds : Opened) (cs new : List Child) → opened es (parts cs) ≡ ds → new ≡ cs → Opens trees [] (dirs_of ds) (dirs_of (opened es (parts new))) []
 arrived_in trees es ds cs new view same = subst (λ (d : Opened). Opens trees [] (dirs_of ds) (dirs_of d) []) (sym (ap (λ (l : List Child). opened es (parts l)) same ∙ view)) (arrived (dirs_of ds))
+
+-- openings and halts go on alike
+pub opens_down : (trees : Trees) → GoesDown (Opens trees)
+opens_down trees name rest dirs inner e entries asked has named is opens = down name rest dirs inner e entries asked has named is opens
+
+pub opens_in : (trees : Trees) → GoesIn trees (Opens trees)
+opens_in trees name rest dirs inner e entries first asked entry tree none finds opens = found name rest dirs inner e entries first asked entry tree none finds opens
+
+abbrev pub HaltsAt : Trees → Option ObjectId → Path → Dirs → Dirs → List ObjectId → Type 0
+HaltsAt trees vain path old new asked = Halts trees path old new asked vain
+
+pub halts_down : (trees : Trees) (vain : Option ObjectId) → GoesDown (HaltsAt trees vain)
+halts_down trees vain name rest dirs inner e entries asked has named is halts = halting.down name rest dirs inner e entries asked vain has named is halts
+
+pub halts_in : (trees : Trees) (vain : Option ObjectId) → GoesIn trees (HaltsAt trees vain)
+halts_in trees vain name rest dirs inner e entries first asked entry tree none finds halts = halting.found name rest dirs inner e entries first asked vain entry tree none finds halts
+
+-- nothing was opened, since there was no memory
+pub nothing_opened : (trees : Trees) (path : Path) (es : List EntryView) (ds : Opened) (cs new : List Child) → opened es (parts cs) ≡ ds → new ≡ cs → Halts trees path (dirs_of ds) (dirs_of (opened es (parts new))) [] None
+nothing_opened trees path es ds cs new view same =
+    subst (λ (d : Opened). Halts trees path (dirs_of ds) (dirs_of d) [] None) (sym (ap (λ (l : List Child). opened es (parts l)) same ∙ view)) (at_once path (dirs_of ds))
+
+-- nothing was opened, since the directory of the name wasn't found
+pub none_found : (trees : Trees) (path : Path) (name : List ℕ) (rest : Path) (es : List EntryView) (ds : Opened) (cs new : List Child) → path ≡ name ∷ rest → opened es (parts cs) ≡ ds → new ≡ cs → IsLevel es (parts cs) → ((at : Path) → in_part name (parts cs) at ≡ None)
+    → (e : EntryView) → IsEntryOf name (Some es) e → is_tree_mode e.mode ≡ true → (IsEmptyId e.id → ⊥) → Halts trees path (dirs_of ds) (dirs_of (opened es (parts new))) (e.id ∷ []) (Some e.id)
+none_found trees path name rest es ds cs new path_is view same level none e entry tree filled =
+    subst (λ p. Halts trees p (dirs_of ds) (dirs_of (opened es (parts new))) (e.id ∷ []) (Some e.id)) (sym path_is)
+    (subst (λ (d : Opened). Halts trees (name ∷ rest) (dirs_of ds) (dirs_of d) (e.id ∷ []) (Some e.id)) (sym (ap (λ (l : List Child). opened es (parts l)) same ∙ view))
+    (subst (λ (d : Opened). Halts trees (name ∷ rest) (dirs_of d) (dirs_of d) (e.id ∷ []) (Some e.id)) view
+    (in_vain name rest (dirs_of (opened es (parts cs))) e entry tree (λ at. at_name es (parts cs) name at level.apart ∙ none at) filled)))

@@ -2,3 +2,4 @@ pub mod Calls
 pub mod Falls
 pub mod Handing
 pub mod Nested
+pub mod Openings

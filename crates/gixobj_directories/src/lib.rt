@@ -3,4 +3,5 @@
 
 pub mod entries;
 pub mod open;
+pub mod opening;
 pub mod write;

@@ -1,0 +1,146 @@
+//! Opening the directories on a path, whose trees are looked up in a store.
+ghost use Rattle.std.specs.Prelude.{◌≡◌, ◌∷◌, [], IfErr, IfOk, List, OnErr, OnOk, Option, Some};
+ghost use Rattle.gixobj_trees.specs.Entries.{EntryView, IsWellFormed};
+ghost use Rattle.gixobj_files.specs.Edits.{Finds, Opens, counted};
+ghost use Rattle.gixobj_files.specs.Files.{Trees};
+ghost use Rattle.gixobj_files.specs.Halting.{Halts};
+ghost use Rattle.gixobj_files.specs.Tables.{IsEmptyId};
+ghost use Rattle.gixobj_ids.specs.declared.hash.object_id.ObjectId.{ObjectId};
+ghost use Rattle.gixobj_directories.specs.Calls.{names_of};
+ghost use Rattle.gixobj_directories.specs.Nested.{dirs_of};
+ghost use Rattle.gixobj_directories.specs.Openings.{AreTreesOf, NamesTree, RefusesAt, RefusesDirectory};
+
+use crate::open::{Open, child_at, push_child, room_for, tree_id};
+use bstr::BString;
+use gixobj_data::{Find, find};
+use gixobj_ids::hash::ObjectId;
+use gixobj_ids::{OutOfMemory, decode};
+use gixobj_lookups::FindExt;
+use gixobj_lookups::find::existing_object;
+use gixobj_trees::Tree;
+use std::alloc::{AllocError, Global};
+
+/// Why a directory isn't opened.
+#[derive(Debug, Drop, thiserror::Error)]
+pub enum Error {
+    /// The lookup of its tree was refused: the store failed, or has no object of that id, or one that isn't
+    /// read or is no tree.
+    #[error("{0}")]
+    FindExistingObject(existing_object::Error),
+    /// Its tree in the store isn't well-formed, as `Tree::is_well_formed` tells.
+    #[error("a tree in the store isn't well-formed")]
+    MalformedTree,
+    /// There was no memory, in the lookup or beside it.
+    #[error("out of memory")]
+    OutOfMemory,
+}
+
+impl From<AllocError> for Error {
+    ghost use Rattle.gixobj_directories.specs.declared.opening.Error.TheVariants.{OutOfMemory};
+
+    ghost from_gives = { λ _ error. error ≡ OutOfMemory };
+
+    fn from(_: AllocError) -> Error {
+        Error::OutOfMemory
+    }
+}
+
+impl From<OutOfMemory> for Error {
+    ghost use Rattle.gixobj_directories.specs.declared.opening.Error.TheVariants.{OutOfMemory};
+
+    ghost from_gives = { λ _ error. error ≡ OutOfMemory };
+
+    fn from(_: OutOfMemory) -> Error {
+        Error::OutOfMemory
+    }
+}
+
+impl From<existing_object::Error> for Error {
+    ghost use Rattle.gixobj_directories.specs.Openings.{refusal_of};
+
+    ghost from_gives = { λ cause error. error ≡ refusal_of cause };
+
+    fn from(cause: existing_object::Error) -> Error {
+        match cause {
+            existing_object::Error::Find(find::Error::OutOfMemory) => Error::OutOfMemory,
+            existing_object::Error::Decode {
+                source: decode::Error::OutOfMemory,
+                ..
+            } => Error::OutOfMemory,
+            cause => Error::FindExistingObject(cause),
+        }
+    }
+}
+
+/// The tree that a store has by an id.
+fn find_directory<S: Find>(alloc: Global, store: &S, id: ObjectId) -> Result<Tree, Error>
+    requires { IsEmptyId id → ⊥ }
+    ensures found { IfOk result (λ tree. NamesTree (S.objects store.now) id tree) }
+    ensures refusal { IfErr result (RefusesDirectory (S.objects store.now) (S.may_fail store.now) id) }
+{
+    let mut buffer = Vec::new(alloc);
+    let tree = store.find_tree(alloc, id.as_oid(), &mut buffer)?;
+    let tree = tree.into_owned(alloc)?;
+    if !tree.is_well_formed() {
+        return Err(Error::MalformedTree);
+    }
+    Ok(tree)
+}
+
+/// The tree that a directory of this id is opened as: empty for the null id and that of the empty tree, for
+/// which the store isn't asked. Each question is counted.
+fn load<S: Find>(alloc: Global, store: &S, id: ObjectId, lookups: &mut u64) -> Result<Tree, Error>
+    ensures well_formed { IfOk result IsWellFormed }
+    ensures found { IfOk result (λ tree. (trees : Trees) → AreTreesOf (S.objects store.now) trees → (asked : List ObjectId) × Finds trees id tree asked × (lookups.new ≡ counted lookups.old asked)) }
+    ensures asked { OnErr result ((IsEmptyId id → ⊥) × (lookups.new ≡ counted lookups.old (id ∷ []))) }
+    ensures refusal { IfErr result (RefusesDirectory (S.objects store.now) (S.may_fail store.now) id) }
+{
+    if id.is_null() {
+        return Ok(Tree::empty(alloc));
+    }
+    if id.is_empty_tree() {
+        return Ok(Tree::empty(alloc));
+    }
+    *lookups = lookups.saturating_add(1);
+    find_directory(alloc, store, id)
+}
+
+impl Open {
+    /// Opens each directory on a path, from the top, until there is none. An open one stays as it is; another
+    /// is looked up in the store by the id of its entry, but for the null id and that of the empty tree,
+    /// which are opened as empty. Each lookup is counted in `lookups`, which stays at the greatest `u64`.
+    ///
+    /// `FindExistingObject` or `MalformedTree` for the first directory that the store doesn't have as a
+    /// well-formed tree, or whose lookup fails; `OutOfMemory` where memory was wanting. What was opened on
+    /// the way stays open.
+    pub fn open_along<S: Find>(
+        &mut self,
+        alloc: Global,
+        path: &[BString],
+        store: &S,
+        lookups: &mut u64,
+    ) -> Result<(), Error>
+        ensures opened { OnOk result ((trees : Trees) → AreTreesOf (S.objects store.now) trees → (asked : List ObjectId) × Opens trees (names_of path.now) (dirs_of self.old) (dirs_of self.new) asked × (lookups.new ≡ counted lookups.old asked)) }
+        ensures halted { IfErr result (λ error. (trees : Trees) → AreTreesOf (S.objects store.now) trees → (asked : List ObjectId) × (vain : Option ObjectId) × Halts trees (names_of path.now) (dirs_of self.old) (dirs_of self.new) asked vain
+            × (lookups.new ≡ counted lookups.old asked) × RefusesAt (S.objects store.now) (S.may_fail store.now) vain error) }
+        ensures root { (entries : List EntryView) × (dirs_of self.old [] ≡ Some entries) }
+    {
+        let _ = &self.tree;
+        let Some((name, rest)) = path.split_first() else {
+            return Ok(());
+        };
+        if let Some(place) = child_at(&self.children, name) {
+            let child = &mut self.children[place];
+            return child.open.open_along(alloc, rest, store, lookups);
+        }
+        let Some(id) = tree_id(&self.tree, name) else {
+            return Ok(());
+        };
+        let own_name = room_for(alloc, &mut self.children, name)?;
+        let tree = load(alloc, store, id, lookups)?;
+        let mut inner = Open::new(alloc, tree);
+        let opened = inner.open_along(alloc, rest, store, lookups);
+        push_child(&mut self.children, own_name, inner);
+        opened
+    }
+}
