@@ -7,7 +7,7 @@ use denote.Ref.{Bor}
 use Rattle.std.specs.List.{AllByRecursion, find, position}
 use Rattle.std.specs.Cmp.Lexicographic.{bytes_decides}
 use Rattle.bstr.specs.Owned.{bstring_bytes}
-use Rattle.gixobj_trees.specs.Entries.{EachLater, EntryView}
+use Rattle.gixobj_trees.specs.Entries.{EachLater, EntryView, IsWellFormed}
 use Rattle.gixobj_trees.specs.Mode.{is_tree_mode}
 use Rattle.gixobj_ids.specs.declared.hash.object_id.ObjectId.{ObjectId}
 use Rattle.bstr.specs.declared.bstring.BString.{BString}
@@ -18,9 +18,10 @@ use Rattle.gixobj_files.specs.Files.{Has, Path, Trees}
 use Rattle.gixobj_directories.specs.Nested.{IsLevel, Opened, Part, dirs_of, in_part, opened, part, parts}
 use Rattle.gixobj_files.specs.Halting.{Halts, at_once, in_vain}
 use Rattle.gixobj_files.specs.Halting as halting
-use Rattle.gixobj_files.specs.Opening.{Dirs, HasAt, in_dir}
+use Rattle.gixobj_files.specs.Opening.{Dirs, HasAt, IsOpened, in_dir}
 use Rattle.gixobj_files.specs.Tables.{IsEmptyId}
 use Rattle.gixobj_directories.specs.declared.open.Child.{Child}
+use Rattle.gixobj_files.proofs.StillOpenedOpenings.{opened_in_dir, opened_only, opened_with_dir}
 use Rattle.gixobj_files.proofs.HasTrees.{has_tree_of, of_has_tree}
 use Rattle.gixobj_directories.proofs.Levels.{at_name, called, child_above, level_pushed, level_set, push_becomes, set_becomes}
 use Rattle.gixobj_directories.proofs.Levels as levels
@@ -84,16 +85,17 @@ GoesDown R =
     (name : List ℕ) (rest : Path) (dirs inner : Dirs) (e : EntryView) (entries : List EntryView) (asked : List ObjectId) → HasAt (dirs []) e → e.name ≡ name → dirs (name ∷ []) ≡ Some entries
     → R rest (in_dir name dirs) inner asked → R (name ∷ rest) dirs (with_dir name inner dirs) asked
 
-abbrev pub GoesIn : Trees → (Path → Dirs → Dirs → List ObjectId → Type 0) → Type 0
-GoesIn trees R =
+-- and what goes on in a directory that is opened with a list that fits its entry, goes on in the one above it
+abbrev pub GoesIn : (EntryView → List EntryView → List ObjectId → Type 0) → (Path → Dirs → Dirs → List ObjectId → Type 0) → Type 0
+GoesIn Fits R =
     (name : List ℕ) (rest : Path) (dirs inner : Dirs) (e : EntryView) (entries : List EntryView) (first asked : List ObjectId) → IsEntryOf name (dirs []) e → is_tree_mode e.mode ≡ true → ((path : Path) → dirs (name ∷ path) ≡ None)
-    → Finds trees e.id entries first → R rest (only entries) inner asked → R (name ∷ rest) dirs (with_dir name inner dirs) (first ++ asked)
+    → Fits e entries first → R rest (only entries) inner asked → R (name ∷ rest) dirs (with_dir name inner dirs) (first ++ asked)
 
 pub stop_step : (trees : Trees) (es : List EntryView) (ps : List Part) → IsLevel es ps → (name : List ℕ) (rest : Path) → ((path : Path) → in_part name ps path ≡ None) → ((e : EntryView) → Has es e → e.name ≡ name → is_tree_mode e.mode ≡ false)
     → Opens trees (name ∷ rest) (dirs_of (opened es ps)) (dirs_of (opened es ps)) []
 stop_step trees es ps level name rest none other = stops name rest (dirs_of (opened es ps)) other (λ path. at_name es ps name path level.apart ∙ none path)
 
-module _ (trees : Trees) (R : Path → Dirs → Dirs → List ObjectId → Type 0) (goes_down : GoesDown R) (goes_in : GoesIn trees R) (es : List EntryView) where
+module _ (Fits : EntryView → List EntryView → List ObjectId → Type 0) (R : Path → Dirs → Dirs → List ObjectId → Type 0) (goes_down : GoesDown R) (goes_in : GoesIn Fits R) (es : List EntryView) where
   pub down_step : (cs l : List Child) → IsLevel es (parts cs) → (name : List ℕ) (rest : Path) (i : ℕ) (child next : Child) → l ≡ cs → Some i ≡ position (called name) l → child ≡ get_or cs i child → bstring_bytes next.name ≡ bstring_bytes child.name
       → (entries : List EntryView) → dirs_of child.open [] ≡ Some entries → (asked : List ObjectId) → R rest (dirs_of child.open) (dirs_of next.open) asked
       → R (name ∷ rest) (dirs_of (opened es (parts cs))) (dirs_of (opened es (parts (set cs i next)))) asked
@@ -106,7 +108,7 @@ module _ (trees : Trees) (R : Path → Dirs → Dirs → List ObjectId → Type 
       (goes_down name rest old (dirs_of next.open) e.0 entries asked e.1 e.2 (ap (λ (d : Dirs). d []) inside ∙ root) (subst (λ (d : Dirs). R rest d (dirs_of next.open) asked) (sym inside) opens))
 
   pub found_step : (ps : List Part) → IsLevel es ps → (name : List ℕ) (rest : Path) → AllByRecursion (λ p. p.0 ≢ name) ps → ((path : Path) → in_part name ps path ≡ None) → (e : EntryView) → IsEntryOf name (Some es) e → is_tree_mode e.mode ≡ true
-      → (entries : List EntryView) (first asked : List ObjectId) → Finds trees e.id entries first → (inner : Opened) → R rest (dirs_of (opened entries [])) (dirs_of inner) asked
+      → (entries : List EntryView) (first asked : List ObjectId) → Fits e entries first → (inner : Opened) → R rest (dirs_of (opened entries [])) (dirs_of inner) asked
       → R (name ∷ rest) (dirs_of (opened es ps)) (dirs_of (opened es (ps ++ (name, inner) ∷ []))) (first ++ asked)
   found_step ps level name rest others none e entry tree entries first asked finds inner opens =
       let old : Dirs = dirs_of (opened es ps) in
@@ -131,23 +133,23 @@ stop_in trees es ds path name rest path_is ps view level none other =
     subst (λ p. Opens trees p (dirs_of ds) (dirs_of ds) []) (sym path_is) (subst (λ (d : Opened). Opens trees (name ∷ rest) (dirs_of d) (dirs_of d) []) view (stop_step trees es ps level name rest none other))
 
 -- the same, for a level seen whole and a path that is known by parts
-module _ (trees : Trees) (R : Path → Dirs → Dirs → List ObjectId → Type 0) (goes_down : GoesDown R) (goes_in : GoesIn trees R) (es : List EntryView) (ds : Opened) (path : Path) (name : List ℕ) (rest : Path) (path_is : path ≡ name ∷ rest) where
+module _ (Fits : EntryView → List EntryView → List ObjectId → Type 0) (R : Path → Dirs → Dirs → List ObjectId → Type 0) (goes_down : GoesDown R) (goes_in : GoesIn Fits R) (es : List EntryView) (ds : Opened) (path : Path) (name : List ℕ) (rest : Path) (path_is : path ≡ name ∷ rest) where
   pub down_in : (cs l : List Child) → opened es (parts cs) ≡ ds → IsLevel es (parts cs) → (i : ℕ) (child next : Child) → l ≡ cs → Some i ≡ position (called name) l → child ≡ get_or cs i child → bstring_bytes next.name ≡ bstring_bytes child.name
       → (entries : List EntryView) → dirs_of child.open [] ≡ Some entries → (asked : List ObjectId) → R rest (dirs_of child.open) (dirs_of next.open) asked
       → R path (dirs_of ds) (dirs_of (opened es (parts (set cs i next)))) asked
   down_in cs l view level i child next same at is named entries root asked opens =
       subst (λ p. R p (dirs_of ds) (dirs_of (opened es (parts (set cs i next)))) asked) (sym path_is)
-      (subst (λ (d : Opened). R (name ∷ rest) (dirs_of d) (dirs_of (opened es (parts (set cs i next)))) asked) view (down_step trees R goes_down goes_in es cs l level name rest i child next same at is named entries root asked opens))
+      (subst (λ (d : Opened). R (name ∷ rest) (dirs_of d) (dirs_of (opened es (parts (set cs i next)))) asked) view (down_step Fits R goes_down goes_in es cs l level name rest i child next same at is named entries root asked opens))
 
   pub found_in : (cs : List Child) → opened es (parts cs) ≡ ds → IsLevel es (parts cs) → AllByRecursion (λ p. p.0 ≢ name) (parts cs) → ((at : Path) → in_part name (parts cs) at ≡ None) → (e : EntryView) → IsEntryOf name (Some es) e → is_tree_mode e.mode ≡ true
-      → (entries : List EntryView) (first asked : List ObjectId) → Finds trees e.id entries first → (inner : Child) → bstring_bytes inner.name ≡ name → (new : List Child) → new ≡ cs ++ inner ∷ [] → R rest (dirs_of (opened entries [])) (dirs_of inner.open) asked
+      → (entries : List EntryView) (first asked : List ObjectId) → Fits e entries first → (inner : Child) → bstring_bytes inner.name ≡ name → (new : List Child) → new ≡ cs ++ inner ∷ [] → R rest (dirs_of (opened entries [])) (dirs_of inner.open) asked
       → R path (dirs_of ds) (dirs_of (opened es (parts new))) (first ++ asked)
   found_in cs view level others none e entry tree entries first asked finds inner named new is opens =
       let more : parts new ≡ parts cs ++ (name, inner.open) ∷ [] = ap parts is ∙ map-append part cs (inner ∷ []) ∙ ap (λ (n : List ℕ). parts cs ++ (n, inner.open) ∷ []) named in
       subst (λ p. R p (dirs_of ds) (dirs_of (opened es (parts new))) (first ++ asked)) (sym path_is)
       (subst (λ (ps : List Part). R (name ∷ rest) (dirs_of ds) (dirs_of (opened es ps)) (first ++ asked)) (sym more)
       (subst (λ (d : Opened). R (name ∷ rest) (dirs_of d) (dirs_of (opened es (parts cs ++ (name, inner.open) ∷ []))) (first ++ asked)) view
-      (found_step trees R goes_down goes_in es (parts cs) level name rest others none e entry tree entries first asked finds inner.open opens)))
+      (found_step Fits R goes_down goes_in es (parts cs) level name rest others none e entry tree entries first asked finds inner.open opens)))
 
 pub level_new : (name : List ℕ) (es : List EntryView) (cs : List Child) → IsLevel es (parts cs) → AllByRecursion (λ p. p.0 ≢ name) (parts cs) → (e : EntryView) → IsEntryOf name (Some es) e → is_tree_mode e.mode ≡ true → (inner : Child) → bstring_bytes inner.name ≡ name
     → (new : List Child) → new ≡ cs ++ inner ∷ [] → IsLevel es (parts new)
@@ -167,11 +169,15 @@ on_err (Err error) P p = p
 pub arrived_in : (trees : Trees) (es : List EntryView) (ds : Opened) (cs new : List Child) → opened es (parts cs) ≡ ds → new ≡ cs → Opens trees [] (dirs_of ds) (dirs_of (opened es (parts new))) []
 arrived_in trees es ds cs new view same = subst (λ (d : Opened). Opens trees [] (dirs_of ds) (dirs_of d) []) (sym (ap (λ (l : List Child). opened es (parts l)) same ∙ view)) (arrived (dirs_of ds))
 
+-- what an entry's directory is opened with
+abbrev pub OpensAs : Trees → EntryView → List EntryView → List ObjectId → Type 0
+OpensAs trees e entries first = Finds trees e.id entries first
+
 -- openings and halts go on alike
 pub opens_down : (trees : Trees) → GoesDown (Opens trees)
 opens_down trees name rest dirs inner e entries asked has named is opens = down name rest dirs inner e entries asked has named is opens
 
-pub opens_in : (trees : Trees) → GoesIn trees (Opens trees)
+pub opens_in : (trees : Trees) → GoesIn (OpensAs trees) (Opens trees)
 opens_in trees name rest dirs inner e entries first asked entry tree none finds opens = found name rest dirs inner e entries first asked entry tree none finds opens
 
 abbrev pub HaltsAt : Trees → Option ObjectId → Path → Dirs → Dirs → List ObjectId → Type 0
@@ -180,7 +186,7 @@ HaltsAt trees vain path old new asked = Halts trees path old new asked vain
 pub halts_down : (trees : Trees) (vain : Option ObjectId) → GoesDown (HaltsAt trees vain)
 halts_down trees vain name rest dirs inner e entries asked has named is halts = halting.down name rest dirs inner e entries asked vain has named is halts
 
-pub halts_in : (trees : Trees) (vain : Option ObjectId) → GoesIn trees (HaltsAt trees vain)
+pub halts_in : (trees : Trees) (vain : Option ObjectId) → GoesIn (OpensAs trees) (HaltsAt trees vain)
 halts_in trees vain name rest dirs inner e entries first asked entry tree none finds halts = halting.found name rest dirs inner e entries first asked vain entry tree none finds halts
 
 -- nothing was opened, since there was no memory
@@ -196,3 +202,19 @@ none_found trees path name rest es ds cs new path_is view same level none e entr
     (subst (λ (d : Opened). Halts trees (name ∷ rest) (dirs_of ds) (dirs_of d) (e.id ∷ []) (Some e.id)) (sym (ap (λ (l : List Child). opened es (parts l)) same ∙ view))
     (subst (λ (d : Opened). Halts trees (name ∷ rest) (dirs_of d) (dirs_of d) (e.id ∷ []) (Some e.id)) view
     (in_vain name rest (dirs_of (opened es (parts cs))) e entry tree (λ at. at_name es (parts cs) name at level.apart ∙ none at) filled)))
+
+-- and so does what open directories are
+abbrev pub StaysOpened : Path → Dirs → Dirs → List ObjectId → Type 0
+StaysOpened path old new asked = IsOpened old → IsOpened new
+
+abbrev pub IsFormedList : EntryView → List EntryView → List ObjectId → Type 0
+IsFormedList e entries first = IsWellFormed entries
+
+pub stays_down : GoesDown StaysOpened
+stays_down name rest dirs inner e entries asked has named is below = λ all. opened_with_dir name inner dirs (below (opened_in_dir name dirs entries is all)) all (all.above [] name entries is)
+
+pub stays_in : GoesIn IsFormedList StaysOpened
+stays_in name rest dirs inner e entries first asked entry tree none formed below = λ all. opened_with_dir name inner dirs (below (opened_only entries formed)) all (e, entry.0, entry.1, tree)
+
+pub still_opened : (es : List EntryView) (ds : Opened) (cs new : List Child) → opened es (parts cs) ≡ ds → new ≡ cs → IsOpened (dirs_of ds) → IsOpened (dirs_of (opened es (parts new)))
+still_opened es ds cs new view same all = subst (λ (d : Opened). IsOpened (dirs_of d)) (sym (ap (λ (l : List Child). opened es (parts l)) same ∙ view)) all

@@ -4,6 +4,7 @@ ghost use Rattle.gixobj_trees.specs.Entries.{EntryView, IsWellFormed};
 ghost use Rattle.gixobj_files.specs.Edits.{Finds, Opens, counted};
 ghost use Rattle.gixobj_files.specs.Files.{Trees};
 ghost use Rattle.gixobj_files.specs.Halting.{Halts};
+ghost use Rattle.gixobj_files.specs.Opening.{IsOpened};
 ghost use Rattle.gixobj_files.specs.Tables.{IsEmptyId};
 ghost use Rattle.gixobj_ids.specs.declared.hash.object_id.ObjectId.{ObjectId};
 ghost use Rattle.gixobj_directories.specs.Calls.{names_of};
@@ -123,6 +124,7 @@ impl Open {
         ensures opened { OnOk result ((trees : Trees) → AreTreesOf (S.objects store.now) trees → (asked : List ObjectId) × Opens trees (names_of path.now) (dirs_of self.old) (dirs_of self.new) asked × (lookups.new ≡ counted lookups.old asked)) }
         ensures halted { IfErr result (λ error. (trees : Trees) → AreTreesOf (S.objects store.now) trees → (asked : List ObjectId) × (vain : Option ObjectId) × Halts trees (names_of path.now) (dirs_of self.old) (dirs_of self.new) asked vain
             × (lookups.new ≡ counted lookups.old asked) × RefusesAt (S.objects store.now) (S.may_fail store.now) vain error) }
+        ensures still_opened { IsOpened (dirs_of self.old) → IsOpened (dirs_of self.new) }
         ensures root { (entries : List EntryView) × (dirs_of self.old [] ≡ Some entries) }
     {
         let _ = &self.tree;

@@ -63,6 +63,24 @@ opened_opening trees path dirs new asked opens opened = record {
   above = above_opening trees path dirs new asked opens opened.above;
 }
 
+-- the same of whole open directories
+pub opened_in_dir : (name : List ℕ) (dirs : Dirs) (entries : List EntryView) → dirs (name ∷ []) ≡ Some entries → IsOpened dirs → IsOpened (in_dir name dirs)
+opened_in_dir name dirs entries is all = record {
+  root = λ none. cc (sym is ∙ none);
+  well_formed = λ path. all.well_formed (name ∷ path);
+  above = λ path. all.above (name ∷ path);
+}
+
+pub opened_only : (entries : List EntryView) → IsWellFormed entries → IsOpened (only entries)
+opened_only entries formed = record { root = λ none. cc none; well_formed = formed_only entries formed; above = above_only entries }
+
+pub opened_with_dir : (name : List ℕ) (inner dirs : Dirs) → IsOpened inner → IsOpened dirs → ((e : EntryView) × HasAt (dirs []) e × (e.name ≡ name) × IsTrue (is_tree_mode e.mode)) → IsOpened (with_dir name inner dirs)
+opened_with_dir name inner dirs inside beside entry = record {
+  root = beside.root;
+  well_formed = formed_with_dir name inner dirs inside.well_formed beside.well_formed;
+  above = above_with_dir name inner dirs inside.above beside.above entry;
+}
+
 -- what is open stays as it is
 pub opening_keeps : (trees : Trees) (path : Path) (dirs new : Dirs) (asked : List ObjectId) → Opens trees path dirs new asked → (at : Path) (es : List EntryView) → dirs at ≡ Some es → new at ≡ Some es
 opening_keeps trees path dirs new asked (arrived d) at es is = is

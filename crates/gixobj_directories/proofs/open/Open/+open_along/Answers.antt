@@ -6,6 +6,7 @@ use Rattle.gixobj_ids.specs.declared.hash.object_id.ObjectId.{ObjectId}
 use Rattle.gixobj_files.specs.Edits.{Finds, Opens, arrived, counted}
 use Rattle.gixobj_files.specs.Files.{Trees}
 use Rattle.gixobj_files.specs.Halting.{Halts}
+use Rattle.gixobj_files.specs.Opening.{IsOpened}
 use Rattle.gixobj_files.specs.Tables.{IsEmptyId}
 use Rattle.gixobj_directories.specs.Calls.{names_of}
 use Rattle.gixobj_directories.specs.Nested.{Opened, dirs_of, opened, parts}
@@ -13,7 +14,7 @@ use Rattle.gixobj_directories.specs.Openings.{RefusesDirectory}
 use Rattle.gixobj_directories.specs.declared.open.Child.{Child}
 use Rattle.gixobj_directories.proofs.Handing.{err_weaker}
 use Rattle.gixobj_directories.proofs.Levels.{level_root, level_set, none_named, not_found}
-use Rattle.gixobj_directories.proofs.OpeningSteps.{HaltsAt, counted_more, down_in, found_in, halts_down, halts_in, level_new, names_none, none_found, nothing_opened, opens_down, opens_in, stop_in}
+use Rattle.gixobj_directories.proofs.OpeningSteps.{HaltsAt, IsFormedList, OpensAs, StaysOpened, counted_more, down_in, found_in, halts_down, halts_in, level_new, names_none, none_found, nothing_opened, opens_down, opens_in, stays_down, stays_in, still_opened, stop_in}
 use Rattle.gixobj_directories.proofs.open.Open.+open_along.Goals as goal
 
 pub returns-in_default-clause-opened : goal.returns-in_default-clause-opened
@@ -28,7 +29,7 @@ returns-in-Some-child_at-clause-opened g t c = MatchResult-weaker c.open_along.r
     let root = c.open_along.ensures.root in
     let below = ok trees fits in (
       below.0,
-      down_in trees (Opens trees) (opens_down trees) (opens_in trees) c.self.inside.tree c.args.self.now (names_of c.args.path.now) (bstring_bytes c.in-Some.name.now) (names_of c.in-Some.rest.now) (ap names_of c.in-Some.ensures.cases.0)
+      down_in (OpensAs trees) (Opens trees) (opens_down trees) (opens_in trees) c.self.inside.tree c.args.self.now (names_of c.args.path.now) (bstring_bytes c.in-Some.name.now) (names_of c.in-Some.rest.now) (ap names_of c.in-Some.ensures.cases.0)
           c.self.inside.children.items c.deref.result.now c.self.view_is c.self.invariant c.in-Some-child_at.place c.index_mut-child.result.now (record { name = c.index_mut-child.result.now.name; «open» = c.open_along.new.self })
           c.deref.ensures.value (c.in-Some-child_at.ensures {u = tt}) c.index_mut-child.ensures.value refl root.0 root.1 below.0 below.1,
       below.2,
@@ -40,7 +41,7 @@ returns-in-Some-child_at-clause-halted g t c = MatchResult-weaker c.open_along.r
     let below = bad trees fits in (
       below.0,
       below.1,
-      down_in trees (HaltsAt trees below.1) (halts_down trees below.1) (halts_in trees below.1) c.self.inside.tree c.args.self.now (names_of c.args.path.now) (bstring_bytes c.in-Some.name.now) (names_of c.in-Some.rest.now) (ap names_of c.in-Some.ensures.cases.0)
+      down_in (OpensAs trees) (HaltsAt trees below.1) (halts_down trees below.1) (halts_in trees below.1) c.self.inside.tree c.args.self.now (names_of c.args.path.now) (bstring_bytes c.in-Some.name.now) (names_of c.in-Some.rest.now) (ap names_of c.in-Some.ensures.cases.0)
           c.self.inside.children.items c.deref.result.now c.self.view_is c.self.invariant c.in-Some-child_at.place c.index_mut-child.result.now (record { name = c.index_mut-child.result.now.name; «open» = c.open_along.new.self })
           c.deref.ensures.value (c.in-Some-child_at.ensures {u = tt}) c.index_mut-child.ensures.value refl root.0 root.1 below.0 below.2,
       below.3,
@@ -94,7 +95,7 @@ returns-clause-opened g t c = MatchResult-weaker c.open_along-opened.result c.op
     let below = ok trees fits in
     let finds = (c.in_ok-tree.ensures {u = tt}).found trees fits in (
       finds.0 ++ below.0,
-      found_in trees (Opens trees) (opens_down trees) (opens_in trees) c.self.inside.tree c.args.self.now (names_of c.args.path.now) name (names_of c.in-Some.rest.now) (ap names_of c.in-Some.ensures.cases.0)
+      found_in (OpensAs trees) (Opens trees) (opens_down trees) (opens_in trees) c.self.inside.tree c.args.self.now (names_of c.args.path.now) name (names_of c.in-Some.rest.now) (ap names_of c.in-Some.ensures.cases.0)
           cs c.self.view_is c.self.invariant (none_named name cs c.deref.result.now c.deref.ensures.value (c.in_default-child_at.ensures {u = tt})) (not_found name cs c.deref.result.now c.deref.ensures.value (c.in_default-child_at.ensures {u = tt}))
           there.0 there.1 there.2 c.in_ok-tree.tree finds.0 below.0 (subst (λ id. Finds trees id c.in_ok-tree.tree finds.0) (sym there.3) finds.1) inner (c.in_ok-own_name.ensures {u = tt}).ok.0 c.push_child.new.children.items same
           (subst (λ (d : Opened). Opens trees (names_of c.in-Some.rest.now) (dirs_of d) (dirs_of c.open_along-opened.new.self) below.0) c.new-inner.ensures below.1),
@@ -112,13 +113,38 @@ returns-clause-halted g t c = MatchResult-weaker c.open_along-opened.result c.op
     let finds = (c.in_ok-tree.ensures {u = tt}).found trees fits in (
       finds.0 ++ below.0,
       below.1,
-      found_in trees (HaltsAt trees below.1) (halts_down trees below.1) (halts_in trees below.1) c.self.inside.tree c.args.self.now (names_of c.args.path.now) name (names_of c.in-Some.rest.now) (ap names_of c.in-Some.ensures.cases.0)
+      found_in (OpensAs trees) (HaltsAt trees below.1) (halts_down trees below.1) (halts_in trees below.1) c.self.inside.tree c.args.self.now (names_of c.args.path.now) name (names_of c.in-Some.rest.now) (ap names_of c.in-Some.ensures.cases.0)
           cs c.self.view_is c.self.invariant (none_named name cs c.deref.result.now c.deref.ensures.value (c.in_default-child_at.ensures {u = tt})) (not_found name cs c.deref.result.now c.deref.ensures.value (c.in_default-child_at.ensures {u = tt}))
           there.0 there.1 there.2 c.in_ok-tree.tree finds.0 below.0 (subst (λ id. Finds trees id c.in_ok-tree.tree finds.0) (sym there.3) finds.1) inner (c.in_ok-own_name.ensures {u = tt}).ok.0 c.push_child.new.children.items same
           (subst (λ (d : Opened). Halts trees (names_of c.in-Some.rest.now) (dirs_of d) (dirs_of c.open_along-opened.new.self) below.0 below.1) c.new-inner.ensures below.2),
       below.3 ∙ ap (λ n. counted n below.0) finds.2 ∙ counted_more c.args.lookups.now finds.0 below.0,
       below.4,
     ))
+
+pub returns-in-Some-child_at-clause-still_opened : goal.returns-in-Some-child_at-clause-still_opened
+returns-in-Some-child_at-clause-still_opened g t c =
+    let root = c.open_along.ensures.root in
+    down_in IsFormedList StaysOpened stays_down stays_in c.self.inside.tree c.args.self.now (names_of c.args.path.now) (bstring_bytes c.in-Some.name.now) (names_of c.in-Some.rest.now) (ap names_of c.in-Some.ensures.cases.0)
+    c.self.inside.children.items c.deref.result.now c.self.view_is c.self.invariant c.in-Some-child_at.place c.index_mut-child.result.now (record { name = c.index_mut-child.result.now.name; «open» = c.open_along.new.self })
+    c.deref.ensures.value (c.in-Some-child_at.ensures {u = tt}) c.index_mut-child.ensures.value refl root.0 root.1 [] c.open_along.ensures.still_opened
+
+pub returns-in_err-own_name-clause-still_opened : goal.returns-in_err-own_name-clause-still_opened
+returns-in_err-own_name-clause-still_opened g t c = still_opened c.self.inside.tree c.args.self.now c.self.inside.children.items c.room_for.new.children.items c.self.view_is c.room_for.ensures.items
+
+pub returns-in_err-tree-clause-still_opened : goal.returns-in_err-tree-clause-still_opened
+returns-in_err-tree-clause-still_opened g t c = still_opened c.self.inside.tree c.args.self.now c.self.inside.children.items c.room_for.new.children.items c.self.view_is c.room_for.ensures.items
+
+pub returns-clause-still_opened : goal.returns-clause-still_opened
+returns-clause-still_opened g t c =
+    let name = bstring_bytes c.in-Some.name.now in
+    let cs = c.self.inside.children.items in
+    let inner : Child = record { name = c.in_ok-own_name.own_name; «open» = c.open_along-opened.new.self } in
+    let same : c.push_child.new.children.items ≡ cs ++ inner ∷ [] = c.push_child.ensures ∙ ap (λ (l : List Child). l ++ inner ∷ []) c.room_for.ensures.items in
+    let there = (c.in-Some-tree_id.ensures {u = tt}).some in
+    found_in IsFormedList StaysOpened stays_down stays_in c.self.inside.tree c.args.self.now (names_of c.args.path.now) name (names_of c.in-Some.rest.now) (ap names_of c.in-Some.ensures.cases.0)
+    cs c.self.view_is c.self.invariant (none_named name cs c.deref.result.now c.deref.ensures.value (c.in_default-child_at.ensures {u = tt})) (not_found name cs c.deref.result.now c.deref.ensures.value (c.in_default-child_at.ensures {u = tt}))
+    there.0 there.1 there.2 c.in_ok-tree.tree [] [] (c.in_ok-tree.ensures {u = tt}).well_formed inner (c.in_ok-own_name.ensures {u = tt}).ok.0 c.push_child.new.children.items same
+    (subst (λ (d : Opened). IsOpened (dirs_of d) → IsOpened (dirs_of c.open_along-opened.new.self)) c.new-inner.ensures c.open_along-opened.ensures.still_opened)
 
 pub returns-in_default-clause-root : goal.returns-in_default-clause-root
 returns-in_default-clause-root g t c = (c.self.inside.tree, level_root c.args.self.now c.self.inside.tree (parts c.self.inside.children.items) c.self.view_is)
