@@ -7,14 +7,14 @@ use Rattle.gixobj_base.specs.Entries.{EntryView, IsWellFormed}
 use Rattle.gixobj_base.specs.ids.hash.kind.Kind.{Kind}
 use Rattle.gixobj_base.specs.ids.hash.object_id.ObjectId.{ObjectId}
 use Rattle.gixobj_files.specs.Editing.{kept}
-use Rattle.gix_object.specs.EditorCalls.{EditorFiles, StoppedBy}
+use Rattle.gix_object.specs.EditorCalls.{StoppedBy}
+use Rattle.gixobj_files.specs.State.{DirMap, EditorFiles, State, open_dirs, root_alone}
 use Rattle.gixobj_directories.specs.Calls.{IsStorable}
 use Rattle.gixobj_directories.specs.declared.write.WriteError.{WriteError}
 use Rattle.gixobj_directories.specs.declared.write.WriteError.TheVariants as write
 use Rattle.gixobj_files.specs.Files.{FileSet, NamedFiles, SameFiles, Table, is_null}
 use Rattle.gixobj_files.specs.HandingOut.{HandsOut}
 use Rattle.gixobj_files.specs.Opening.{OpenFiles}
-use Rattle.gixobj_files.specs.State.{DirMap, State, open_dirs, root_alone}
 use Rattle.gixobj_files.proofs.Sublists.{all_pass}
 use Rattle.gixobj_files.proofs.Formed.{well_formed_kept}
 use Rattle.gixobj_files.specs.Tables.{AgreesWithPairs}

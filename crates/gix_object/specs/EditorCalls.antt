@@ -23,14 +23,6 @@ abbrev pub removed_entries : Path → List EntryView → List EntryView
 removed_entries [] entries = entries
 removed_entries (name ∷ path) entries = without name entries
 
--- the files of an editor
-abbrev pub EditorFiles : {S : Type 0} → Table → ℕ → State S → FileSet
-EditorFiles T n state = OpenFiles T n (open_dirs state)
-
--- the editor with another store
-abbrev pub with_store : {S : Type 0} → State S → S → State S
-with_store state store = record state { store = store }
-
 -- a name that no entry may have
 abbrev pub RefusesName : List ℕ → Error → Type 0
 RefusesName name error.EmptyPathComponent = name ≡ []

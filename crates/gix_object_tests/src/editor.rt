@@ -2,7 +2,7 @@
 ghost use Rattle.std.specs.Prelude.{◌≡◌, ◌≤◌, ℕ, ◌∷◌, [], IfOk, IfSome, length};
 ghost use Rattle.gixobj_base.specs.Mode.{mode_of_kind};
 ghost use Rattle.gixobj_base.specs.trees.tree.entry_kind.EntryKind.TheVariants.{Blob};
-ghost use Rattle.gix_object.specs.EditorCalls.{EditorFiles};
+ghost use Rattle.gixobj_files.specs.State.{EditorFiles};
 ghost use Rattle.gixobj_directories.specs.Calls.{IsCallableOnTrees, names_of};
 ghost use Rattle.gixobj_files.specs.Files.{NamedFiles, SameFiles, Table};
 ghost use Rattle.gixobj_files.specs.Tables.{AgreesWithPairs};

@@ -7,7 +7,8 @@ use Rattle.std.specs.FinMap.{FinMap}
 use Rattle.std.specs.FinMap as map
 use Rattle.gixobj_trees.specs.Entries.{EntryView}
 use Rattle.gixobj_ids.specs.declared.hash.kind.Kind.{Kind}
-use Rattle.gixobj_files.specs.Opening.{Dirs}
+use Rattle.gixobj_files.specs.Files.{FileSet, Table}
+use Rattle.gixobj_files.specs.Opening.{Dirs, OpenFiles}
 
 -- the entries of the open directories, by their paths
 abbrev pub DirMap : Type 0
@@ -27,3 +28,11 @@ open_dirs state = λ path. map.get state.dirs path
 -- the root alone is open
 abbrev pub root_alone : List EntryView → DirMap
 root_alone entries = map.insert map.empty [] entries
+
+-- the files of an editor
+abbrev pub EditorFiles : {S : Type 0} → Table → ℕ → State S → FileSet
+EditorFiles T n state = OpenFiles T n (open_dirs state)
+
+-- the editor with another store
+abbrev pub with_store : {S : Type 0} → State S → S → State S
+with_store state store = record state { store = store }

@@ -9,11 +9,11 @@ ghost use Rattle.bstr.specs.Owned.{bstring_bytes};
 ghost use Rattle.gixobj_base.specs.Entries.{EntryView, IsEntryName, IsWellFormed};
 ghost use Rattle.gixobj_base.specs.Mode.{mode_of_kind};
 ghost use Rattle.gixobj_files.specs.Editing.{kept, with_entry, without};
-ghost use Rattle.gix_object.specs.EditorCalls.{EditorFiles, RefusesEdit, RefusesName, StoppedBy, removed_entries, upserted_entries, with_store};
+ghost use Rattle.gix_object.specs.EditorCalls.{RefusesEdit, RefusesName, StoppedBy, removed_entries, upserted_entries};
+ghost use Rattle.gixobj_files.specs.State.{EditorFiles, State, open_dirs, root_alone, with_store};
 ghost use Rattle.gixobj_directories.specs.Calls.{AreNames, IsCallableOnTrees, IsStorable, names_of};
 ghost use Rattle.gixobj_files.specs.Files.{NamedFiles, Removed, SameFiles, Table, Upserted};
 ghost use Rattle.gixobj_files.specs.HandingOut.{HandsOut};
-ghost use Rattle.gixobj_files.specs.State.{open_dirs, root_alone};
 ghost use Rattle.gixobj_files.specs.Tables.{AgreesWithPairs};
 ghost use Rattle.gix_object.specs.contracts.tree.editor.Editor.{the_row};
 
@@ -63,8 +63,7 @@ pub struct Editor<S> {
 
 impl<S> Model for Editor<S> {
     ghost use Rattle.gixobj_base.specs.Entries.{IsWellFormed};
-    ghost use Rattle.gixobj_files.specs.State.{State, root_alone};
-    ghost use Rattle.gixobj_files.specs.State.Codes.{state_code};
+        ghost use Rattle.gixobj_files.specs.State.Codes.{state_code};
 
     ghost Value = { State S };
 

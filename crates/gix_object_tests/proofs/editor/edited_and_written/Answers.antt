@@ -1,7 +1,7 @@
 -- Each call adds its step.
 use Rattle.gixobj_base.specs.Mode.{mode_of_kind}
 use Rattle.gixobj_base.specs.trees.tree.entry_kind.EntryKind.TheVariants.{Blob}
-use Rattle.gix_object.specs.EditorCalls.{EditorFiles}
+use Rattle.gixobj_files.specs.State.{EditorFiles}
 use Rattle.gixobj_directories.specs.Calls.{names_of}
 use Rattle.gixobj_files.specs.Files.{NamedFiles, Removed, Upserted}
 use Rattle.gixobj_files.proofs.EditedFiles.{same_removed, same_trans}

@@ -1,0 +1,93 @@
+-- What an edit of an editor promises.
+use Rattle.std.specs.Prelude.{◌≡◌, ◌≢◌, ◌≤◌, ◌⊎◌, ◌+◌, ℕ, zero, suc, Bool, List, [], ◌∷◌, Contains, Some, min}
+use Rattle.gixobj_data.specs.Stores.{Objects}
+use Rattle.gixobj_directories.specs.Calls.{AreNames}
+use Rattle.gixobj_directories.specs.Openings.{RefusesDirectory}
+use Rattle.gixobj_directories.specs.declared.opening.Error as directory
+use Rattle.gixobj_directories.specs.declared.opening.Error.TheVariants as opening
+use Rattle.gixobj_files.specs.Edits.{Opens, upserted_dirs}
+use Rattle.gixobj_files.specs.Files.{Path, SameFiles, Table, Trees, Upserted}
+use Rattle.gixobj_files.specs.Halting.{IsUnopenedAbove}
+use Rattle.gixobj_files.specs.Opening.{Dirs}
+use Rattle.gixobj_files.specs.State.{EditorFiles, State, open_dirs}
+use Rattle.gixobj_files.specs.Tables.{AgreesWithStore}
+use Rattle.gixobj_files.specs.Unopened.{unopened_count}
+use Rattle.gixobj_ids.specs.Hash.{null_id}
+use Rattle.gixobj_ids.specs.declared.hash.object_id.ObjectId.{ObjectId}
+use Rattle.gixobj_texts.specs.Bytes.{slash}
+use Rattle.gixobj_trees.specs.Entries.{EntryView, IsEntryName}
+use Rattle.gixobj_editor.specs.declared.editor.error.Error.{Error}
+use Rattle.gixobj_editor.specs.declared.editor.error.Error.TheVariants as error
+
+-- the path without its last name
+abbrev pub directory_of : Path → Path
+directory_of [] = []
+directory_of (name ∷ []) = []
+directory_of (name ∷ next ∷ rest) = name ∷ directory_of (next ∷ rest)
+
+-- a count raised so many times by one; it stays at the greatest u64
+abbrev pub raised : ℕ → ℕ → ℕ
+raised n zero = n
+raised n (suc times) = raised (min (n + 1) 18446744073709551615) times
+
+-- a name that no entry may have
+abbrev pub RefusesName : List ℕ → Error → Type 0
+RefusesName name error.EmptyPathComponent = name ≡ []
+RefusesName name error.SlashInPathComponent = (name ≢ []) × Contains name slash
+RefusesName name (error.FindExistingObject cause) = ⊥
+RefusesName name (error.CannotRemoveNonLeaf path) = ⊥
+RefusesName name error.MalformedTree = ⊥
+RefusesName name error.OutOfMemory = ⊥
+
+-- the first name that no entry may have decides
+abbrev pub RefusesNames : Path → Error → Type 0
+RefusesNames [] refusal = ⊥
+RefusesNames (name ∷ path) refusal = RefusesName name refusal ⊎ (IsEntryName name × RefusesNames path refusal)
+
+-- a directory above the path isn't opened
+abbrev pub RefusesAbove : Objects → (ObjectId → Bool) → Trees → Dirs → Path → directory.Error → Type 0
+RefusesAbove objects may_fail trees dirs path cause = AreNames path × ((it : ObjectId) × IsUnopenedAbove trees dirs path it × RefusesDirectory objects may_fail it cause)
+
+-- why an upsert is refused: for the first name that no entry may have; else for an unopened directory above the path, which the
+-- store doesn't have as a well-formed tree, or whose lookup fails; or for want of memory
+abbrev pub RefusesUpsert : Objects → (ObjectId → Bool) → Trees → Dirs → Path → Error → Type 0
+RefusesUpsert objects may_fail trees dirs path error.EmptyPathComponent = RefusesNames path error.EmptyPathComponent
+RefusesUpsert objects may_fail trees dirs path error.SlashInPathComponent = RefusesNames path error.SlashInPathComponent
+RefusesUpsert objects may_fail trees dirs path (error.FindExistingObject cause) = RefusesAbove objects may_fail trees dirs path (opening.FindExistingObject cause)
+RefusesUpsert objects may_fail trees dirs path error.MalformedTree = RefusesAbove objects may_fail trees dirs path opening.MalformedTree
+RefusesUpsert objects may_fail trees dirs path (error.CannotRemoveNonLeaf at) = ⊥
+RefusesUpsert objects may_fail trees dirs path error.OutOfMemory = AreNames path × (path ≢ [])
+
+-- a refusal for a name
+abbrev pub IsForAName : Error → Type 0
+IsForAName refusal = (refusal ≡ error.EmptyPathComponent) ⊎ (refusal ≡ error.SlashInPathComponent)
+
+-- why no directory was opened, as an edit says it
+abbrev pub edit_refusal : directory.Error → Error
+edit_refusal (opening.FindExistingObject cause) = error.FindExistingObject cause
+edit_refusal opening.MalformedTree = error.MalformedTree
+edit_refusal opening.OutOfMemory = error.OutOfMemory
+
+-- an accepted upsert: which directories are open, how many lookups there were, and the files; all else stays
+pub record IsUpserted {S : Type 0} (trees : Trees) (old : State S) (path : Path) (mode : ℕ) (id : ObjectId) (new : State S) : Type 0 where
+  pub names : AreNames path
+  -- the directories above the path are opened, and then the entry is put in
+  pub opened : Dirs
+  pub asked : List ObjectId
+  pub opens : Opens trees (directory_of path) (open_dirs old) opened asked
+  pub dirs : (at : Path) → open_dirs new at ≡ upserted_dirs path mode id (null_id old.object_hash) opened at
+  pub lookups : new.lookups ≡ raised old.lookups (unopened_count trees (open_dirs old) path)
+  pub rest : new ≡ record old { dirs = new.dirs; lookups = new.lookups }
+  -- the store has each unopened directory above the path
+  pub known : (it : ObjectId) → IsUnopenedAbove trees (open_dirs old) path it → (entries : List EntryView) × (trees it ≡ Some entries)
+  pub files : (T : Table) (n : ℕ) → AgreesWithStore T trees → SameFiles (EditorFiles T n new) (Upserted T n path mode id (EditorFiles T n old))
+
+-- a refused edit: what was open stays open, with its list, and more may be open; there were at most as many lookups as there are
+-- unopened directories above the path; the files and all else stay
+pub record IsRefused {S : Type 0} (trees : Trees) (old : State S) (path : Path) (new : State S) : Type 0 where
+  pub stays : (at : Path) (entries : List EntryView) → open_dirs old at ≡ Some entries → open_dirs new at ≡ Some entries
+  pub count : ℕ
+  pub few : count ≤ unopened_count trees (open_dirs old) path
+  pub lookups : new.lookups ≡ raised old.lookups count
+  pub rest : new ≡ record old { dirs = new.dirs; lookups = new.lookups }
+  pub files : (T : Table) (n : ℕ) → AgreesWithStore T trees → SameFiles (EditorFiles T n new) (EditorFiles T n old)

@@ -1,0 +1,139 @@
+//! An editor of nested trees (gitdatamodel, "trees").
+//!
+//! It edits a tree and the trees below it by paths, and hands out what is to be stored. A directory is opened, that is
+//! looked up in the store, only where an edit needs it.
+ghost use Rattle.std.specs.Prelude.{◌≡◌, IfErr, IfOk, OnErr, OnOk};
+ghost use Rattle.std.specs.Borrow.{Lends, sem};
+ghost use Rattle.std.specs.Option.{option_copied};
+ghost use Rattle.gixobj_trees.specs.Entries.{IsWellFormed};
+ghost use Rattle.gixobj_trees.specs.Mode.{mode_of_kind};
+ghost use Rattle.gixobj_files.specs.Edits.{entry_at};
+ghost use Rattle.gixobj_files.specs.Files.{Trees};
+ghost use Rattle.gixobj_files.specs.Opening.{IsOpened};
+ghost use Rattle.gixobj_files.specs.State.{open_dirs, root_alone, with_store};
+ghost use Rattle.gixobj_directories.specs.Calls.{names_of};
+ghost use Rattle.gixobj_directories.specs.Openings.{AreTreesOf};
+ghost use Rattle.gixobj_editor.specs.Edits.{IsForAName, IsRefused, IsUpserted, RefusesUpsert};
+ghost use Rattle.gixobj_editor.specs.contracts.editor.Editor.{the_row};
+
+pub mod error;
+mod names;
+
+use bstr::BString;
+use error::Error;
+use gixobj_data::Find;
+use gixobj_directories::open::Open;
+use gixobj_ids::hash::{self, ObjectId};
+use gixobj_trees::Tree;
+use gixobj_trees::tree::{Entry, EntryKind};
+use names::check_names;
+use std::marker::Model;
+
+/// An editor of a tree, over a store of objects.
+///
+/// In contracts it is the list of each open directory, by its path, with the store, the number of lookups,
+/// and the kind of the ids. An entry with a null id is a placeholder, which is never written.
+#[derive(Drop)]
+pub struct Editor<S> {
+    root: Open,
+    store: S,
+    object_hash: hash::Kind,
+    lookups: u64,
+}
+
+impl<S> Model for Editor<S> {
+    ghost use Rattle.std.specs.FinMap as map;
+    ghost use Rattle.gixobj_directories.specs.Nested.{dirs_of};
+    ghost use Rattle.gixobj_files.specs.Opening.{IsOpened};
+    ghost use Rattle.gixobj_files.specs.State.{State};
+    ghost use Rattle.gixobj_files.specs.State.Codes.{state_code};
+
+    ghost Value = { State S };
+
+    ghost coded = { state_code S.code };
+
+    ghost view = { λ e. record { dirs = map.from_entries e.root; store = e.store; lookups = e.lookups; object_hash = e.object_hash } };
+
+    ghost invariant = { λ e. IsOpened (dirs_of e.root) };
+}
+
+/// Lifecycle
+impl<S> Editor<S> {
+    /// An editor of this tree, over a store of objects, with ids of this kind of digest. The root must be
+    /// well-formed, as [`Tree::is_well_formed`] tells. It takes no memory.
+    pub fn new(root: Tree, store: S, object_hash: hash::Kind) -> Editor<S>
+        requires { IsWellFormed root }
+        ensures dirs { result.dirs ≡ root_alone root }
+        ensures store { result.store ≡ store }
+        ensures lookups { result.lookups ≡ 0 }
+        ensures object_hash { result.object_hash ≡ object_hash }
+    {
+        let alloc = *root.entries.allocator();
+        Editor {
+            root: Open::new(alloc, root),
+            store,
+            object_hash,
+            lookups: 0,
+        }
+    }
+}
+
+/// Access
+impl<S> Editor<S> {
+    /// The store.
+    pub fn store_mut(&mut self) -> &mut S
+        ensures* writes_back { sem 𝓛 (Lends (the_row S.row) S.row self.entry result (with_store self.old)) }
+        ensures value { result.now ≡ self.old.store }
+    {
+        &mut self.store
+    }
+
+    /// How many trees were looked up in the store.
+    pub fn lookups(&self) -> u64
+        ensures { result ≡ self.now.lookups }
+    {
+        self.lookups
+    }
+}
+
+/// Editing
+impl<S: Find> Editor<S> {
+    /// Puts an entry of this kind and id at the path, in place of any entry of its name and of all that is
+    /// below it. Each strict beginning of the path becomes a directory: one that isn't open is looked up,
+    /// one that is missing is made, and an entry that is no tree is replaced. Without names nothing changes.
+    ///
+    /// `EmptyPathComponent` or `SlashInPathComponent` for the first name that no entry may have; else
+    /// `FindExistingObject` or `MalformedTree` for the first directory that the store doesn't have as a
+    /// well-formed tree, or whose lookup fails; `OutOfMemory` where memory was wanting. A refusal leaves the
+    /// files as they were; what was opened on the way stays open.
+    pub fn try_upsert(
+        &mut self,
+        path: &[BString],
+        kind: EntryKind,
+        id: ObjectId,
+    ) -> Result<(), Error>
+        ensures upserted { OnOk result ((trees : Trees) → AreTreesOf (S.objects self.old.store) trees → IsUpserted trees self.old (names_of path.now) (mode_of_kind kind) id self.new) }
+        ensures refused { OnErr result ((trees : Trees) → AreTreesOf (S.objects self.old.store) trees → IsRefused trees self.old (names_of path.now) self.new) }
+        ensures refusal { IfErr result (λ error. (trees : Trees) → AreTreesOf (S.objects self.old.store) trees → RefusesUpsert (S.objects self.old.store) (S.may_fail self.old.store) trees (open_dirs self.old) (names_of path.now) error) }
+        ensures unasked { IfErr result (λ error. IsForAName error → self.new ≡ self.old) }
+    {
+        check_names(path)?;
+        let Some((_last, directory)) = path.split_last() else {
+            return Ok(());
+        };
+        let alloc = self.root.alloc();
+        let null = ObjectId::null(self.object_hash);
+        self.root
+            .open_along(alloc, directory, &self.store, &mut self.lookups)?;
+        self.root.put(alloc, path, kind.into(), id, null)?;
+        Ok(())
+    }
+
+    /// The entry at the path, by open directories alone, or none. The id of an open directory may be out of
+    /// date. It looks nothing up and takes no memory.
+    pub fn get(&self, path: &[BString]) -> Option<&Entry>
+        ensures { option_copied result ≡ entry_at (names_of path.now) (open_dirs self.now) }
+    {
+        self.root.get(path)
+    }
+}
