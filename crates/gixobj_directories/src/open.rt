@@ -130,7 +130,7 @@ impl Open {
     /// Puts an entry at a path, in place of any entry that is there. What is open at or below the path is
     /// shut. Without names nothing changes.
     ///
-    /// Each beginning of the path is an open directory then. One that isn't open is opened as empty: an
+    /// Each strict beginning of the path is an open directory then. One that isn't open is opened as empty: an
     /// entry of a tree's mode that is there stays, and else one with the id `null` is put in, in place of any
     /// entry of that name.
     ///
