@@ -1,165 +1,176 @@
 //! Times and their texts, at the edges.
 
 use gixobj_base::date::{Time, TimeBuf, parse_header};
-use std::test::Fail;
 
-/// The time of these parts.
-fn time_of(seconds: i64, offset: i32) -> Result<Time, Fail> {
-    Ok(Time::new(seconds, offset).ok_or("a time")?)
-}
+/// Offsets, and whether a time can have them.
+const OFFSETS: &[(i32, bool)] = &[
+    (0, true),
+    (60, true),
+    (-60, true),
+    (5400, true),
+    (-5400, true),
+    (359_940, true),
+    (-359_940, true),
+    (1, false),
+    (-1, false),
+    (59, false),
+    (61, false),
+    (-61, false),
+    (90, false),
+    (359_941, false),
+    (360_000, false),
+    (-360_000, false),
+    (i32::MAX, false),
+    (i32::MIN, false),
+];
 
 #[test]
 fn offsets_of_times(rt: HostRuntime) {
-    let kept = [0, 60, -60, 5400, -5400, 359_940, -359_940];
-    for offset in kept {
-        assert!(rt; Time::new(1, offset).is_some(), "{offset}");
-    }
-    let refused = [
-        1,
-        -1,
-        59,
-        61,
-        -61,
-        90,
-        359_941,
-        360_000,
-        -360_000,
-        i32::MAX,
-        i32::MIN,
-    ];
-    for offset in refused {
-        assert!(rt; Time::new(1, offset).is_none(), "{offset}");
+    for &(offset, is_kept) in OFFSETS {
+        assert!(rt; Time::new(1, offset).is_some() == is_kept, "{offset}");
     }
 }
 
-#[test]
-fn texts_that_say_a_time(rt: HostRuntime) -> Result<(), Fail> {
-    let rows: &[(&str, i64, i32)] = &[
-        ("0 +0000", 0, 0),
-        ("-0 +0000", 0, 0),
-        ("-0 -0000", 0, 0),
-        ("0 -0000", 0, 0),
-        ("00 +0000", 0, 0),
-        ("-00 +0000", 0, 0),
-        ("1 +0000", 1, 0),
-        ("-1 +0000", -1, 0),
-        ("0012 +0100", 12, 3600),
-        ("1112911993 -0700", 1_112_911_993, -25_200),
-        ("1234567890 +0530", 1_234_567_890, 19_800),
-        ("1234567890 -0330", 1_234_567_890, -12_600),
-        ("1 +0001", 1, 60),
-        ("1 -0001", 1, -60),
-        ("1 -0030", 1, -1800),
-        ("1 +0059", 1, 3540),
-        ("1 +0100", 1, 3600),
-        ("1 +9900", 1, 356_400),
-        ("1 +9959", 1, 359_940),
-        ("1 -9959", 1, -359_940),
-        ("4294967296 +1400", 4_294_967_296, 50_400),
-        ("9223372036854775807 +0000", i64::MAX, 0),
-        ("9223372036854775807 -0130", i64::MAX, -5400),
-        ("-9223372036854775808 +0000", i64::MIN, 0),
-        ("-9223372036854775808 -9959", i64::MIN, -359_940),
-        ("000000000000000000000000000001 +0000", 1, 0),
-    ];
-    for &(text, seconds, offset) in rows {
-        let read = parse_header(text.as_bytes());
-        assert!(rt; read == Some(time_of(seconds, offset)?), "{text}");
-    }
-    Ok(())
+/// Texts, and the seconds and offsets of the times that they say.
+const TEXTS: &[(&str, Option<(i64, i32)>)] = &[
+    ("0 +0000", Some((0, 0))),
+    ("-0 +0000", Some((0, 0))),
+    ("-0 -0000", Some((0, 0))),
+    ("0 -0000", Some((0, 0))),
+    ("00 +0000", Some((0, 0))),
+    ("-00 +0000", Some((0, 0))),
+    ("1 +0000", Some((1, 0))),
+    ("-1 +0000", Some((-1, 0))),
+    ("-1 +0001", Some((-1, 60))),
+    ("0012 +0100", Some((12, 3600))),
+    ("1112911993 -0700", Some((1_112_911_993, -25_200))),
+    ("1234567890 +0530", Some((1_234_567_890, 19_800))),
+    ("1234567890 -0330", Some((1_234_567_890, -12_600))),
+    ("1 +0001", Some((1, 60))),
+    ("1 -0001", Some((1, -60))),
+    ("1 -0030", Some((1, -1800))),
+    ("1 +0059", Some((1, 3540))),
+    ("1 +0100", Some((1, 3600))),
+    ("1 +0530", Some((1, 19_800))),
+    ("1 +9900", Some((1, 356_400))),
+    ("1 +9959", Some((1, 359_940))),
+    ("1 -9959", Some((1, -359_940))),
+    ("4294967296 +1400", Some((4_294_967_296, 50_400))),
+    ("9223372036854775807 +0000", Some((i64::MAX, 0))),
+    ("9223372036854775807 -0130", Some((i64::MAX, -5400))),
+    ("9223372036854775807 +9959", Some((i64::MAX, 359_940))),
+    ("-9223372036854775808 +0000", Some((i64::MIN, 0))),
+    ("-9223372036854775808 -9959", Some((i64::MIN, -359_940))),
+    ("000000000000000000000000000001 +0000", Some((1, 0))),
+    ("", None),
+    (" ", None),
+    ("-", None),
+    ("+", None),
+    ("1", None),
+    ("1 ", None),
+    ("-1", None),
+    (" +0000", None),
+    ("- +0000", None),
+    ("+ +0000", None),
+    ("--1 +0000", None),
+    ("+1 +0000", None),
+    ("-+1 +0000", None),
+    ("1- +0000", None),
+    ("1x +0000", None),
+    ("1.0 +0000", None),
+    ("9223372036854775808 +0000", None),
+    ("-9223372036854775809 +0000", None),
+    ("18446744073709551616 +0000", None),
+    ("99999999999999999999999 +0000", None),
+    ("-99999999999999999999999 +0000", None),
+    (" 1 +0000", None),
+    ("1  +0000", None),
+    ("1 +0000 ", None),
+    ("1\t+0000", None),
+    ("1 \t+0000", None),
+    ("1 0000", None),
+    ("1 +", None),
+    ("1 -", None),
+    ("1 +000", None),
+    ("1 +00000", None),
+    ("1 +01 00", None),
+    ("1 +-100", None),
+    ("1 +0-00", None),
+    ("1 ++000", None),
+    ("1 +0060", None),
+    ("1 -0060", None),
+    ("1 +0160", None),
+    ("1 +9960", None),
+    ("1 +00:0", None),
+];
+
+/// The seconds and the offset of the time that a text says.
+fn parts(text: &[u8]) -> Option<(i64, i32)> {
+    let time = parse_header(text)?;
+    Some((time.seconds, time.offset))
 }
 
 #[test]
-fn texts_that_say_no_time(rt: HostRuntime) {
-    let rows: &[&str] = &[
-        "",
-        " ",
-        "-",
-        "+",
-        "1",
-        "1 ",
-        "-1",
-        " +0000",
-        "- +0000",
-        "+ +0000",
-        "--1 +0000",
-        "+1 +0000",
-        "-+1 +0000",
-        "1- +0000",
-        "1x +0000",
-        "1.0 +0000",
-        "9223372036854775808 +0000",
-        "-9223372036854775809 +0000",
-        "18446744073709551616 +0000",
-        "99999999999999999999999 +0000",
-        "-99999999999999999999999 +0000",
-        " 1 +0000",
-        "1  +0000",
-        "1 +0000 ",
-        "1\t+0000",
-        "1 \t+0000",
-        "1 0000",
-        "1 +",
-        "1 -",
-        "1 +000",
-        "1 +00000",
-        "1 +01 00",
-        "1 +-100",
-        "1 +0-00",
-        "1 ++000",
-        "1 +0060",
-        "1 -0060",
-        "1 +0160",
-        "1 +9960",
-        "1 +00:0",
-    ];
-    for &text in rows {
-        assert!(rt; parse_header(text.as_bytes()).is_none(), "{text}");
+fn texts_of_times(rt: HostRuntime) {
+    for &(text, wanted) in TEXTS {
+        assert!(rt; parts(text.as_bytes()) == wanted, "{text}");
     }
 }
 
-#[test]
-fn written_times(rt: HostRuntime) -> Result<(), Fail> {
-    let rows: &[(i64, i32, &str)] = &[
-        (0, 0, "0 +0000"),
-        (1_112_911_993, -25_200, "1112911993 -0700"),
-        (-1, 60, "-1 +0001"),
-        (1, -60, "1 -0001"),
-        (1, 19_800, "1 +0530"),
-        (i64::MAX, 359_940, "9223372036854775807 +9959"),
-        (i64::MIN, -359_940, "-9223372036854775808 -9959"),
-    ];
+/// Seconds and offsets, and what is written of their times.
+const WRITTEN: &[(i64, i32, &str)] = &[
+    (0, 0, "0 +0000"),
+    (1_112_911_993, -25_200, "1112911993 -0700"),
+    (-1, 60, "-1 +0001"),
+    (1, -60, "1 -0001"),
+    (1, 19_800, "1 +0530"),
+    (i64::MAX, 359_940, "9223372036854775807 +9959"),
+    (i64::MIN, -359_940, "-9223372036854775808 -9959"),
+];
+
+/// Whether a time is written so, and its text kept.
+fn is_written(time: Time, text: &str) -> bool {
     let mut buf = TimeBuf::new();
-    for &(seconds, offset, text) in rows {
-        assert_eq!(rt; time_of(seconds, offset)?.to_str(&mut buf), text);
-        assert_eq!(rt; buf.as_str(), text);
-        assert!(rt;
-            parse_header(text.as_bytes()) == Some(time_of(seconds, offset)?),
-            "{text}"
-        );
-    }
-    assert_eq!(rt; Time::default().to_str(&mut buf), "0 +0000");
-    assert_eq!(rt; TimeBuf::default().as_str(), "");
-    Ok(())
+    time.to_str(&mut buf) == text && buf.as_str() == text
 }
 
 #[test]
-fn times_in_order(rt: HostRuntime) -> Result<(), Fail> {
-    let first = time_of(-1, 3600)?;
-    let second = time_of(0, -60)?;
-    let third = time_of(0, 0)?;
-    assert!(rt; first < second);
-    assert!(rt; second < third);
-    assert!(rt; third == Time::default());
-    Ok(())
+fn written_times(rt: HostRuntime) {
+    for &(seconds, offset, text) in WRITTEN {
+        let Some(time) = Time::new(seconds, offset) else {
+            panic!(rt; "no time: {text}");
+        };
+        assert!(rt; is_written(time, text), "{text}");
+    }
 }
 
 #[test]
-fn order_of_times(rt: HostRuntime) -> Result<(), Fail> {
-    let rows = [((0, 60), (1, 0)), ((1, -60), (1, 0)), ((-1, 0), (0, -60))];
-    for (earlier, later) in rows {
-        let (earlier, later) = (time_of(earlier.0, earlier.1)?, time_of(later.0, later.1)?);
-        assert!(rt; earlier < later);
+fn first_time(rt: HostRuntime) {
+    assert!(rt; Time::new(0, 0) == Some(Time::default()));
+    assert!(rt; is_written(Time::default(), "0 +0000"));
+    assert!(rt; TimeBuf::default().as_str() == "");
+}
+
+/// Seconds and offsets, each before those beside them.
+const ORDER: &[((i64, i32), (i64, i32))] = &[
+    ((-1, 3600), (0, -60)),
+    ((0, -60), (0, 0)),
+    ((0, 60), (1, 0)),
+    ((1, -60), (1, 0)),
+    ((-1, 0), (0, -60)),
+];
+
+/// Whether both are times, and the first is before the other.
+fn is_before(first: (i64, i32), second: (i64, i32)) -> bool {
+    match (Time::new(first.0, first.1), Time::new(second.0, second.1)) {
+        (Some(first), Some(second)) => first < second,
+        _ => false,
     }
-    Ok(())
+}
+
+#[test]
+fn order_of_times(rt: HostRuntime) {
+    for (at, &(first, second)) in ORDER.iter().enumerate() {
+        assert!(rt; is_before(first, second), "{at}");
+    }
 }

@@ -9,7 +9,7 @@ use std::test::Fail;
 fn want_of_memory(rt: HostRuntime) -> Result<(), Fail> {
     let refused = OutOfMemory::from(AllocError);
     assert!(rt; refused == OutOfMemory);
-    assert_eq!(rt; refused.to_string(rt.alloc())?.as_str(), "out of memory");
+    assert!(rt; refused.to_string(rt.alloc())?.as_str() == "out of memory");
     assert!(rt; matches!(&decode::Error::from(refused), decode::Error::OutOfMemory));
     Ok(())
 }

@@ -8,7 +8,7 @@ use std::io;
 use std::io::{ErrorKind, Read};
 use std::test::Fail;
 
-const HELLO: &str = "ce013625030ba8dba906f756967f9e9ca394464a";
+const HELLO: &[u8] = b"ce013625030ba8dba906f756967f9e9ca394464a";
 
 /// A reader that gives one byte a time, and then fails or ends.
 #[derive(Drop)]
@@ -36,20 +36,27 @@ fn blob_id<R: Read>(stream: &mut R, len: u64) -> Result<ObjectId, Error> {
 }
 
 #[test]
-fn a_beginning_of_a_slice(rt: HostRuntime) -> Result<(), Fail> {
+fn a_beginning_of_a_stream(rt: HostRuntime) {
     let mut stream: &[u8] = b"hello\nrest";
-    let id = blob_id(&mut stream, 6)?;
-    assert_eq!(rt; id.to_string(rt.alloc())?.as_str(), HELLO);
-    assert_eq!(rt; stream, b"rest".as_slice());
+    let id = blob_id(&mut stream, 6);
+    assert!(rt; id.ok() == ObjectId::from_hex(HELLO));
+    assert!(rt; stream == b"rest".as_slice());
+}
+
+#[test]
+fn a_beginning_of_a_slice(rt: HostRuntime) {
     let mut slice: &[u8] = b"hello\nrest";
-    let id = compute_slice_hash(hash::Kind::Sha1, Kind::Blob, &mut slice, 6)?;
-    assert_eq!(rt; id.to_string(rt.alloc())?.as_str(), HELLO);
-    assert_eq!(rt; slice, b"rest".as_slice());
+    let id = compute_slice_hash(hash::Kind::Sha1, Kind::Blob, &mut slice, 6);
+    assert!(rt; id.ok() == ObjectId::from_hex(HELLO));
+    assert!(rt; slice == b"rest".as_slice());
+}
+
+#[test]
+fn a_beginning_of_a_source(rt: HostRuntime) {
     let mut source: &[u8] = b"hello\nrest";
-    let id = compute_source_hash(hash::Kind::Sha1, Kind::Blob, &mut source, 6)?;
-    assert_eq!(rt; id.to_string(rt.alloc())?.as_str(), HELLO);
-    assert_eq!(rt; source, b"rest".as_slice());
-    Ok(())
+    let id = compute_source_hash(hash::Kind::Sha1, Kind::Blob, &mut source, 6);
+    assert!(rt; id.ok() == ObjectId::from_hex(HELLO));
+    assert!(rt; source == b"rest".as_slice());
 }
 
 #[test]
@@ -65,28 +72,25 @@ fn a_stream_that_ends_early(rt: HostRuntime) {
 
 /// A reader that fails or ends behind each front of `hello` and a newline.
 #[test]
-fn readers_that_fail(rt: HostRuntime) -> Result<(), Fail> {
+fn readers_that_fail(rt: HostRuntime) {
     let text = b"hello\n".as_slice();
     for count in 0..6usize {
         let rest = &text[..count];
         let mut failing = ByteReader { rest, fails: true };
-        assert!(rt;
-            matches!(&blob_id(&mut failing, 6), Err(Error::Io(_))),
-            "{count}"
-        );
+        assert!(rt; matches!(&blob_id(&mut failing, 6), Err(Error::Io(_))));
         let mut ending = ByteReader { rest, fails: false };
-        assert!(rt;
-            matches!(&blob_id(&mut ending, 6), Err(Error::UnexpectedEof)),
-            "{count}"
-        );
+        assert!(rt; matches!(&blob_id(&mut ending, 6), Err(Error::UnexpectedEof)));
     }
+}
+
+/// The reader is not asked for more than the content.
+#[test]
+fn a_reader_that_would_fail(rt: HostRuntime) {
     let mut failing = ByteReader {
-        rest: text,
+        rest: b"hello\n",
         fails: true,
     };
-    let id = blob_id(&mut failing, 6)?;
-    assert_eq!(rt; id.to_string(rt.alloc())?.as_str(), HELLO);
-    Ok(())
+    assert!(rt; blob_id(&mut failing, 6).ok() == ObjectId::from_hex(HELLO));
 }
 
 /// So many bytes: their numbers, from 0 to 250 again and again.
@@ -98,64 +102,74 @@ fn content_of(alloc: Global, len: u64) -> Result<Vec<u8>, AllocError> {
     Ok(content)
 }
 
-/// Contents about as long as one buffer, given whole and byte by byte.
+/// Lengths, kinds of ids, and the ids of blobs of so many bytes.
+const SIZES: &[(u64, hash::Kind, &str)] = &[
+    (
+        0,
+        hash::Kind::Sha1,
+        "e69de29bb2d1d6434b8b29ae775ad8c2e48c5391",
+    ),
+    (
+        0,
+        hash::Kind::Sha256,
+        "473a0f4c3be8a93681a267e3b1e9a7dcda1185436fe141f7749120a303721813",
+    ),
+    (
+        1,
+        hash::Kind::Sha1,
+        "f76dd238ade08917e6712764a16a22005a50573d",
+    ),
+    (
+        8191,
+        hash::Kind::Sha1,
+        "be54c745e46e6d5c2939431b4a95942a8c6ce614",
+    ),
+    (
+        8192,
+        hash::Kind::Sha1,
+        "953a51a1258ea1a6d3e2812c52e25918578c1ded",
+    ),
+    (
+        8192,
+        hash::Kind::Sha256,
+        "c0a82bf4142e83de106eb40a7608a4dd2644b62064c88f117d6f6b0d82d2ca4d",
+    ),
+    (
+        8193,
+        hash::Kind::Sha1,
+        "fb05b6d314e2142a2cd349e03be9d0fa2df3fbe4",
+    ),
+    (
+        8193,
+        hash::Kind::Sha256,
+        "9d89de7c1a9df4cc25ffe3b082cfc17d8cc4e2224d3e3f67d6abe9454c3da227",
+    ),
+];
+
+/// Whether this is the id of a content, given whole, at once and byte by byte.
+fn has_id(content: &[u8], len: u64, hash: hash::Kind, want: &str) -> bool {
+    let id = ObjectId::from_hex(want.as_bytes());
+    let mut bytes = ByteReader {
+        rest: content,
+        fails: true,
+    };
+    id == Some(compute_hash(hash, Kind::Blob, content))
+        && id == compute_stream_hash(hash, Kind::Blob, &mut bytes, len).ok()
+        && is_read_whole(content, len, hash, id)
+}
+
+/// Whether a content is read whole, for this id.
+fn is_read_whole(content: &[u8], len: u64, hash: hash::Kind, id: Option<ObjectId>) -> bool {
+    let mut stream = content;
+    compute_stream_hash(hash, Kind::Blob, &mut stream, len).ok() == id && stream.is_empty()
+}
+
+/// Contents about as long as one buffer.
 #[test]
 fn sizes_about_a_buffer(rt: HostRuntime) -> Result<(), Fail> {
-    let rows: &[(u64, hash::Kind, &str)] = &[
-        (
-            0,
-            hash::Kind::Sha1,
-            "e69de29bb2d1d6434b8b29ae775ad8c2e48c5391",
-        ),
-        (
-            0,
-            hash::Kind::Sha256,
-            "473a0f4c3be8a93681a267e3b1e9a7dcda1185436fe141f7749120a303721813",
-        ),
-        (
-            1,
-            hash::Kind::Sha1,
-            "f76dd238ade08917e6712764a16a22005a50573d",
-        ),
-        (
-            8191,
-            hash::Kind::Sha1,
-            "be54c745e46e6d5c2939431b4a95942a8c6ce614",
-        ),
-        (
-            8192,
-            hash::Kind::Sha1,
-            "953a51a1258ea1a6d3e2812c52e25918578c1ded",
-        ),
-        (
-            8192,
-            hash::Kind::Sha256,
-            "c0a82bf4142e83de106eb40a7608a4dd2644b62064c88f117d6f6b0d82d2ca4d",
-        ),
-        (
-            8193,
-            hash::Kind::Sha1,
-            "fb05b6d314e2142a2cd349e03be9d0fa2df3fbe4",
-        ),
-        (
-            8193,
-            hash::Kind::Sha256,
-            "9d89de7c1a9df4cc25ffe3b082cfc17d8cc4e2224d3e3f67d6abe9454c3da227",
-        ),
-    ];
-    for &(len, hash, want) in rows {
+    for &(len, hash, want) in SIZES {
         let content = content_of(rt.alloc(), len)?;
-        let mut stream = content.as_slice();
-        let id = compute_stream_hash(hash, Kind::Blob, &mut stream, len)?;
-        assert_eq!(rt; id.to_string(rt.alloc())?.as_str(), want, "{len}");
-        assert!(rt; stream.is_empty(), "{len}");
-        assert!(rt; compute_hash(hash, Kind::Blob, &content) == id, "{len}");
-        let rest = content.as_slice();
-        let mut bytes = ByteReader { rest, fails: true };
-        assert!(rt;
-            compute_stream_hash(hash, Kind::Blob, &mut bytes, len)? == id,
-            "{len}"
-        );
+        assert!(rt; has_id(&content, len, hash, want), "{len}");
     }
     Ok(())
 }
@@ -164,17 +178,15 @@ fn sizes_about_a_buffer(rt: HostRuntime) -> Result<(), Fail> {
 #[test]
 fn ten_million_bytes(rt: HostRuntime) -> Result<(), Fail> {
     let content = content_of(rt.alloc(), 10_000_000)?;
-    let mut stream = content.as_slice();
-    let id = blob_id(&mut stream, 10_000_000)?;
-    let want = "95599bd33aac764385e09e5640f1a17e09df4e78";
-    assert_eq!(rt; id.to_string(rt.alloc())?.as_str(), want);
-    assert!(rt; compute_hash(hash::Kind::Sha1, Kind::Blob, &content) == id);
+    let id = ObjectId::from_hex(b"95599bd33aac764385e09e5640f1a17e09df4e78");
+    assert!(rt; is_read_whole(&content, 10_000_000, hash::Kind::Sha1, id));
+    assert!(rt; Some(compute_hash(hash::Kind::Sha1, Kind::Blob, &content)) == id);
     Ok(())
 }
 
 #[test]
 fn texts_of_errors(rt: HostRuntime) -> Result<(), Fail> {
     let ended = Error::UnexpectedEof.to_string(rt.alloc())?;
-    assert_eq!(rt; ended.as_str(), "the stream ended before the content did");
+    assert!(rt; ended.as_str() == "the stream ended before the content did");
     Ok(())
 }

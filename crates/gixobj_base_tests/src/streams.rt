@@ -7,14 +7,14 @@ use std::test::Fail;
 fn slices_and_vectors(rt: HostRuntime) -> Result<(), Fail> {
     let mut slice: &[u8] = b"abc";
     let mut chunk = [0u8; 2];
-    assert_eq!(rt; slice.read_some(&mut chunk)?, 2);
-    assert_eq!(rt; chunk.as_slice(), b"ab".as_slice());
+    assert!(rt; slice.read_some(&mut chunk)? == 2);
+    assert!(rt; chunk.as_slice() == b"ab".as_slice());
     let mut reader = FromRead(&mut slice);
-    assert_eq!(rt; reader.read_some(&mut chunk)?, 1);
-    assert_eq!(rt; reader.read_some(&mut chunk)?, 0);
+    assert!(rt; reader.read_some(&mut chunk)? == 1);
+    assert!(rt; reader.read_some(&mut chunk)? == 0);
     let mut held = Vec::new(rt.alloc());
     held.put(b"ab")?;
     ToWrite(&mut held).put(b"c")?;
-    assert_eq!(rt; held.as_slice(), b"abc".as_slice());
+    assert!(rt; held.as_slice() == b"abc".as_slice());
     Ok(())
 }

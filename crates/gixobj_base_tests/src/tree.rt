@@ -26,46 +26,67 @@ fn entry(alloc: Global, mode: EntryKind, name: &[u8], oid: ObjectId) -> Result<E
     })
 }
 
+/// Texts of no mode.
+const NO_MODES: &[&str] = &[
+    "",
+    "0 abcd e",
+    "12345677",
+    "100648 a",
+    "-40000 a",
+    "+40000",
+    " a\0\x01\x01\x01\x20\x01",
+    "12345677 a\0",
+];
+
+/// Whether no mode is read of a text.
+fn is_no_mode(text: &[u8]) -> bool {
+    EntryMode::from_bytes(text).is_none()
+        && EntryMode::extract_from_bytes(text).is_none()
+        && EntryMode::try_from(text) == Err(text)
+}
+
 #[test]
 fn texts_that_say_no_mode(rt: HostRuntime) {
-    for text in [
-        &b""[..],
-        b"0 abcd e",
-        b"12345677",
-        b"100648 a",
-        b"-40000 a",
-        b"+40000",
-        b" a\0\x01\x01\x01\x20\x01",
-        b"12345677 a\0",
-    ] {
-        assert!(rt; EntryMode::from_bytes(text).is_none(), "{text:?}");
-        assert!(rt; EntryMode::extract_from_bytes(text).is_none(), "{text:?}");
-        assert!(rt; EntryMode::try_from(text) == Err(text), "{text:?}");
+    for &text in NO_MODES {
+        assert!(rt; is_no_mode(text.as_bytes()), "{text}");
+    }
+}
+
+/// Texts, the value of their mode, and how that is written.
+const ODD_MODES: &[(&str, u16, &str)] = &[
+    ("0 abc", 0, "0"),
+    (" abc", 0, "0"),
+    ("40000 a", 0o040000, "40000"),
+    ("040000 a", 0o040000, "040000"),
+    ("0040000 x", 0o040000, "040000"),
+    ("100644", 0o100644, "100644"),
+    ("0100644 a", 0o100644, "100644"),
+    ("100600 a", 0o100600, "100600"),
+    ("1100644 a", 0o100644, "100644"),
+];
+
+/// Whether a mode is written so.
+fn is_written(mode: EntryMode, text: &str) -> bool {
+    let mut buffer = [0; 6];
+    mode.as_bytes(&mut buffer).as_bytes() == text.as_bytes()
+}
+
+/// Whether the mode of this value is read of a text, and written so.
+fn is_mode(text: &[u8], value: u16, written: &str) -> bool {
+    match EntryMode::from_bytes(text) {
+        Some(mode) => {
+            mode.value() == value
+                && is_written(mode, written)
+                && EntryMode::try_from(text).ok() == Some(mode)
+        }
+        None => false,
     }
 }
 
 #[test]
 fn odd_mode_texts(rt: HostRuntime) {
-    let mut buffer = [0; 6];
-    let texts: &[(&[u8], u16, &[u8])] = &[
-        (b"0 abc", 0, b"0"),
-        (b" abc", 0, b"0"),
-        (b"40000 a", 0o040000, b"40000"),
-        (b"040000 a", 0o040000, b"040000"),
-        (b"0040000 x", 0o040000, b"040000"),
-        (b"100644", 0o100644, b"100644"),
-        (b"0100644 a", 0o100644, b"100644"),
-        (b"100600 a", 0o100600, b"100600"),
-        (b"1100644 a", 0o100644, b"100644"),
-    ];
-    for &(text, value, written) in texts {
-        let mode = EntryMode::from_bytes(text);
-        assert!(rt; mode.is_some_and(|mode| mode.value() == value), "{text:?}");
-        assert!(rt;
-            mode.is_some_and(|mode| mode.as_bytes(&mut buffer).as_bytes() == written),
-            "{text:?}"
-        );
-        assert!(rt; EntryMode::try_from(text).ok() == mode, "{text:?}");
+    for &(text, value, written) in ODD_MODES {
+        assert!(rt; is_mode(text.as_bytes(), value, written), "{text}");
     }
 }
 
@@ -84,23 +105,43 @@ fn old_trees_are_kept_apart(rt: HostRuntime) {
     assert!(rt; old.is_some_and(|mode| mode.is_tree() && mode.kind() == EntryKind::Tree));
 }
 
-#[test]
-fn number_modes(rt: HostRuntime) {
-    for number in [0, 0o644, 0o060000, 0o040001, 0o200000, 0o300000, u32::MAX] {
-        assert!(rt; EntryMode::try_from(number) == Err(number), "{number}");
+/// Numbers, and whether they are modes.
+const NUMBERS: &[(u32, bool)] = &[
+    (0, false),
+    (0o644, false),
+    (0o060000, false),
+    (0o040001, false),
+    (0o200000, false),
+    (0o300000, false),
+    (u32::MAX, false),
+    (0o040000, true),
+    (0o100600, true),
+    (0o100644, true),
+    (0o100755, true),
+    (0o120000, true),
+    (0o160000, true),
+    (0o177777, true),
+];
+
+/// Whether a number is the value of a mode, or none where another number is handed back.
+fn is_value(number: u32) -> Option<bool> {
+    match EntryMode::try_from(number) {
+        Ok(mode) => Some(u32::from(mode.value()) == number),
+        Err(refused) if refused == number => Some(false),
+        Err(_) => None,
     }
-    for number in [
-        0o040000, 0o100600, 0o100644, 0o100755, 0o120000, 0o160000, 0o177777,
-    ] {
-        let mode = EntryMode::try_from(number);
-        assert!(rt;
-            mode.is_ok_and(|mode| u32::from(mode.value()) == number),
-            "{number}"
-        );
-    }
-    assert!(rt; EntryMode::try_from(0o100600).is_ok_and(|mode| mode.kind() == EntryKind::Blob));
 }
 
+#[test]
+fn number_modes(rt: HostRuntime) {
+    for &(number, wanted) in NUMBERS {
+        assert!(rt; is_value(number) == Some(wanted), "{number}");
+    }
+    let odd = EntryMode::try_from(0o100600).ok();
+    assert!(rt; odd.is_some_and(|mode| mode.kind() == EntryKind::Blob));
+}
+
+/// Kinds, the values of their modes, their words and their texts.
 const KINDS: &[(EntryKind, u16, &str, &str)] = &[
     (EntryKind::Tree, 0o040000, "tree", "40000"),
     (EntryKind::Blob, 0o100644, "blob", "100644"),
@@ -109,73 +150,72 @@ const KINDS: &[(EntryKind, u16, &str, &str)] = &[
     (EntryKind::Commit, 0o160000, "commit", "160000"),
 ];
 
-#[test]
-fn kinds_and_their_modes(rt: HostRuntime) {
-    for &(kind, _, word, _) in KINDS {
-        let mode = EntryMode::from(kind);
-        assert!(rt; EntryKind::from(mode) == kind, "{word}");
-        assert!(rt; mode.kind() == kind, "{word}");
-    }
+/// Whether a kind is that of its mode, with this value and this word.
+fn has_mode(kind: EntryKind, value: u16, word: &str) -> bool {
+    let mode = EntryMode::from(kind);
+    EntryKind::from(mode) == kind
+        && mode.kind() == kind
+        && mode.value() == value
+        && mode.as_str() == word
 }
 
 #[test]
-fn values_and_words_of_kinds(rt: HostRuntime) {
+fn modes_of_kinds(rt: HostRuntime) {
     for &(kind, value, word, _) in KINDS {
-        let mode = EntryMode::from(kind);
-        assert_eq!(rt; mode.value(), value);
-        assert_eq!(rt; mode.as_str(), word);
+        assert!(rt; has_mode(kind, value, word), "{word}");
     }
 }
 
 #[test]
 fn texts_of_kinds(rt: HostRuntime) {
-    let mut buffer = [0; 6];
     for &(kind, _, word, text) in KINDS {
-        let mode = EntryMode::from(kind);
         assert!(rt; kind.as_octal_str().as_bytes() == text.as_bytes(), "{word}");
-        assert!(rt;
-            mode.as_bytes(&mut buffer).as_bytes() == text.as_bytes(),
-            "{word}"
-        );
+        assert!(rt; is_written(kind.into(), text), "{word}");
     }
 }
 
-/// A kind's word, and whether it is a tree, is none, is a link and is a file.
-const TYPES: &[(EntryKind, &str, bool, bool, bool, bool)] = &[
-    (EntryKind::Tree, "tree", true, false, false, false),
-    (EntryKind::Blob, "blob", false, true, false, true),
-    (EntryKind::BlobExecutable, "exe", false, true, false, true),
-    (EntryKind::Link, "link", false, true, true, false),
-    (EntryKind::Commit, "commit", false, true, false, false),
+/// A kind, and whether it is a tree, is none, is a link and is a file.
+const TYPES: &[(EntryKind, [bool; 4])] = &[
+    (EntryKind::Tree, [true, false, false, false]),
+    (EntryKind::Blob, [false, true, false, true]),
+    (EntryKind::BlobExecutable, [false, true, false, true]),
+    (EntryKind::Link, [false, true, true, false]),
+    (EntryKind::Commit, [false, true, false, false]),
 ];
 
 #[test]
 fn trees_links_and_files(rt: HostRuntime) {
-    for &(kind, word, tree, no_tree, link, blob) in TYPES {
+    for &(kind, wanted) in TYPES {
         let mode = EntryMode::from(kind);
-        assert!(rt; mode.is_tree() == tree, "{word}");
-        assert!(rt; mode.is_no_tree() == no_tree, "{word}");
-        assert!(rt; mode.is_link() == link, "{word}");
-        assert!(rt; mode.is_blob() == blob, "{word}");
+        let types = [
+            mode.is_tree(),
+            mode.is_no_tree(),
+            mode.is_link(),
+            mode.is_blob(),
+        ];
+        assert!(rt; types == wanted, "{kind:?}");
     }
 }
 
-/// A kind's word, and whether it is a submodule, may be run, and is a file or a link.
-const USES: &[(EntryKind, &str, bool, bool, bool)] = &[
-    (EntryKind::Tree, "tree", false, false, false),
-    (EntryKind::Blob, "blob", false, false, true),
-    (EntryKind::BlobExecutable, "exe", false, true, true),
-    (EntryKind::Link, "link", false, false, true),
-    (EntryKind::Commit, "commit", true, false, false),
+/// A kind, and whether it is a submodule, may be run, and is a file or a link.
+const USES: &[(EntryKind, [bool; 3])] = &[
+    (EntryKind::Tree, [false, false, false]),
+    (EntryKind::Blob, [false, false, true]),
+    (EntryKind::BlobExecutable, [false, true, true]),
+    (EntryKind::Link, [false, false, true]),
+    (EntryKind::Commit, [true, false, false]),
 ];
 
 #[test]
 fn submodules_and_programs(rt: HostRuntime) {
-    for &(kind, word, commit, executable, blob_or_symlink) in USES {
+    for &(kind, wanted) in USES {
         let mode = EntryMode::from(kind);
-        assert!(rt; mode.is_commit() == commit, "{word}");
-        assert!(rt; mode.is_executable() == executable, "{word}");
-        assert!(rt; mode.is_blob_or_symlink() == blob_or_symlink, "{word}");
+        let uses = [
+            mode.is_commit(),
+            mode.is_executable(),
+            mode.is_blob_or_symlink(),
+        ];
+        assert!(rt; uses == wanted, "{kind:?}");
     }
 }
 
@@ -186,7 +226,7 @@ fn a_mode_of_no_type(rt: HostRuntime) {
     };
     assert!(rt; mode.kind() == EntryKind::Commit);
     assert!(rt; !mode.is_commit());
-    assert_eq!(rt; mode.as_str(), "commit");
+    assert!(rt; mode.as_str() == "commit");
 }
 
 #[test]
@@ -221,29 +261,21 @@ fn ascending(alloc: Global) -> Result<Tree, AllocError> {
     Ok(tree)
 }
 
+/// Whether entries compare so, and are alike where they are equal.
+fn compare_as(first: &Entry, second: &Entry, wanted: Ordering) -> bool {
+    first.cmp(second) == wanted
+        && first.partial_cmp(second) == Some(wanted)
+        && (first == second) == wanted.is_eq()
+        && (hash_of(first) == hash_of(second)) == wanted.is_eq()
+}
+
 #[test]
 fn entries_in_order(rt: HostRuntime) -> Result<(), Fail> {
     let tree = ascending(rt.alloc())?;
     for (at, first) in tree.entries.iter().enumerate() {
         for (other_at, second) in tree.entries.iter().enumerate() {
-            assert!(rt; first.cmp(second) == at.cmp(&other_at), "{at} {other_at}");
             assert!(rt;
-                first.partial_cmp(second) == Some(at.cmp(&other_at)),
-                "{at} {other_at}"
-            );
-        }
-    }
-    Ok(())
-}
-
-#[test]
-fn entries_are_like_themselves_alone(rt: HostRuntime) -> Result<(), Fail> {
-    let tree = ascending(rt.alloc())?;
-    for (at, first) in tree.entries.iter().enumerate() {
-        for (other_at, second) in tree.entries.iter().enumerate() {
-            assert!(rt; (first == second) == (at == other_at), "{at} {other_at}");
-            assert!(rt;
-                (hash_of(first) == hash_of(second)) == (at == other_at),
+                compare_as(first, second, at.cmp(&other_at)),
                 "{at} {other_at}"
             );
         }

@@ -1,51 +1,68 @@
 //! The tag that has no tagger and no message, and one with newlines and a signature.
 
-use crate::tags::{BARE, is_written, names_told};
+use crate::tags::{BARE, are_told, are_written, is_written, tells};
 use bstr::BStr;
 use gixobj_base::hash::ObjectId;
 use gixobj_base::{Kind, hash};
+use gixobj_codec::TagRef;
 use gixobj_codec::tag::ref_iter::Token;
-use gixobj_codec::{TagRef, TagRefIter};
 use gixobj_text::signature::{Format, SignatureRef};
-use std::test::Fail;
+use std::alloc::Global;
 
 #[test]
-fn headers(rt: HostRuntime) -> Result<(), Fail> {
-    assert_eq!(rt; BARE.len(), 65);
-    let tag = TagRef::from_bytes(BARE, hash::Kind::Sha1)?;
-    assert!(rt; tag.target() == ObjectId::empty_tree(hash::Kind::Sha1));
-    assert!(rt; tag.target_kind == Kind::Tree);
-    assert!(rt; tag.name == BStr::new(b"v1"));
-    Ok(())
+fn parts(rt: HostRuntime) {
+    assert!(rt; BARE.len() == 65);
+    let wanted = TagRef {
+        target: BStr::new(b"4b825dc642cb6eb9a060e54bf8d69288fbee4904"),
+        target_kind: Kind::Tree,
+        name: BStr::new(b"v1"),
+        tagger: None,
+        message: BStr::new(b""),
+        signature: None,
+    };
+    assert!(rt; TagRef::from_bytes(BARE, hash::Kind::Sha1).ok() == Some(wanted));
+}
+
+/// Whether a text is read as a tag of the empty tree, without a tagger and without a signature.
+fn is_bare(text: &[u8]) -> bool {
+    match TagRef::from_bytes(text, hash::Kind::Sha1) {
+        Ok(tag) => {
+            tag.target() == ObjectId::empty_tree(hash::Kind::Sha1)
+                && matches!(&tag.tagger(), Ok(None))
+                && tag.signature().is_none()
+        }
+        Err(_) => false,
+    }
 }
 
 #[test]
-fn no_message(rt: HostRuntime) -> Result<(), Fail> {
-    let tag = TagRef::from_bytes(BARE, hash::Kind::Sha1)?;
-    assert!(rt; tag.message.as_bytes().is_empty());
-    assert!(rt; tag.tagger.is_none());
-    assert!(rt; tag.tagger()?.is_none());
-    assert!(rt; tag.signature().is_none());
-    Ok(())
+fn no_message(rt: HostRuntime) {
+    assert!(rt; is_bare(BARE));
 }
 
 /// The name is the last token.
 #[test]
-fn tokens(rt: HostRuntime) -> Result<(), Fail> {
-    let told = ["target", "kind", "name", "end", "end"];
-    assert!(rt; names_told(rt.alloc(), BARE, 5)?.as_slice() == told.as_slice());
-    let third = TagRefIter::from_bytes(BARE, hash::Kind::Sha1).nth(2);
-    let name = third.ok_or("a token")??;
-    assert!(rt; name == Token::Name(BStr::new(b"v1")));
-    Ok(())
+fn tokens(rt: HostRuntime) {
+    assert!(rt;
+        tells(
+            BARE,
+            hash::Kind::Sha1,
+            &["target", "kind", "name", "end", "end"]
+        )
+    );
+    let id = ObjectId::empty_tree(hash::Kind::Sha1);
+    let name = Token::Name(BStr::new(b"v1"));
+    assert!(rt;
+        are_told(
+            BARE,
+            &[Token::Target { id }, Token::TargetKind(Kind::Tree), name]
+        )
+    );
 }
 
 #[test]
-fn written_back(rt: HostRuntime) -> Result<(), Fail> {
-    let tag = TagRef::from_bytes(BARE, hash::Kind::Sha1)?;
-    assert!(rt; is_written(rt.alloc(), &tag, BARE)?);
-    assert!(rt; is_written(rt.alloc(), &tag.into_owned(rt.alloc())?, BARE)?);
-    Ok(())
+fn written_back(rt: HostRuntime) {
+    assert!(rt; are_written(rt.alloc(), BARE, hash::Kind::Sha1, BARE, BARE));
 }
 
 /// A signature of its marker alone.
@@ -60,22 +77,39 @@ const SIGNED: &[u8] = b"object 4b825dc642cb6eb9a060e54bf8d69288fbee4904\n\
     \n\
     -----BEGIN PGP SIGNATURE-----\n";
 
+/// Whether the bare tag with this message and this signature is written so, borrowed and owned.
+fn is_body_written(
+    alloc: Global,
+    message: &'static [u8],
+    signature: &'static [u8],
+    wanted: &[u8],
+) -> bool {
+    let Ok(mut tag) = TagRef::from_bytes(BARE, hash::Kind::Sha1) else {
+        return false;
+    };
+    tag.message = BStr::new(message);
+    tag.signature = Some(BStr::new(signature));
+    if !is_written(alloc, &tag, wanted) {
+        return false;
+    }
+    match tag.into_owned(alloc) {
+        Ok(tag) => is_written(alloc, &tag, wanted),
+        Err(_) => false,
+    }
+}
+
 #[test]
-fn signed_behind_newlines(rt: HostRuntime) -> Result<(), Fail> {
-    let alloc = rt.alloc();
-    assert_eq!(rt; SIGNED.len(), 98);
-    let mut tag = TagRef::from_bytes(BARE, hash::Kind::Sha1)?;
-    tag.message = BStr::new(b"\n\n");
-    tag.signature = Some(BStr::new(MARKER));
-    assert!(rt; is_written(alloc, &tag, SIGNED)?);
-    assert!(rt; is_written(alloc, &tag.into_owned(alloc)?, SIGNED)?);
-    Ok(())
+fn signed_behind_newlines(rt: HostRuntime) {
+    assert!(rt; SIGNED.len() == 98);
+    assert!(rt; is_body_written(rt.alloc(), b"\n\n", MARKER, SIGNED));
 }
 
 /// It reads back with one newline less.
 #[test]
-fn read_back(rt: HostRuntime) -> Result<(), Fail> {
-    let tag = TagRef::from_bytes(SIGNED, hash::Kind::Sha1)?;
+fn read_back(rt: HostRuntime) {
+    let Ok(tag) = TagRef::from_bytes(SIGNED, hash::Kind::Sha1) else {
+        panic!(rt; "not read");
+    };
     assert!(rt; tag.message == BStr::new(b"\n"));
     assert!(rt; tag.signature == Some(BStr::new(MARKER)));
     let signature = SignatureRef {
@@ -83,5 +117,4 @@ fn read_back(rt: HostRuntime) -> Result<(), Fail> {
         bytes: BStr::new(MARKER),
     };
     assert!(rt; tag.signature() == Some(signature));
-    Ok(())
 }

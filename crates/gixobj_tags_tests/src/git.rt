@@ -5,12 +5,12 @@ mod plain;
 mod sha256;
 mod signed;
 
-use crate::tags::is_written;
+use crate::tags::{are_written, is_written};
 use bstr::BStr;
 use gixobj_base::actor::SignatureRef;
 use gixobj_base::date::TimeBuf;
 use gixobj_base::hash::{Kind, ObjectId};
-use gixobj_base::{WriteTo, compute_hash, decode};
+use gixobj_base::{WriteTo, compute_hash, decode, encode};
 use gixobj_codec::tag::ref_iter::Token;
 use gixobj_codec::{TagRef, TagRefIter};
 use gixobj_text::signature::Format;
@@ -22,7 +22,6 @@ use plain::PLAIN;
 use sha256::SHA256;
 use signed::{BEHIND_ONE_NEWLINE, BEHIND_THREE_NEWLINES, BEHIND_TWO_NEWLINES, SIGNED};
 use std::alloc::{AllocError, Global};
-use std::test::Fail;
 
 /// A tag, and what `git` says of it.
 #[derive(Clone, Copy)]
@@ -52,22 +51,19 @@ fn without_first_newlines(text: &[u8]) -> &[u8] {
     text.get(start.unwrap_or(text.len())..).unwrap_or(b"")
 }
 
-/// The text that git makes of a tag that is read whole.
-fn shown(alloc: Global, shape: &Shape) -> Result<Vec<u8>, Fail> {
-    let tag = TagRef::from_bytes(shape.bytes, shape.hash)?;
+/// The text that git makes of a tag of this target that is read whole.
+fn shown(alloc: Global, tag: &TagRef<'_>, target: ObjectId) -> Result<Vec<u8>, encode::Error> {
     let mut out = Vec::new(alloc);
-    tag.target().write_hex_to(&mut out)?;
+    target.write_hex_to(&mut out)?;
     let tagger = tag.tagger.unwrap_or(BStr::new(b""));
-    for field in [
-        tag.target_kind.as_bytes(),
-        tag.name.as_bytes(),
-        tagger.as_bytes(),
-    ] {
-        out.push(b'\n')?;
-        out.extend_from_slice(field)?;
-    }
-    out.push(b'\n')?;
-    let content = content(alloc, &tag)?;
+    out.extend_from_slice(b"\n")?;
+    out.extend_from_slice(tag.target_kind.as_bytes())?;
+    out.extend_from_slice(b"\n")?;
+    out.extend_from_slice(tag.name.as_bytes())?;
+    out.extend_from_slice(b"\n")?;
+    out.extend_from_slice(tagger.as_bytes())?;
+    out.extend_from_slice(b"\n")?;
+    let content = content(alloc, tag)?;
     out.extend_from_slice(without_first_newlines(&content))?;
     Ok(out)
 }
@@ -83,11 +79,14 @@ fn content(alloc: Global, tag: &TagRef<'_>) -> Result<Vec<u8>, AllocError> {
 }
 
 /// Whether a shape that is read whole is shown as git shows it.
-fn is_shown(alloc: Global, shape: &Shape) -> Result<bool, Fail> {
-    let is_same = shown(alloc, shape)?.as_slice() == shape.shown;
-    let tag = TagRef::from_bytes(shape.bytes, shape.hash)?;
-    let signature = shape.signature.map(|bytes| BStr::new(bytes));
-    Ok(is_same && tag.signature == signature)
+fn is_shown(alloc: Global, shape: &Shape) -> bool {
+    let Ok(tag) = TagRef::from_bytes(shape.bytes, shape.hash) else {
+        return false;
+    };
+    match shown(alloc, &tag, tag.target()) {
+        Ok(text) => text.as_slice() == shape.shown,
+        Err(_) => false,
+    }
 }
 
 /// What a reader tells of a tag.
@@ -138,13 +137,31 @@ impl<'a> Told<'a> {
     }
 }
 
-/// Whether the same is told of a shape as is read whole, and its tagger as git has it.
-fn is_told(alloc: Global, shape: &Shape) -> Result<bool, Fail> {
-    let tag = TagRef::from_bytes(shape.bytes, shape.hash)?;
-    let told = Told::of(shape)?;
-    let is_same = told.target == Some(tag.target()) && told.is_read_in(&tag);
-    let tagger = tagger_lines(alloc, told.tagger)?;
-    Ok(is_same && tagger.as_slice() == shape.tagger)
+/// Whether the same is told of a shape as is read whole.
+fn is_told(shape: &Shape) -> bool {
+    match (TagRef::from_bytes(shape.bytes, shape.hash), Told::of(shape)) {
+        (Ok(tag), Ok(told)) => told.target == Some(tag.target()) && told.is_read_in(&tag),
+        _ => false,
+    }
+}
+
+/// Whether the signature and the tagger of a shape are those that git has.
+fn has_its_parts(alloc: Global, shape: &Shape) -> bool {
+    match Told::of(shape) {
+        Ok(told) => {
+            told.signature == shape.signature.map(|bytes| BStr::new(bytes))
+                && has_its_tagger(alloc, shape, told.tagger)
+        }
+        Err(_) => false,
+    }
+}
+
+/// Whether git makes the lines of a shape of this tagger.
+fn has_its_tagger(alloc: Global, shape: &Shape, tagger: Option<SignatureRef<'_>>) -> bool {
+    match tagger_lines(alloc, tagger) {
+        Ok(lines) => lines.as_slice() == shape.tagger,
+        Err(_) => false,
+    }
 }
 
 /// The lines that git makes of a tagger.
@@ -163,21 +180,23 @@ fn tagger_lines(alloc: Global, tagger: Option<SignatureRef<'_>>) -> Result<Vec<u
     Ok(lines)
 }
 
-/// Whether the tagger of a shape that is read whole is the one that is told, trimmed.
-fn is_trimmed(shape: &Shape) -> Result<bool, Fail> {
-    let tag = TagRef::from_bytes(shape.bytes, shape.hash)?;
+/// The tagger that is told of a shape, trimmed, or none where none is told.
+fn trimmed(shape: &Shape) -> Option<SignatureRef<'_>> {
     let told = TagRefIter::from_bytes(shape.bytes, shape.hash).tagger();
-    let trimmed = match told {
-        Ok(Some(actor)) => Some(actor.trim()),
-        Ok(None) | Err(decode::Error::Malformed) => None,
-        Err(decode::Error::OutOfMemory) => return Ok(false),
-    };
-    Ok(tag.tagger()? == trimmed)
+    told.ok()?.map(|actor| actor.trim())
+}
+
+/// Whether the tagger of a shape that is read whole is the one that is told, trimmed.
+fn is_trimmed(shape: &Shape) -> bool {
+    match TagRef::from_bytes(shape.bytes, shape.hash) {
+        Ok(tag) => tag.tagger().ok() == Some(trimmed(shape)),
+        Err(_) => false,
+    }
 }
 
 /// Whether a shape is read and told as git says.
-fn is_read(alloc: Global, shape: &Shape) -> Result<bool, Fail> {
-    Ok(is_shown(alloc, shape)? && is_told(alloc, shape)? && is_trimmed(shape)?)
+fn is_read(alloc: Global, shape: &Shape) -> bool {
+    is_shown(alloc, shape) && is_told(shape) && has_its_parts(alloc, shape) && is_trimmed(shape)
 }
 
 /// Whether the text of a shape has git's id.
@@ -186,48 +205,65 @@ fn has_its_id(shape: &Shape) -> bool {
     Some(id) == ObjectId::from_hex(shape.id.as_bytes())
 }
 
+/// The loose header of a tag of this size.
+fn header(alloc: Global, size: u64) -> Result<String, AllocError> {
+    format!(in alloc; "tag {size}\0")
+}
+
 /// Whether a shape has git's size and the loose header of that.
-fn is_counted(alloc: Global, shape: &Shape) -> Result<bool, Fail> {
-    let tag = TagRef::from_bytes(shape.bytes, shape.hash)?;
-    let header = tag.loose_header(alloc).ok_or("a size")?;
-    let wanted = format!(in alloc; "tag {}\0", shape.size)?;
-    Ok(tag.size() == Some(shape.size) && header.as_slice() == wanted.as_bytes())
+fn is_counted(alloc: Global, shape: &Shape) -> bool {
+    let Ok(tag) = TagRef::from_bytes(shape.bytes, shape.hash) else {
+        return false;
+    };
+    match (tag.loose_header(alloc), header(alloc, shape.size)) {
+        (Some(header), Ok(wanted)) => {
+            header.as_slice() == wanted.as_bytes() && tag.size() == Some(shape.size)
+        }
+        _ => false,
+    }
 }
 
 /// Whether a shape is written so as it is read, and so as it is owned.
-fn is_written_as(
-    alloc: Global,
-    shape: &Shape,
-    borrowed: &Shape,
-    owned: &Shape,
-) -> Result<bool, Fail> {
-    let tag = TagRef::from_bytes(shape.bytes, shape.hash)?;
-    let is_first = is_written(alloc, &tag, borrowed.bytes)?;
-    let is_second = is_written(alloc, &tag.into_owned(alloc)?, owned.bytes)?;
-    Ok(is_first && is_second)
+fn is_written_as(alloc: Global, shape: &Shape, borrowed: &Shape, owned: &Shape) -> bool {
+    are_written(alloc, shape.bytes, shape.hash, borrowed.bytes, owned.bytes)
 }
 
 /// Whether a shape is read and told as git says, and written back.
-fn agrees(alloc: Global, shape: &Shape) -> Result<bool, Fail> {
-    let is_written_back = is_written_as(alloc, shape, shape, shape)?;
-    let is_counted = is_counted(alloc, shape)?;
-    Ok(is_read(alloc, shape)? && is_written_back && is_counted && has_its_id(shape))
+fn agrees(alloc: Global, shape: &Shape) -> bool {
+    is_read(alloc, shape)
+        && is_written_as(alloc, shape, shape, shape)
+        && is_counted(alloc, shape)
+        && has_its_id(shape)
+}
+
+/// The first shape that git answers otherwise, by its name.
+fn first_that_differs(alloc: Global, shapes: &[Shape]) -> Option<&'static str> {
+    for shape in shapes {
+        if !agrees(alloc, shape) {
+            return Some(shape.name);
+        }
+    }
+    None
 }
 
 #[test]
-fn without_signature(rt: HostRuntime) -> Result<(), Fail> {
-    for shape in PLAIN {
-        assert!(rt; agrees(rt.alloc(), shape)?, "{}", shape.name);
-    }
-    Ok(())
+fn without_signature(rt: HostRuntime) {
+    assert!(rt; first_that_differs(rt.alloc(), PLAIN).is_none());
 }
 
 #[test]
-fn with_signature(rt: HostRuntime) -> Result<(), Fail> {
-    for shape in SIGNED {
-        assert!(rt; agrees(rt.alloc(), shape)?, "{}", shape.name);
-    }
-    Ok(())
+fn with_signature(rt: HostRuntime) {
+    assert!(rt; first_that_differs(rt.alloc(), SIGNED).is_none());
+}
+
+#[test]
+fn of_odd_parts(rt: HostRuntime) {
+    assert!(rt; first_that_differs(rt.alloc(), ODD).is_none());
+}
+
+#[test]
+fn with_sha256(rt: HostRuntime) {
+    assert!(rt; first_that_differs(rt.alloc(), SHA256).is_none());
 }
 
 /// The formats in which the first of them were signed last.
@@ -240,90 +276,102 @@ const FORMATS: &[Format] = &[
 ];
 
 /// Whether a shape has a signature of this format, as it is read and as it is owned.
-fn is_signed_in(alloc: Global, shape: &Shape, format: Format) -> Result<bool, Fail> {
-    let tag = TagRef::from_bytes(shape.bytes, shape.hash)?;
-    let signature = tag.signature().ok_or("a signature")?;
-    let owned = tag.into_owned(alloc)?;
-    let is_same = owned.signature() == Some(signature);
-    Ok(is_same && signature.format == format && tag.signature == Some(signature.bytes))
+fn is_signed_in(alloc: Global, shape: &Shape, format: Format) -> bool {
+    let Ok(tag) = TagRef::from_bytes(shape.bytes, shape.hash) else {
+        return false;
+    };
+    let signature = tag.signature();
+    if signature.map(|it| it.format) != Some(format)
+        || tag.signature != signature.map(|it| it.bytes)
+    {
+        return false;
+    }
+    match tag.into_owned(alloc) {
+        Ok(owned) => owned.signature() == signature,
+        Err(_) => false,
+    }
+}
+
+/// Whether the first of these shapes are signed in these formats.
+fn are_signed_in(alloc: Global, shapes: &[Shape], formats: &[Format]) -> bool {
+    for (shape, format) in shapes.iter().zip(formats) {
+        if !is_signed_in(alloc, shape, *format) {
+            return false;
+        }
+    }
+    shapes.len() >= formats.len()
 }
 
 #[test]
-fn formats(rt: HostRuntime) -> Result<(), Fail> {
-    for (shape, format) in SIGNED.iter().zip(FORMATS) {
-        assert!(rt; is_signed_in(rt.alloc(), shape, *format)?, "{}", shape.name);
-    }
-    Ok(())
-}
-
-#[test]
-fn of_odd_parts(rt: HostRuntime) -> Result<(), Fail> {
-    for shape in ODD {
-        assert!(rt; agrees(rt.alloc(), shape)?, "{}", shape.name);
-    }
-    Ok(())
-}
-
-#[test]
-fn with_sha256(rt: HostRuntime) -> Result<(), Fail> {
-    for shape in SHA256 {
-        assert!(rt; agrees(rt.alloc(), shape)?, "{}", shape.name);
-    }
-    Ok(())
+fn formats(rt: HostRuntime) {
+    assert!(rt; are_signed_in(rt.alloc(), SIGNED, FORMATS));
 }
 
 /// Whether a shape has git's fields and id, and is written so, as it is read and as it is owned.
-fn becomes(alloc: Global, shape: &Shape, borrowed: &Shape, owned: &Shape) -> Result<bool, Fail> {
-    let is_written = is_written_as(alloc, shape, borrowed, owned)?;
-    Ok(is_read(alloc, shape)? && is_written && has_its_id(borrowed) && has_its_id(owned))
+fn becomes(alloc: Global, shape: &Shape, borrowed: &Shape, owned: &Shape) -> bool {
+    is_read(alloc, shape)
+        && is_written_as(alloc, shape, borrowed, owned)
+        && has_its_id(borrowed)
+        && has_its_id(owned)
 }
 
 /// A target is written as it was read, and in lower case by the owned form.
 #[test]
-fn upper_case(rt: HostRuntime) -> Result<(), Fail> {
-    let alloc = rt.alloc();
-    assert!(rt; becomes(alloc, &UPPER_CASE, &UPPER_CASE, &NO_TAGGER)?);
-    assert!(rt; agrees(alloc, &NO_TAGGER)?);
-    Ok(())
+fn upper_case(rt: HostRuntime) {
+    assert!(rt; becomes(rt.alloc(), &UPPER_CASE, &UPPER_CASE, &NO_TAGGER));
+    assert!(rt; agrees(rt.alloc(), &NO_TAGGER));
 }
 
 /// Taggers that the owned form writes as git would: with a space before the email, one space before
 /// the time, and `+` for no offset.
-#[test]
-fn owned_taggers(rt: HostRuntime) -> Result<(), Fail> {
-    let rows = [
-        (&NO_OFFSET, &ZERO_OFFSET),
-        (&NO_NAME, &EMPTY_NAME),
-        (&LATE_TIME, &PLAIN_TAGGER),
-        (&NO_TIME, &PLAIN_TAGGER),
-    ];
-    for (shape, owned) in rows {
-        assert!(rt; becomes(rt.alloc(), shape, shape, owned)?, "{}", shape.name);
-        assert!(rt; agrees(rt.alloc(), owned)?, "{}", owned.name);
+const OWNED_TAGGERS: &[(&Shape, &Shape)] = &[
+    (&NO_OFFSET, &ZERO_OFFSET),
+    (&NO_NAME, &EMPTY_NAME),
+    (&LATE_TIME, &PLAIN_TAGGER),
+    (&NO_TIME, &PLAIN_TAGGER),
+];
+
+/// Whether each first shape is written as it is, owned as the second, and that one agrees.
+fn become_others(alloc: Global, pairs: &[(&Shape, &Shape)]) -> bool {
+    for (shape, owned) in pairs {
+        if !becomes(alloc, shape, shape, owned) || !agrees(alloc, owned) {
+            return false;
+        }
     }
-    Ok(())
+    true
+}
+
+#[test]
+fn owned_taggers(rt: HostRuntime) {
+    assert!(rt; become_others(rt.alloc(), OWNED_TAGGERS));
 }
 
 /// A signature behind newlines alone is written behind one newline less.
 #[test]
-fn behind_newlines(rt: HostRuntime) -> Result<(), Fail> {
-    let alloc = rt.alloc();
+fn behind_newlines(rt: HostRuntime) {
     let (one, two) = (&BEHIND_ONE_NEWLINE, &BEHIND_TWO_NEWLINES);
-    assert!(rt; agrees(alloc, one)?);
-    assert!(rt; becomes(alloc, two, one, one)?);
-    assert!(rt; becomes(alloc, &BEHIND_THREE_NEWLINES, two, two)?);
-    Ok(())
+    assert!(rt; agrees(rt.alloc(), one));
+    assert!(rt; becomes(rt.alloc(), two, one, one));
+    assert!(rt; becomes(rt.alloc(), &BEHIND_THREE_NEWLINES, two, two));
+}
+
+/// Whether a shape is written as it is, and no actor is made of its tagger.
+fn has_no_actor(alloc: Global, shape: &Shape) -> bool {
+    match TagRef::from_bytes(shape.bytes, shape.hash) {
+        Ok(tag) => {
+            is_written(alloc, &tag, shape.bytes)
+                && matches!(&tag.tagger(), Err(decode::Error::Malformed))
+        }
+        Err(_) => false,
+    }
 }
 
 /// A tagger with bytes behind its time is read and written, and no actor is made of it.
 #[test]
-fn time_and_more(rt: HostRuntime) -> Result<(), Fail> {
-    let alloc = rt.alloc();
+fn time_and_more(rt: HostRuntime) {
     let shape = &TIME_AND_MORE;
-    assert!(rt; is_shown(alloc, shape)?);
-    assert!(rt; is_told(alloc, shape)?);
-    let tag = TagRef::from_bytes(shape.bytes, shape.hash)?;
-    assert!(rt; is_written(alloc, &tag, shape.bytes)?);
-    assert!(rt; matches!(&tag.tagger(), Err(decode::Error::Malformed)));
-    Ok(())
+    assert!(rt; is_shown(rt.alloc(), shape));
+    assert!(rt; is_told(shape));
+    assert!(rt; has_its_parts(rt.alloc(), shape));
+    assert!(rt; has_no_actor(rt.alloc(), shape));
 }

@@ -8,6 +8,7 @@ use gixobj_base::{Kind, hash};
 use gixobj_codec::tag::ref_iter::Token;
 use gixobj_codec::{Tag, TagRef};
 use std::alloc::Global;
+use std::cmp::Ordering;
 use std::hash::{DefaultHasher, Hash, Hasher};
 use std::test::Fail;
 
@@ -15,6 +16,11 @@ fn hash_of<T: Hash>(value: &T) -> u64 {
     let mut state = DefaultHasher::new();
     value.hash(&mut state);
     state.finish()
+}
+
+/// Whether values compare so, and are alike where they are equal.
+fn compare_as<T: Ord + Hash>(first: &T, second: &T, wanted: Ordering) -> bool {
+    first.cmp(second) == wanted && (hash_of(first) == hash_of(second)) == wanted.is_eq()
 }
 
 /// A tag, and others that are greater one after the other: each in a further field, and less in those
@@ -56,9 +62,13 @@ fn tags_in_a_row(first: TagRef<'_>) -> [TagRef<'_>; 7] {
 #[test]
 fn tags_in_order(rt: HostRuntime) -> Result<(), Fail> {
     let tags = tags_in_a_row(TagRef::from_bytes(BARE, hash::Kind::Sha1)?);
-    for (first, second) in tags.iter().zip(tags.iter().skip(1)) {
-        assert!(rt; first < second);
-        assert!(rt; hash_of(first) != hash_of(second));
+    for (at, first) in tags.iter().enumerate() {
+        for (other_at, second) in tags.iter().enumerate() {
+            assert!(rt;
+                compare_as(first, second, at.cmp(&other_at)),
+                "{at} {other_at}"
+            );
+        }
     }
     Ok(())
 }
@@ -104,32 +114,32 @@ fn actor() -> SignatureRef<'static> {
     }
 }
 
+/// Whether a copy of a tag is equal to it.
+fn is_equal_to_its_copy(tag: &Tag) -> bool {
+    match tag.clone() {
+        Ok(same) => same == *tag && hash_of(&same) == hash_of(tag),
+        Err(_) => false,
+    }
+}
+
+/// The owned form of the bare tag, and greater ones.
+fn owned_tags(alloc: Global) -> Result<Vec<Tag>, Fail> {
+    let first = TagRef::from_bytes(BARE, hash::Kind::Sha1)?.into_owned(alloc)?;
+    owned_tags_in_a_row(alloc, first)
+}
+
 #[test]
 fn owned_tags_in_order(rt: HostRuntime) -> Result<(), Fail> {
-    let alloc = rt.alloc();
-    let first = TagRef::from_bytes(BARE, hash::Kind::Sha1)?.into_owned(alloc)?;
-    let tags = owned_tags_in_a_row(alloc, first)?;
-    assert_eq!(rt; tags.len(), 7);
-    for (first, second) in tags.iter().zip(tags.iter().skip(1)) {
-        assert!(rt; *first < *second);
-        assert!(rt; hash_of(first) != hash_of(second));
-    }
-    Ok(())
-}
-
-/// Whether a copy of a tag is equal to it.
-fn is_equal_to_its_copy(tag: &Tag) -> Result<bool, Fail> {
-    let same = tag.clone()?;
-    Ok(same == *tag && hash_of(&same) == hash_of(tag))
-}
-
-#[test]
-fn owned_tags_and_their_copies(rt: HostRuntime) -> Result<(), Fail> {
-    let alloc = rt.alloc();
-    let first = TagRef::from_bytes(BARE, hash::Kind::Sha1)?.into_owned(alloc)?;
-    let tags = owned_tags_in_a_row(alloc, first)?;
-    for tag in tags.iter() {
-        assert!(rt; is_equal_to_its_copy(tag)?);
+    let tags = owned_tags(rt.alloc())?;
+    assert!(rt; tags.len() == 7);
+    for (at, first) in tags.iter().enumerate() {
+        assert!(rt; is_equal_to_its_copy(first), "{at}");
+        for (other_at, second) in tags.iter().enumerate() {
+            assert!(rt;
+                compare_as(first, second, at.cmp(&other_at)),
+                "{at} {other_at}"
+            );
+        }
     }
     Ok(())
 }
@@ -155,25 +165,24 @@ fn tokens_in_a_row() -> [Token<'static>; 9] {
     ]
 }
 
+/// Whether a copy of a token is equal to it.
+fn is_like_its_copy(token: &Token<'_>) -> bool {
+    match token.clone() {
+        Ok(same) => same == *token && hash_of(&same) == hash_of(token),
+        Err(_) => false,
+    }
+}
+
 #[test]
 fn tokens_in_order(rt: HostRuntime) {
     let tokens = tokens_in_a_row();
-    for (first, second) in tokens.iter().zip(tokens.iter().skip(1)) {
-        assert!(rt; *first < *second);
-        assert!(rt; hash_of(first) != hash_of(second));
+    for (at, first) in tokens.iter().enumerate() {
+        assert!(rt; is_like_its_copy(first), "{at}");
+        for (other_at, second) in tokens.iter().enumerate() {
+            assert!(rt;
+                compare_as(first, second, at.cmp(&other_at)),
+                "{at} {other_at}"
+            );
+        }
     }
-}
-
-/// Whether a copy of a token is equal to it.
-fn is_like_its_copy(token: &Token<'_>) -> Result<bool, Fail> {
-    let same = token.clone()?;
-    Ok(same == *token && hash_of(&same) == hash_of(token))
-}
-
-#[test]
-fn tokens_and_their_copies(rt: HostRuntime) -> Result<(), Fail> {
-    for token in &tokens_in_a_row() {
-        assert!(rt; is_like_its_copy(token)?);
-    }
-    Ok(())
 }

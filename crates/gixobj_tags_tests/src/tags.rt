@@ -6,7 +6,6 @@ use gixobj_base::{WriteTo, decode, encode};
 use gixobj_codec::tag::ref_iter::Token;
 use gixobj_codec::{TagRef, TagRefIter};
 use std::alloc::{AllocError, Global};
-use std::test::Fail;
 
 /// The lines of the target and of its kind.
 pub(crate) const FRONT: &[u8] = b"object 4b825dc642cb6eb9a060e54bf8d69288fbee4904\ntype tree\n";
@@ -72,19 +71,27 @@ pub(crate) fn name_of(item: &Option<Result<Token<'_>, decode::Error>>) -> &'stat
     }
 }
 
-/// What the reader of tokens gives at its first calls, of this number.
-pub(crate) fn names_told(
-    alloc: Global,
-    text: &[u8],
-    calls: usize,
-) -> Result<Vec<&'static str>, AllocError> {
-    let mut names = Vec::new(alloc);
-    let mut tokens = TagRefIter::from_bytes(text, Kind::Sha1);
-    for _ in 0..calls {
-        let item = tokens.next();
-        names.push(name_of(&item))?;
+/// Whether the reader of tokens gives this at its first calls.
+pub(crate) fn tells(text: &[u8], hash_kind: Kind, names: &[&str]) -> bool {
+    let mut tokens = TagRefIter::from_bytes(text, hash_kind);
+    for name in names {
+        if name_of(&tokens.next()) != *name {
+            return false;
+        }
     }
-    Ok(names)
+    true
+}
+
+/// Whether the reader of tokens tells these, and then ends.
+pub(crate) fn are_told(text: &[u8], wanted: &[Token<'_>]) -> bool {
+    let mut tokens = TagRefIter::from_bytes(text, Kind::Sha1);
+    for token in wanted {
+        match tokens.next() {
+            Some(Ok(told)) if told == *token => {}
+            _ => return false,
+        }
+    }
+    tokens.next().is_none()
 }
 
 /// What is written of a tag, borrowed or owned.
@@ -97,44 +104,60 @@ pub(crate) fn written<T: WriteTo>(alloc: Global, tag: &T) -> Result<Vec<u8>, enc
 }
 
 /// Whether a tag is written so, and counted with as many bytes.
-pub(crate) fn is_written<T: WriteTo>(
-    alloc: Global,
-    tag: &T,
-    wanted: &[u8],
-) -> Result<bool, encode::Error>
+pub(crate) fn is_written<T: WriteTo>(alloc: Global, tag: &T, wanted: &[u8]) -> bool
     requires { T.can_write tag.now }
 {
-    let is_counted = tag.size() == Some(wanted.len() as u64);
-    let is_same = written(alloc, tag)?.as_slice() == wanted;
-    Ok(is_counted && is_same)
+    match written(alloc, tag) {
+        Ok(out) => out.as_slice() == wanted && tag.size() == Some(wanted.len() as u64),
+        Err(_) => false,
+    }
 }
 
 /// Whether the tag of a text is written so as it is read, and so as it is owned.
 pub(crate) fn are_written(
     alloc: Global,
     text: &[u8],
+    hash_kind: Kind,
     borrowed: &[u8],
     owned: &[u8],
-) -> Result<bool, Fail> {
-    let tag = TagRef::from_bytes(text, Kind::Sha1)?;
-    let is_first = is_written(alloc, &tag, borrowed)?;
-    let is_second = is_written(alloc, &tag.into_owned(alloc)?, owned)?;
-    Ok(is_first && is_second)
+) -> bool {
+    let Ok(tag) = TagRef::from_bytes(text, hash_kind) else {
+        return false;
+    };
+    if !is_written(alloc, &tag, borrowed) {
+        return false;
+    }
+    match tag.into_owned(alloc) {
+        Ok(tag) => is_written(alloc, &tag, owned),
+        Err(_) => false,
+    }
 }
 
-/// For what a tag is refused, and what is written of it before that.
-pub(crate) fn refusal<T: WriteTo>(alloc: Global, tag: &T) -> (&'static str, Vec<u8>)
+/// Whether a tag is refused for this behind these bytes, and counted so.
+pub(crate) fn is_refused_for<T: WriteTo>(
+    alloc: Global,
+    tag: &T,
+    fault: &str,
+    before: &[u8],
+    size: Option<u64>,
+) -> bool
     requires { T.can_write tag.now }
 {
     let mut out = Vec::new(alloc);
-    let name = match tag.write_to(alloc, &mut out) {
+    refusal(&tag.write_to(alloc, &mut out)) == fault
+        && out.as_slice() == before
+        && tag.size() == size
+}
+
+/// For what a tag is refused.
+fn refusal(outcome: &Result<(), encode::Error>) -> &'static str {
+    match outcome {
         Ok(()) => "nothing",
         Err(encode::Error::StartsWithDash) => "a dash",
-        Err(encode::Error::InvalidRefName(fault)) => fault_name(fault),
+        Err(encode::Error::InvalidRefName(fault)) => fault_name(*fault),
         Err(encode::Error::IllegalActor) => "an illegal actor",
         Err(_) => "something else",
-    };
-    (name, out)
+    }
 }
 
 /// What is wrong with a name.

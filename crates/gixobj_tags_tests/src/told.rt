@@ -1,6 +1,6 @@
 //! What a reader of tokens tells, and what it is asked for.
 
-use crate::tags::{BARE, BARE_SHA256, names_told, tag_with};
+use crate::tags::{BARE, BARE_SHA256, are_told, tag_with, tells};
 use bstr::BStr;
 use gixobj_base::actor::SignatureRef;
 use gixobj_base::hash::ObjectId;
@@ -24,36 +24,38 @@ fn tagger() -> SignatureRef<'static> {
     }
 }
 
-/// The next token of a reader.
-fn next_of<'a>(tokens: &mut TagRefIter<'a>) -> Result<Token<'a>, Fail> {
-    let token = tokens.next().ok_or("a token")??;
-    Ok(token)
+/// The tokens of the lines of the tag.
+fn lines() -> [Token<'static>; 3] {
+    [
+        Token::Target {
+            id: ObjectId::empty_tree(hash::Kind::Sha1),
+        },
+        Token::TargetKind(Kind::Tree),
+        Token::Name(BStr::new(b"v1")),
+    ]
 }
 
-#[test]
-fn headers(rt: HostRuntime) -> Result<(), Fail> {
-    let text = tag_with(rt.alloc(), REST)?;
-    let mut tokens = TagRefIter::from_bytes(&text, hash::Kind::Sha1);
-    let id = ObjectId::empty_tree(hash::Kind::Sha1);
-    assert!(rt; next_of(&mut tokens)? == Token::Target { id });
-    assert!(rt; next_of(&mut tokens)? == Token::TargetKind(Kind::Tree));
-    assert!(rt; next_of(&mut tokens)? == Token::Name(BStr::new(b"v1")));
-    Ok(())
+/// The token of a message and a signature.
+fn body<'a>(message: &'a [u8], signature: Option<&'a [u8]>) -> Token<'a> {
+    Token::Body {
+        message: BStr::new(message),
+        signature: signature.map(|bytes| BStr::new(bytes)),
+    }
 }
 
 #[test]
 fn tagger_and_body(rt: HostRuntime) -> Result<(), Fail> {
     let text = tag_with(rt.alloc(), REST)?;
-    let mut tokens = TagRefIter::from_bytes(&text, hash::Kind::Sha1);
-    let name = tokens.nth(2).ok_or("a token")??;
-    assert!(rt; name == Token::Name(BStr::new(b"v1")));
-    assert!(rt; next_of(&mut tokens)? == Token::Tagger(Some(tagger())));
-    let body = Token::Body {
-        message: BStr::new(b"hi"),
-        signature: Some(BStr::new(b"-----BEGIN SSH SIGNATURE-----\n")),
-    };
-    assert!(rt; next_of(&mut tokens)? == body);
-    assert!(rt; tokens.next().is_none());
+    let [target, kind, name] = lines();
+    let signature = b"-----BEGIN SSH SIGNATURE-----\n";
+    let wanted = [
+        target,
+        kind,
+        name,
+        Token::Tagger(Some(tagger())),
+        body(b"hi", Some(signature)),
+    ];
+    assert!(rt; are_told(&text, &wanted));
     Ok(())
 }
 
@@ -61,29 +63,20 @@ fn tagger_and_body(rt: HostRuntime) -> Result<(), Fail> {
 #[test]
 fn no_tagger(rt: HostRuntime) -> Result<(), Fail> {
     let text = tag_with(rt.alloc(), b"\n")?;
-    let mut tokens = TagRefIter::from_bytes(&text, hash::Kind::Sha1);
-    assert!(rt; tokens.nth(2).is_some());
-    assert!(rt; next_of(&mut tokens)? == Token::Tagger(None));
-    let body = Token::Body {
-        message: BStr::new(b"\n"),
-        signature: None,
-    };
-    assert!(rt; next_of(&mut tokens)? == body);
-    assert!(rt; tokens.next().is_none());
+    let [target, kind, name] = lines();
+    let wanted = [target, kind, name, Token::Tagger(None), body(b"\n", None)];
+    assert!(rt; are_told(&text, &wanted));
     Ok(())
 }
 
 #[test]
-fn ids_of_sha256(rt: HostRuntime) -> Result<(), Fail> {
+fn ids_of_sha256(rt: HostRuntime) {
     let mut tokens = TagRefIter::from_bytes(BARE_SHA256, hash::Kind::Sha256);
     let id = ObjectId::empty_tree(hash::Kind::Sha256);
-    assert_eq!(rt; tokens.count(), 3);
-    assert!(rt; tokens.target_id()? == id);
-    assert!(rt; next_of(&mut tokens)? == Token::Target { id });
-    let mut tokens = TagRefIter::from_bytes(BARE_SHA256, hash::Kind::Sha1);
-    assert!(rt; matches!(&tokens.next(), Some(Err(decode::Error::Malformed))));
-    assert!(rt; tokens.next().is_none());
-    Ok(())
+    assert!(rt; tokens.count() == 3);
+    assert!(rt; tokens.target_id().ok() == Some(id));
+    assert!(rt; matches!(&tokens.next(), Some(Ok(Token::Target { id: told })) if *told == id));
+    assert!(rt; tells(BARE_SHA256, hash::Kind::Sha1, &["malformed", "end"]));
 }
 
 /// Asking leaves the reader as it was.
@@ -91,10 +84,10 @@ fn ids_of_sha256(rt: HostRuntime) -> Result<(), Fail> {
 fn target_id_twice(rt: HostRuntime) -> Result<(), Fail> {
     let text = tag_with(rt.alloc(), REST)?;
     let tokens = TagRefIter::from_bytes(&text, hash::Kind::Sha1);
-    let id = ObjectId::empty_tree(hash::Kind::Sha1);
-    assert!(rt; tokens.target_id()? == id);
-    assert!(rt; tokens.target_id()? == id);
-    assert_eq!(rt; tokens.count(), 5);
+    let id = Some(ObjectId::empty_tree(hash::Kind::Sha1));
+    assert!(rt; tokens.target_id().ok() == id);
+    assert!(rt; tokens.target_id().ok() == id);
+    assert!(rt; tokens.count() == 5);
     Ok(())
 }
 
@@ -115,16 +108,21 @@ fn no_target_id(rt: HostRuntime) {
     assert!(rt; has_no_target_id(TagRefIter::from_bytes(b"object", hash::Kind::Sha1)));
 }
 
+/// Whether a reader tells the tagger above.
+fn tells_tagger(tokens: TagRefIter<'_>) -> bool {
+    tokens.tagger().ok() == Some(Some(tagger()))
+}
+
 #[test]
 fn tagger_twice(rt: HostRuntime) -> Result<(), Fail> {
     let text = tag_with(rt.alloc(), REST)?;
     let mut tokens = TagRefIter::from_bytes(&text, hash::Kind::Sha1);
-    assert!(rt; tokens.tagger()? == Some(tagger()));
+    assert!(rt; tells_tagger(tokens));
     assert!(rt; tokens.nth(2).is_some());
-    assert!(rt; tokens.tagger()? == Some(tagger()));
+    assert!(rt; tells_tagger(tokens));
     assert!(rt; tokens.next().is_some());
     assert!(rt; matches!(&tokens.tagger(), Err(decode::Error::Malformed)));
-    assert_eq!(rt; tokens.count(), 1);
+    assert!(rt; tokens.count() == 1);
     Ok(())
 }
 
@@ -135,8 +133,8 @@ const NO_LINES: &[&str] = &["\n", "\nhi\n", "\ntagger A <a@b> 0 +0000\n", "hi\n"
 fn no_line_of_a_tagger(rt: HostRuntime) -> Result<(), Fail> {
     for &rest in NO_LINES {
         let text = tag_with(rt.alloc(), rest.as_bytes())?;
-        let tagger = TagRefIter::from_bytes(&text, hash::Kind::Sha1).tagger()?;
-        assert!(rt; tagger.is_none(), "{rest}");
+        let tagger = TagRefIter::from_bytes(&text, hash::Kind::Sha1).tagger();
+        assert!(rt; matches!(&tagger, Ok(None)), "{rest}");
     }
     Ok(())
 }
@@ -159,18 +157,21 @@ fn no_tagger_told(rt: HostRuntime) {
     }
 }
 
+/// Whether a token has an id, this one, where it is a target.
+fn has_id(token: Token<'_>, target: ObjectId) -> bool {
+    let wanted = match &token {
+        Token::Target { .. } => Some(target),
+        _ => None,
+    };
+    token.id().map(|id| id.to_owned()) == wanted && token.into_id() == wanted
+}
+
 #[test]
 fn ids_of_tokens(rt: HostRuntime) -> Result<(), Fail> {
     let text = tag_with(rt.alloc(), REST)?;
     let id = ObjectId::empty_tree(hash::Kind::Sha1);
     for token in TagRefIter::from_bytes(&text, hash::Kind::Sha1) {
-        let token = token?;
-        let wanted = match &token {
-            Token::Target { .. } => Some(id),
-            _ => None,
-        };
-        assert!(rt; token.id().map(|id| id.to_owned()) == wanted);
-        assert!(rt; token.into_id() == wanted);
+        assert!(rt; has_id(token?, id));
     }
     Ok(())
 }
@@ -194,10 +195,8 @@ const ERRORS: &[(&str, &[&str])] = &[
 
 /// Behind an error a reader is at its end.
 #[test]
-fn errors(rt: HostRuntime) -> Result<(), Fail> {
-    for &(text, told) in ERRORS {
-        let names = names_told(rt.alloc(), text.as_bytes(), told.len())?;
-        assert!(rt; names.as_slice() == told, "{text}");
+fn errors(rt: HostRuntime) {
+    for &(text, names) in ERRORS {
+        assert!(rt; tells(text.as_bytes(), hash::Kind::Sha1, names), "{text}");
     }
-    Ok(())
 }

@@ -1,6 +1,6 @@
 //! What is refused of tags, what they are counted with, and writers that fail.
 
-use crate::tags::{BARE, FRONT, are_written, is_written, refusal, tag_with, written};
+use crate::tags::{BARE, FRONT, are_written, is_refused_for, is_written, tag_with, written};
 use bstr::BStr;
 use gixobj_base::hash::{Kind, ObjectId};
 use gixobj_base::{WriteTo, encode};
@@ -35,86 +35,95 @@ fn size_behind(size: u64, text: &str) -> Option<u64> {
 }
 
 /// Whether a tag is counted so, and as many bytes are written.
-fn has_size<T: WriteTo>(alloc: Global, tag: &T, size: Option<u64>) -> Result<bool, encode::Error>
+fn has_size<T: WriteTo>(alloc: Global, tag: &T, size: Option<u64>) -> bool
     requires { T.can_write tag.now }
 {
-    let is_counted = tag.size() == size;
-    Ok(is_counted && Some(written(alloc, tag)?.len() as u64) == size)
+    match written(alloc, tag) {
+        Ok(out) => tag.size() == size && Some(out.len() as u64) == size,
+        Err(_) => false,
+    }
 }
 
-/// Nothing of the line of the name is written, and it is counted as it stands.
-#[test]
-fn refused_names(rt: HostRuntime) -> Result<(), Fail> {
-    for &(name, wanted) in NAMES {
-        let mut tag = TagRef::from_bytes(BARE, Kind::Sha1)?;
-        tag.name = BStr::new(name.as_bytes());
-        let (refused, out) = refusal(rt.alloc(), &tag);
-        assert!(rt; refused == wanted, "{name}");
-        assert!(rt; out.as_slice() == FRONT, "{name}");
-        assert!(rt; tag.size() == size_behind(63, name), "{name}");
+/// Whether nothing of the line of this name is written, borrowed and owned, and it is counted as it
+/// stands.
+fn is_name_refused(alloc: Global, name: &str, wanted: &str) -> bool {
+    let Ok(mut tag) = TagRef::from_bytes(BARE, Kind::Sha1) else {
+        return false;
+    };
+    tag.name = BStr::new(name.as_bytes());
+    let size = size_behind(63, name);
+    if !is_refused_for(alloc, &tag, wanted, FRONT, size) {
+        return false;
     }
-    Ok(())
+    match tag.into_owned(alloc) {
+        Ok(tag) => is_refused_for(alloc, &tag, wanted, FRONT, size),
+        Err(_) => false,
+    }
 }
 
 #[test]
-fn refused_names_owned(rt: HostRuntime) -> Result<(), Fail> {
-    let alloc = rt.alloc();
+fn refused_names(rt: HostRuntime) {
     for &(name, wanted) in NAMES {
-        let mut tag = TagRef::from_bytes(BARE, Kind::Sha1)?;
-        tag.name = BStr::new(name.as_bytes());
-        let owned = tag.into_owned(alloc)?;
-        let (refused, out) = refusal(alloc, &owned);
-        assert!(rt; refused == wanted, "{name}");
-        assert!(rt; out.as_slice() == FRONT, "{name}");
-        assert!(rt; owned.size() == size_behind(63, name), "{name}");
+        assert!(rt; is_name_refused(rt.alloc(), name, wanted), "{name}");
     }
-    Ok(())
 }
 
 /// Lines of taggers whose name or email is refused.
 const TAGGERS: &[&str] = &["A> <b> 0 +0000", "A <<b> 0 +0000", "A <a>b> 0 +0000"];
 
-/// The borrowed tag has the line as it stands.
+/// Whether a tagger's line is counted and written as it stands, and its owned form refused behind this.
+fn is_tagger_refused(alloc: Global, line: &str, before: &[u8]) -> bool {
+    let Ok(mut tag) = TagRef::from_bytes(BARE, Kind::Sha1) else {
+        return false;
+    };
+    tag.tagger = Some(BStr::new(line.as_bytes()));
+    let size = size_behind(73, line);
+    if !has_size(alloc, &tag, size) {
+        return false;
+    }
+    match tag.into_owned(alloc) {
+        Ok(tag) => is_refused_for(alloc, &tag, "an illegal actor", before, size),
+        Err(_) => false,
+    }
+}
+
 #[test]
 fn illegal_taggers(rt: HostRuntime) -> Result<(), Fail> {
-    let alloc = rt.alloc();
-    let wanted = tag_with(alloc, b"tagger ")?;
+    let before = tag_with(rt.alloc(), b"tagger ")?;
     for &line in TAGGERS {
-        let mut tag = TagRef::from_bytes(BARE, Kind::Sha1)?;
-        tag.tagger = Some(BStr::new(line.as_bytes()));
-        assert!(rt; has_size(alloc, &tag, size_behind(73, line))?, "{line}");
-        let owned = tag.into_owned(alloc)?;
-        let (refused, out) = refusal(alloc, &owned);
-        assert!(rt; refused == "an illegal actor", "{line}");
-        assert!(rt; out == wanted, "{line}");
-        assert!(rt; owned.size() == size_behind(73, line), "{line}");
+        assert!(rt; is_tagger_refused(rt.alloc(), line, &before), "{line}");
     }
     Ok(())
 }
 
+/// Whether the owned tag of this name and this tagger's line is refused for its name.
+fn is_name_refused_first(alloc: Global, name: &'static [u8], line: &'static [u8]) -> bool {
+    let Ok(mut tag) = TagRef::from_bytes(BARE, Kind::Sha1) else {
+        return false;
+    };
+    tag.name = BStr::new(name);
+    tag.tagger = Some(BStr::new(line));
+    match tag.into_owned(alloc) {
+        Ok(tag) => is_refused_for(alloc, &tag, "a dash", FRONT, tag.size()),
+        Err(_) => false,
+    }
+}
+
 /// A name is refused before a tagger.
 #[test]
-fn name_before_tagger(rt: HostRuntime) -> Result<(), Fail> {
-    let alloc = rt.alloc();
-    let mut tag = TagRef::from_bytes(BARE, Kind::Sha1)?;
-    tag.name = BStr::new(b"-v");
-    tag.tagger = Some(BStr::new(b"A> <b> 0 +0000"));
-    let (refused, out) = refusal(alloc, &tag.into_owned(alloc)?);
-    assert!(rt; refused == "a dash");
-    assert!(rt; out.as_slice() == FRONT);
-    Ok(())
+fn name_before_tagger(rt: HostRuntime) {
+    assert!(rt; is_name_refused_first(rt.alloc(), b"-v", b"A> <b> 0 +0000"));
 }
 
 /// A target is written as it was read, and in lower case by the owned form.
 #[test]
-fn upper_case(rt: HostRuntime) -> Result<(), Fail> {
+fn upper_case(rt: HostRuntime) {
     let text = b"object 4B825DC642cb6eb9a060e54bf8d69288fbee4904\ntype tree\ntag v1\n";
-    assert!(rt; are_written(rt.alloc(), text, text, BARE)?);
-    Ok(())
+    assert!(rt; are_written(rt.alloc(), text, Kind::Sha1, text, BARE));
 }
 
 /// Messages and signatures, and how many bytes the bare tag has with them.
-const BODIES: &[(&str, Option<&str>, u64)] = &[
+const BODIES: &[(&'static str, Option<&'static str>, u64)] = &[
     ("", None, 65),
     ("\n", None, 66),
     ("\n\n", None, 67),
@@ -127,44 +136,79 @@ const BODIES: &[(&str, Option<&str>, u64)] = &[
     ("", Some(""), 66),
 ];
 
-#[test]
-fn sizes_of_bodies(rt: HostRuntime) -> Result<(), Fail> {
-    let alloc = rt.alloc();
-    for &(message, signature, size) in BODIES {
-        let mut tag = TagRef::from_bytes(BARE, Kind::Sha1)?;
-        tag.message = BStr::new(message.as_bytes());
-        tag.signature = signature.map(|text| BStr::new(text.as_bytes()));
-        assert!(rt; has_size(alloc, &tag, Some(size))?, "{message}");
-        tag.tagger = Some(BStr::new(b"A <a@b> 0 +0000"));
-        let with_tagger = size.checked_add(23);
-        assert!(rt; has_size(alloc, &tag, with_tagger)?, "{message}");
-        let mut owned = tag.into_owned(alloc)?;
-        assert!(rt; has_size(alloc, &owned, with_tagger)?, "{message}");
-        owned.tagger = None;
-        assert!(rt; has_size(alloc, &owned, Some(size))?, "{message}");
+/// Whether the bare tag with this message, signature and tagger has so many bytes, borrowed and owned.
+fn has_sizes(
+    alloc: Global,
+    message: &'static str,
+    signature: Option<&'static str>,
+    tagger: Option<&'static str>,
+    size: Option<u64>,
+) -> bool {
+    let Ok(mut tag) = TagRef::from_bytes(BARE, Kind::Sha1) else {
+        return false;
+    };
+    tag.message = BStr::new(message.as_bytes());
+    tag.signature = signature.map(|text| BStr::new(text.as_bytes()));
+    tag.tagger = tagger.map(|text| BStr::new(text.as_bytes()));
+    if !has_size(alloc, &tag, size) {
+        return false;
     }
-    Ok(())
+    match tag.into_owned(alloc) {
+        Ok(tag) => has_size(alloc, &tag, size),
+        Err(_) => false,
+    }
+}
+
+/// A tagger's line takes 23 bytes more.
+#[test]
+fn sizes_of_bodies(rt: HostRuntime) {
+    let line = Some("A <a@b> 0 +0000");
+    for &(message, signature, size) in BODIES {
+        let (alloc, longer) = (rt.alloc(), size.checked_add(23));
+        assert!(rt;
+            has_sizes(alloc, message, signature, None, Some(size)),
+            "{message}"
+        );
+        assert!(rt;
+            has_sizes(alloc, message, signature, line, longer),
+            "{message}"
+        );
+    }
 }
 
 /// The target is counted with its own length.
 #[test]
 fn ids_of_both_kinds(rt: HostRuntime) -> Result<(), Fail> {
-    let alloc = rt.alloc();
-    let mut tag = TagRef::from_bytes(BARE, Kind::Sha1)?.into_owned(alloc)?;
+    let mut tag = TagRef::from_bytes(BARE, Kind::Sha1)?.into_owned(rt.alloc())?;
     tag.target = ObjectId::null(Kind::Sha256);
-    assert!(rt; has_size(alloc, &tag, Some(89))?);
+    assert!(rt; has_size(rt.alloc(), &tag, Some(89)));
     Ok(())
 }
 
 /// Whether a writer that takes so many bytes and then fails holds exactly those.
-fn stops_at<T: WriteTo>(alloc: Global, tag: &T, text: &[u8], room: usize) -> Result<bool, Fail>
+fn stops_at<T: WriteTo>(alloc: Global, tag: &T, text: &[u8], room: usize) -> bool
     requires { T.can_write tag.now }
 {
-    let held = Vec::with_capacity(alloc, text.len())?;
+    let Ok(held) = Vec::with_capacity(alloc, text.len()) else {
+        return false;
+    };
     let mut writer = Limited { held, room };
-    let outcome = tag.write_to(alloc, &mut writer);
-    let failed = matches!(&outcome, Err(encode::Error::Writer(_)));
-    Ok(failed && Some(writer.held.as_slice()) == text.get(..room))
+    match tag.write_to(alloc, &mut writer) {
+        Err(encode::Error::Writer(_)) => Some(writer.held.as_slice()) == text.get(..room),
+        _ => false,
+    }
+}
+
+/// Whether a tag is written so, and each writer with less room stops.
+fn stops<T: WriteTo>(alloc: Global, tag: &T, text: &[u8]) -> bool
+    requires { T.can_write tag.now }
+{
+    for room in 0..text.len() {
+        if !stops_at(alloc, tag, text, room) {
+            return false;
+        }
+    }
+    is_written(alloc, tag, text)
 }
 
 /// A tagger, a message and a signature.
@@ -175,24 +219,9 @@ const REST: &[u8] = b"tagger A <a@b> 0 +0000\n\
 
 #[test]
 fn writers_that_fail(rt: HostRuntime) -> Result<(), Fail> {
-    let alloc = rt.alloc();
-    let text = tag_with(alloc, REST)?;
+    let text = tag_with(rt.alloc(), REST)?;
     let tag = TagRef::from_bytes(&text, Kind::Sha1)?;
-    assert!(rt; is_written(alloc, &tag, &text)?);
-    for room in 0..text.len() {
-        assert!(rt; stops_at(alloc, &tag, &text, room)?, "{room}");
-    }
-    Ok(())
-}
-
-#[test]
-fn writers_that_fail_owned(rt: HostRuntime) -> Result<(), Fail> {
-    let alloc = rt.alloc();
-    let text = tag_with(alloc, REST)?;
-    let owned = TagRef::from_bytes(&text, Kind::Sha1)?.into_owned(alloc)?;
-    assert!(rt; is_written(alloc, &owned, &text)?);
-    for room in 0..text.len() {
-        assert!(rt; stops_at(alloc, &owned, &text, room)?, "{room}");
-    }
+    assert!(rt; stops(rt.alloc(), &tag, &text));
+    assert!(rt; stops(rt.alloc(), &tag.into_owned(rt.alloc())?, &text));
     Ok(())
 }

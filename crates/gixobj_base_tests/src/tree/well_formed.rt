@@ -5,7 +5,6 @@ use gixobj_base::Tree;
 use gixobj_base::hash::{Kind, ObjectId};
 use gixobj_base::tree::{Entry, EntryKind};
 use std::alloc::{AllocError, Global};
-use std::test::Fail;
 
 type Listed = (EntryKind, &'static [u8]);
 
@@ -25,14 +24,17 @@ const FILE: EntryKind = EntryKind::Blob;
 
 const TREE: EntryKind = EntryKind::Tree;
 
-#[test]
-fn well_formed(rt: HostRuntime) -> Result<(), Fail> {
-    let lists: &[&[Listed]] = &[
-        &[],
-        &[(FILE, b"a")],
-        &[(FILE, b"a"), (FILE, b"a.b"), (TREE, b"c")],
-        &[(FILE, b"a"), (FILE, b"a.b"), (TREE, b"ab")],
+/// Entries, and whether the tree of them is well-formed.
+const LISTS: &[(&[Listed], bool)] = &[
+    (&[], true),
+    (&[(FILE, b"a")], true),
+    (&[(FILE, b"a"), (FILE, b"a.b"), (TREE, b"c")], true),
+    (&[(FILE, b"a"), (FILE, b"a.b"), (TREE, b"ab")], true),
+    (
         &[(FILE, b"a-"), (FILE, b"a."), (TREE, b"a"), (FILE, b"a0")],
+        true,
+    ),
+    (
         &[
             (EntryKind::BlobExecutable, b"a"),
             (EntryKind::Link, b"b"),
@@ -40,27 +42,19 @@ fn well_formed(rt: HostRuntime) -> Result<(), Fail> {
             (TREE, b"d"),
             (FILE, b"e"),
         ],
-    ];
-    for &listed in lists {
-        let tree = tree_of(rt.alloc(), listed)?;
-        assert!(rt; tree.is_well_formed(), "{tree:?}");
-    }
-    Ok(())
-}
-
-#[test]
-fn not_well_formed(rt: HostRuntime) -> Result<(), Fail> {
-    let lists: &[&[Listed]] = &[
-        &[(FILE, b"")],
-        &[(TREE, b"")],
-        &[(FILE, b"a/b")],
-        &[(FILE, b"a"), (FILE, b"b"), (TREE, b"c/")],
-        &[(FILE, b"a"), (FILE, b"a")],
-        &[(TREE, b"a"), (TREE, b"a")],
-        &[(FILE, b"a"), (EntryKind::Link, b"a")],
-        &[(FILE, b"b"), (FILE, b"a")],
-        &[(TREE, b"a"), (FILE, b"a.b")],
-        &[(FILE, b"a"), (TREE, b"a")],
+        true,
+    ),
+    (&[(FILE, b"")], false),
+    (&[(TREE, b"")], false),
+    (&[(FILE, b"a/b")], false),
+    (&[(FILE, b"a"), (FILE, b"b"), (TREE, b"c/")], false),
+    (&[(FILE, b"a"), (FILE, b"a")], false),
+    (&[(TREE, b"a"), (TREE, b"a")], false),
+    (&[(FILE, b"a"), (EntryKind::Link, b"a")], false),
+    (&[(FILE, b"b"), (FILE, b"a")], false),
+    (&[(TREE, b"a"), (FILE, b"a.b")], false),
+    (&[(FILE, b"a"), (TREE, b"a")], false),
+    (
         &[
             (FILE, b"a"),
             (FILE, b"a-"),
@@ -68,10 +62,21 @@ fn not_well_formed(rt: HostRuntime) -> Result<(), Fail> {
             (TREE, b"a"),
             (FILE, b"a0"),
         ],
-    ];
-    for &listed in lists {
-        let tree = tree_of(rt.alloc(), listed)?;
-        assert!(rt; !tree.is_well_formed(), "{tree:?}");
+        false,
+    ),
+];
+
+/// Whether the tree of these entries is well-formed, or none without memory for it.
+fn is_well_formed(alloc: Global, listed: &[Listed]) -> Option<bool> {
+    match tree_of(alloc, listed) {
+        Ok(tree) => Some(tree.is_well_formed()),
+        Err(AllocError) => None,
     }
-    Ok(())
+}
+
+#[test]
+fn well_formed_trees(rt: HostRuntime) {
+    for (at, &(listed, wanted)) in LISTS.iter().enumerate() {
+        assert!(rt; is_well_formed(rt.alloc(), listed) == Some(wanted), "{at}");
+    }
 }

@@ -130,40 +130,48 @@ fn written(alloc: Global, tree: &Tree) -> Result<Vec<u8>, Error> {
     Ok(out)
 }
 
+/// Whether a tree is written with so many bytes, and this is its id.
+fn is_written(alloc: Global, tree: &Tree, hash: hash::Kind, len: usize, id: &[u8]) -> bool {
+    match written(alloc, tree) {
+        Ok(out) => {
+            out.len() == len
+                && tree.size() == Some(len as u64)
+                && ObjectId::from_hex(id) == Some(compute_hash(hash, Kind::Tree, &out))
+        }
+        Err(_) => false,
+    }
+}
+
+/// What is written of a tree, in hex.
+fn hex_of(alloc: Global, tree: &Tree) -> Result<String, Fail> {
+    let out = written(alloc, tree)?;
+    Ok(hex::encode(alloc, out.as_slice())?)
+}
+
 #[test]
-fn trees_of_the_examples(rt: HostRuntime) -> Result<(), Fail> {
-    let alloc = rt.alloc();
-    let tree = sorted_tree(alloc, SHA1)?;
-    let out = written(alloc, &tree)?;
-    let hex = hex::encode(alloc, out.as_slice())?;
-    let wanted = sha1_bytes(alloc)?;
-    assert!(rt; hex.as_str() == wanted.as_str());
-    let id = compute_hash(hash::Kind::Sha1, Kind::Tree, &out);
-    assert!(rt; Some(id) == ObjectId::from_hex(b"932696bf4fc5904284abc872dd6ae7421b4e9e19"));
+fn bytes_of_the_examples(rt: HostRuntime) -> Result<(), Fail> {
+    let tree = sorted_tree(rt.alloc(), SHA1)?;
+    let hex = hex_of(rt.alloc(), &tree)?;
+    assert!(rt; hex.as_str() == sha1_bytes(rt.alloc())?.as_str());
     Ok(())
 }
 
 #[test]
-fn headers_of_the_examples(rt: HostRuntime) -> Result<(), Fail> {
-    let alloc = rt.alloc();
-    let tree = sorted_tree(alloc, SHA1)?;
+fn trees_of_the_examples(rt: HostRuntime) -> Result<(), Fail> {
+    let tree = sorted_tree(rt.alloc(), SHA1)?;
+    let id = b"932696bf4fc5904284abc872dd6ae7421b4e9e19";
+    assert!(rt; is_written(rt.alloc(), &tree, hash::Kind::Sha1, 204, id));
     assert!(rt; tree.kind() == Kind::Tree);
-    assert!(rt; tree.size() == Some(204));
-    let header = tree.loose_header(alloc).ok_or("a header")?;
-    assert_eq!(rt; header.as_slice(), b"tree 204\0".as_slice());
+    let header = tree.loose_header(rt.alloc()).ok_or("a header")?;
+    assert!(rt; header.as_slice() == b"tree 204\0".as_slice());
     Ok(())
 }
 
 #[test]
 fn trees_of_the_examples_in_sha256(rt: HostRuntime) -> Result<(), Fail> {
-    let alloc = rt.alloc();
-    let tree = sorted_tree(alloc, SHA256)?;
-    let out = written(alloc, &tree)?;
-    let id = compute_hash(hash::Kind::Sha256, Kind::Tree, &out);
-    let wanted = b"b50197883fb00da94cd610867bae1cb42a03a69c9058b0c225a8eeec98c95ba0";
-    assert!(rt; Some(id) == ObjectId::from_hex(wanted));
-    assert!(rt; tree.size() == Some(276));
-    assert_eq!(rt; out.len(), 276);
+    let tree = sorted_tree(rt.alloc(), SHA256)?;
+    let id = b"b50197883fb00da94cd610867bae1cb42a03a69c9058b0c225a8eeec98c95ba0";
+    assert!(rt; is_written(rt.alloc(), &tree, hash::Kind::Sha256, 276, id));
     Ok(())
 }
 
@@ -186,38 +194,46 @@ fn odd_text(alloc: Global, front: &str) -> Result<String, AllocError> {
 }
 
 /// The tree of an entry with this front.
-fn odd_tree(alloc: Global, front: &str, name: &str) -> Result<Tree, Fail> {
-    let text = odd_text(alloc, front)?;
-    let mode = EntryMode::from_bytes(text.as_bytes()).ok_or("a mode")?;
-    let oid = ObjectId::Sha1([1; 20]);
-    Ok(tree_of_one(alloc, mode, name.as_bytes(), oid)?)
+fn odd_tree(alloc: Global, front: &str, name: &str) -> Option<Tree> {
+    let mode = EntryMode::from_bytes(front.as_bytes())?;
+    tree_of_one(alloc, mode, name.as_bytes(), ObjectId::Sha1([1; 20])).ok()
 }
 
-#[test]
-fn odd_entries(rt: HostRuntime) -> Result<(), Fail> {
-    let alloc = rt.alloc();
-    for &(front, name, written_front, len) in ODD_ENTRIES {
-        let tree = odd_tree(alloc, front, name)?;
-        let out = written(alloc, &tree)?;
-        let wanted = odd_text(alloc, written_front)?;
-        assert!(rt; out.as_slice() == wanted.as_bytes(), "{front}");
-        assert_eq!(rt; out.len(), len, "{front}");
-        assert!(rt; tree.size() == Some(len as u64), "{front}");
+/// Whether a tree is written with so many bytes, and these are its only entry.
+fn is_entry(alloc: Global, tree: &Tree, front: &str, len: usize) -> bool {
+    match (written(alloc, tree), odd_text(alloc, front)) {
+        (Ok(out), Ok(text)) => {
+            out.as_slice() == text.as_bytes() && out.len() == len && tree.size() == Some(len as u64)
+        }
+        _ => false,
     }
-    Ok(())
 }
 
 #[test]
-fn a_thousand_files(rt: HostRuntime) -> Result<(), Fail> {
-    let alloc = rt.alloc();
+fn odd_entries(rt: HostRuntime) {
+    for &(front, name, written_front, len) in ODD_ENTRIES {
+        let Some(tree) = odd_tree(rt.alloc(), front, name) else {
+            panic!(rt; "no tree: {front}");
+        };
+        assert!(rt; is_entry(rt.alloc(), &tree, written_front, len), "{front}");
+    }
+}
+
+/// A tree of a thousand empty files, with names of four digits.
+fn thousand_files(alloc: Global) -> Result<Tree, AllocError> {
     let oid = ObjectId::empty_blob(hash::Kind::Sha1);
     let mut entries = Vec::new(alloc);
     for number in 1000..2000u32 {
         let name = format!(in alloc; "{number}")?;
         entries.push(entry(alloc, EntryKind::Blob.into(), name.as_bytes(), oid)?)?;
     }
-    let tree = Tree { entries };
-    assert_eq!(rt; written(alloc, &tree)?.len(), 32000);
+    Ok(Tree { entries })
+}
+
+#[test]
+fn a_thousand_files(rt: HostRuntime) -> Result<(), Fail> {
+    let tree = thousand_files(rt.alloc())?;
+    assert!(rt; written(rt.alloc(), &tree)?.len() == 32000);
     assert!(rt; tree.size() == Some(32000));
     Ok(())
 }
@@ -237,39 +253,45 @@ fn with_a_zero_byte(alloc: Global) -> Result<Tree, AllocError> {
     Ok(Tree { entries })
 }
 
+/// Whether a tree is refused for this name.
+fn is_refused_for(alloc: Global, tree: &Tree, out: &mut Vec<u8>, name: &[u8]) -> bool {
+    match tree.write_to(alloc, out) {
+        Err(Error::NullbyteInFilename { name: refused }) => refused.as_slice() == name,
+        _ => false,
+    }
+}
+
 /// A refused name leaves the entry before it, and its own mode and space.
 #[test]
 fn names_with_a_zero_byte(rt: HostRuntime) -> Result<(), Fail> {
-    let alloc = rt.alloc();
-    let tree = with_a_zero_byte(alloc)?;
-    let mut out = Vec::from_slice(alloc, b"before")?;
-    match tree.write_to(alloc, &mut out) {
-        Err(Error::NullbyteInFilename { name }) => {
-            assert_eq!(rt; name.as_slice(), b"b\0c".as_slice());
-        }
-        _ => return Err("a zero byte")?,
-    }
-    assert_eq!(rt; out.len(), 6 + 29 + 7);
+    let tree = with_a_zero_byte(rt.alloc())?;
+    let mut out = Vec::from_slice(rt.alloc(), b"before")?;
+    assert!(rt; is_refused_for(rt.alloc(), &tree, &mut out, b"b\0c"));
+    assert!(rt; out.len() == 6 + 29 + 7);
     assert!(rt; out.starts_with(b"before100644 a\0"));
     assert!(rt; out.ends_with(b"120000 "));
     assert!(rt; tree.size() == Some(29 + 31 + 30));
     Ok(())
 }
 
-/// A writer that takes so many bytes and then fails holds exactly those.
+/// Whether a writer that takes so many bytes of a tree and then fails holds exactly those.
+fn stops_at(alloc: Global, tree: &Tree, text: &[u8], room: usize) -> bool {
+    let Ok(held) = Vec::with_capacity(alloc, text.len()) else {
+        return false;
+    };
+    let mut writer = Limited { held, room };
+    match tree.write_to(alloc, &mut writer) {
+        Err(Error::Writer(_)) => Some(writer.held.as_slice()) == text.get(..room),
+        _ => false,
+    }
+}
+
 #[test]
 fn writers_that_fail(rt: HostRuntime) -> Result<(), Fail> {
-    let alloc = rt.alloc();
-    let tree = sorted_tree(alloc, SHA1)?;
-    let text = written(alloc, &tree)?;
+    let tree = sorted_tree(rt.alloc(), SHA1)?;
+    let text = written(rt.alloc(), &tree)?;
     for room in 0..text.len() {
-        let held = Vec::with_capacity(alloc, text.len())?;
-        let mut writer = Limited { held, room };
-        assert!(rt;
-            matches!(&tree.write_to(alloc, &mut writer), Err(Error::Writer(_))),
-            "{room}"
-        );
-        assert!(rt; writer.held.as_slice() == &text[..room], "{room}");
+        assert!(rt; stops_at(rt.alloc(), &tree, &text, room), "{room}");
     }
     Ok(())
 }
