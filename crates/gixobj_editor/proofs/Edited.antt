@@ -1,5 +1,5 @@
 -- An editor after an edit, from what became of its open directories.
-use Rattle.std.proofs.Common.{◌≡◌, ◌≢◌, ◌∙◌, ◌≤◌, ◌⊎◌, inl, inr, ℕ, true, All, List, [], ◌∷◌, ◌++◌, Option, Some, None, length, refl, sym, ap, subst, arith}
+use Rattle.std.proofs.Common.{◌≡◌, ◌≢◌, ◌∙◌, ◌≤◌, ◌⊎◌, inl, inr, ℕ, Bool, true, All, List, [], ◌∷◌, ◌++◌, Option, Some, None, length, refl, sym, ap, subst, arith}
 use Rattle.std.proofs.lemmas.Cmp.{lists_total, nat_list_cmp_total}
 use Rattle.std.proofs.lemmas.List.Elements.{All-nil}
 use Rattle.std.specs.FinMap as map
@@ -12,7 +12,7 @@ use Rattle.gixobj_files.specs.Edits.{Opens, arrived, counted, upserted_dirs}
 use Rattle.gixobj_files.specs.Files.{Path, SameFiles, Table, Trees, Upserted}
 use Rattle.gixobj_files.specs.Halting.{Halts, IsUnopenedAbove}
 use Rattle.gixobj_files.specs.Opening.{Dirs, OpenFiles}
-use Rattle.gixobj_files.specs.State.{EditorFiles, State, open_dirs}
+use Rattle.gixobj_files.specs.State.{DirMap, EditorFiles, State, open_dirs}
 use Rattle.gixobj_files.specs.Tables.{AgreesWithStore}
 use Rattle.gixobj_files.specs.Unopened.{is_unopened, told_entry, unopened_count}
 use Rattle.gixobj_files.proofs.EditedFiles.{same_refl, same_trans, same_upserted}
@@ -26,15 +26,20 @@ use Rattle.gixobj_directories.specs.Nested.{Opened, dirs_of}
 use Rattle.gixobj_directories.specs.Openings.{RefusesAt}
 use Rattle.gixobj_directories.specs.declared.opening.Error as directory
 use Rattle.gixobj_directories.specs.declared.opening.Error.TheVariants as opening
-use Rattle.gixobj_editor.specs.Edits.{IsRefused, IsUpserted, RefusesUpsert, directory_of, edit_refusal, raised}
+use Rattle.gixobj_editor.specs.Edits.{IsRefused, IsUpserted, RefusesName, RefusesNames, RefusesUpsert, directory_of, edit_refusal, raised}
+use Rattle.gixobj_editor.specs.declared.editor.error.Error.{Error}
+use Rattle.gixobj_editor.specs.declared.editor.error.Error.TheVariants as error
 use Rattle.gixobj_editor.proofs.Paths.{counted_raised, directory_is}
 
 -- the open directories of an editor
-pub dirs_at : (ds : Opened) (at : Path) → map.get (map.from_entries ds) at ≡ dirs_of ds at
-dirs_at ds at = map.get-from_entries (lists_total nat_list_cmp_total) ds at
+abbrev pub map_of : Opened → DirMap
+map_of ds = map.from_entries ds
 
 abbrev pub map_dirs : Opened → Dirs
-map_dirs ds = λ at. map.get (map.from_entries ds) at
+map_dirs ds = λ at. map.get (map_of ds) at
+
+pub dirs_at : (ds : Opened) (at : Path) → map_dirs ds at ≡ dirs_of ds at
+dirs_at ds at = map.get-from_entries (lists_total nat_list_cmp_total) ds at
 
 pub same_dirs : (ds : Opened) → map_dirs ds ≡ dirs_of ds
 same_dirs ds = λ i at. dirs_at ds at i
@@ -53,26 +58,40 @@ known_above trees path front last is old new asked opens it h =
     let found = opens_known trees front last old new asked opens at.0 at.1 at.2 at.3 (sym is ∙ at.5 ∙ ap (λ p. p ++ at.2 ∷ at.3) at.4) (subst (λ p. is_unopened trees old p ≡ true) at.4 h.unopened) h.entry (subst (λ p. told_entry trees p old ≡ Some h.entry) at.4 h.told) in
     (found.0, ap trees (sym h.named) ∙ found.1)
 
+-- without names nothing is put in
+pub nothing_upserted : {S : Type 0} (trees : Trees) (old : State S) (path : Path) → path ≡ [] → (mode : ℕ) (id : ObjectId) → IsUpserted trees old path mode id old
+nothing_upserted {S} trees old path none mode id = subst (λ p. IsUpserted trees old p mode id old) (sym none) nothing
+  where
+    nothing : IsUpserted trees old [] mode id old
+    nothing = record {
+      names = All-nil IsEntryName;
+      opened = open_dirs old;
+      asked = [];
+      opens = arrived (open_dirs old);
+      dirs = λ at. refl;
+      lookups = refl;
+      rest = refl;
+      known = λ it h. absurd (none_above trees (open_dirs old) it h);
+      files = λ T k agrees. same_refl (EditorFiles T k old);
+    }
+
+-- a name was refused
+no_other : (path : Path) (refusal : Error) → ((name : List ℕ) → RefusesName name refusal → ⊥) → RefusesNames path refusal → ⊥
+no_other [] refusal never h = h
+no_other (name ∷ path) refusal never (inl h) = never name h
+no_other (name ∷ path) refusal never (inr h) = no_other path refusal never h.1
+
+pub name_refused : (objects : Objects) (may_fail : ObjectId → Bool) (trees : Trees) (dirs : Dirs) (path : Path) (refusal : Error) → RefusesNames path refusal → RefusesUpsert objects may_fail trees dirs path refusal
+name_refused objects may_fail trees dirs path error.EmptyPathComponent h = h
+name_refused objects may_fail trees dirs path error.SlashInPathComponent h = h
+name_refused objects may_fail trees dirs path (error.FindExistingObject cause) h = absurd (no_other path (error.FindExistingObject cause) (λ name k. k) h)
+name_refused objects may_fail trees dirs path (error.CannotRemoveNonLeaf at) h = absurd (no_other path (error.CannotRemoveNonLeaf at) (λ name k. k) h)
+name_refused objects may_fail trees dirs path error.MalformedTree h = absurd (no_other path error.MalformedTree (λ name k. k) h)
+name_refused objects may_fail trees dirs path error.OutOfMemory h = absurd (no_other path error.OutOfMemory (λ name k. k) h)
+
 module _ {S : Type 0} (store : S) (hash : Kind) (trees : Trees) where
   abbrev made : Opened → ℕ → State S
-  made ds n = record { dirs = map.from_entries ds; store = store; lookups = n; object_hash = hash }
-
-  -- without names
-  nothing_put : (ds : Opened) (n mode : ℕ) (id : ObjectId) → IsUpserted trees (made ds n) [] mode id (made ds n)
-  nothing_put ds n mode id = record {
-    names = All-nil IsEntryName;
-    opened = map_dirs ds;
-    asked = [];
-    opens = arrived (map_dirs ds);
-    dirs = λ at. refl;
-    lookups = refl;
-    rest = refl;
-    known = λ it h. absurd (none_above trees (map_dirs ds) it h);
-    files = λ T k agrees. same_refl (EditorFiles T k (made ds n));
-  }
-
-  pub nothing_upserted : (ds : Opened) (n : ℕ) (old : State S) → made ds n ≡ old → (path : Path) → path ≡ [] → (mode : ℕ) (id : ObjectId) → IsUpserted trees old path mode id old
-  nothing_upserted ds n old view path none mode id = subst (λ (o : State S). IsUpserted trees o path mode id o) view (subst (λ p. IsUpserted trees (made ds n) p mode id (made ds n)) (sym none) (nothing_put ds n mode id))
+  made ds n = record { dirs = map_of ds; store = store; lookups = n; object_hash = hash }
 
   -- an entry was put in
   put_in : (ds mid ds' : Opened) (n m : ℕ) (path front : Path) (last : List ℕ) (mode : ℕ) (id : ObjectId) (asked : List ObjectId) → path ≡ front ++ last ∷ [] → AreNames path → Opens trees front (dirs_of ds) (dirs_of mid) asked
@@ -136,7 +155,7 @@ module _ {S : Type 0} (store : S) (hash : Kind) (trees : Trees) where
   pub some_path : (path front : Path) (last : List ℕ) → path ≡ front ++ last ∷ [] → path ≢ []
   some_path path front last is = λ none. some_name front last (sym is ∙ none)
 
-  pub refuses : (objects : Objects) (may_fail : ObjectId → _) (ds ds' : Opened) (n : ℕ) (old : State S) → made ds n ≡ old → (path front : Path) (last : List ℕ) → path ≡ front ++ last ∷ [] → AreNames path → (asked : List ObjectId) (vain : Option ObjectId)
+  pub refuses : (objects : Objects) (may_fail : ObjectId → Bool) (ds ds' : Opened) (n : ℕ) (old : State S) → made ds n ≡ old → (path front : Path) (last : List ℕ) → path ≡ front ++ last ∷ [] → AreNames path → (asked : List ObjectId) (vain : Option ObjectId)
       → Halts trees front (dirs_of ds) (dirs_of ds') asked vain → (cause : directory.Error) → RefusesAt objects may_fail vain cause → RefusesUpsert objects may_fail trees (open_dirs old) path (edit_refusal cause)
   refuses objects may_fail ds ds' n old view path front last is names asked vain halts cause at =
       subst (λ (o : State S). RefusesUpsert objects may_fail trees (open_dirs o) path (edit_refusal cause)) view
@@ -148,6 +167,6 @@ module _ {S : Type 0} (store : S) (hash : Kind) (trees : Trees) where
       by_cause : (why : directory.Error) (v : Option ObjectId) → Halts trees front (dirs_of ds) (dirs_of ds') asked v → RefusesAt objects may_fail v why → RefusesUpsert objects may_fail trees (dirs_of ds) path (edit_refusal why)
       by_cause opening.OutOfMemory v h r = (names, some_path path front last is)
       by_cause opening.MalformedTree None h r = absurd (cc r)
-      by_cause opening.MalformedTree (Some it) h r = (names, it, above (Some it) h it refl, r)
+      by_cause opening.MalformedTree (Some it) h r = (names, (it, above (Some it) h it refl, r))
       by_cause (opening.FindExistingObject why) None h r = absurd (cc r)
-      by_cause (opening.FindExistingObject why) (Some it) h r = (names, it, above (Some it) h it refl, r)
+      by_cause (opening.FindExistingObject why) (Some it) h r = (names, (it, above (Some it) h it refl, r))

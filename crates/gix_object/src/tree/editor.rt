@@ -10,7 +10,7 @@ ghost use Rattle.gixobj_base.specs.Entries.{EntryView, IsEntryName, IsWellFormed
 ghost use Rattle.gixobj_base.specs.Mode.{mode_of_kind};
 ghost use Rattle.gixobj_files.specs.Editing.{kept, with_entry, without};
 ghost use Rattle.gix_object.specs.EditorCalls.{RefusesEdit, RefusesName, StoppedBy, removed_entries, upserted_entries};
-ghost use Rattle.gixobj_files.specs.State.{EditorFiles, State, open_dirs, root_alone, with_store};
+ghost use Rattle.gixobj_files.specs.State.{EditorFiles, open_dirs, root_alone, with_store};
 ghost use Rattle.gixobj_directories.specs.Calls.{AreNames, IsCallableOnTrees, IsStorable, names_of};
 ghost use Rattle.gixobj_files.specs.Files.{NamedFiles, Removed, SameFiles, Table, Upserted};
 ghost use Rattle.gixobj_files.specs.HandingOut.{HandsOut};
@@ -23,10 +23,9 @@ use gixobj_base::hash::{self, ObjectId};
 use gixobj_base::parse::has_byte;
 use gixobj_base::tree::{Entry, EntryKind};
 use gixobj_directories::entries::{copy_kept, put, take_out};
+pub use gixobj_directories::write::{WriteError, Written};
 use std::alloc::AllocError;
 use std::marker::Model;
-
-pub use gixobj_directories::write::{WriteError, Written};
 
 /// The refusal of an edit. The editor is as it was.
 #[derive(Debug, Drop, thiserror::Error)]
@@ -63,7 +62,8 @@ pub struct Editor<S> {
 
 impl<S> Model for Editor<S> {
     ghost use Rattle.gixobj_base.specs.Entries.{IsWellFormed};
-        ghost use Rattle.gixobj_files.specs.State.Codes.{state_code};
+    ghost use Rattle.gixobj_files.specs.State.{State, root_alone};
+    ghost use Rattle.gixobj_files.specs.State.Codes.{state_code};
 
     ghost Value = { State S };
 

@@ -1,0 +1,81 @@
+-- The directories above the path are opened, and then the entry is put in.
+use Rattle.std.proofs.Common.{◌≡◌, ◌∙◌, ◌++◌, [], ◌∷◌, List, length, refl, sym, ap, subst, arith}
+use Rattle.std.proofs.lemmas.List.Elements.{recursion_from_All}
+use Rattle.std.proofs.lemmas.Result.{MatchResult-weaker}
+use Rattle.bstr.specs.Owned.{bstring_bytes}
+use Rattle.gixobj_trees.specs.Entries.{IsEntryName}
+use Rattle.gixobj_trees.specs.Mode.{mode_of_kind}
+use Rattle.gixobj_data.specs.Stores.{Objects}
+use Rattle.gixobj_files.specs.Edits.{Opens, upserted_dirs}
+use Rattle.gixobj_files.specs.Files.{Path}
+use Rattle.gixobj_files.specs.Opening.{Dirs, IsOpened}
+use Rattle.gixobj_files.specs.State.{State, open_dirs}
+use Rattle.gixobj_files.proofs.StillOpened.{opened_upserted}
+use Rattle.gixobj_directories.specs.Calls.{names_of}
+use Rattle.gixobj_directories.specs.Nested.{Opened, dirs_of}
+use Rattle.gixobj_directories.specs.Openings.{AreTreesOf, RefusesAt}
+use Rattle.gixobj_directories.proofs.Handing.{err_weaker}
+use Rattle.gixobj_directories.proofs.OpeningSteps.{names_none, on_err}
+use Rattle.gixobj_editor.specs.Edits.{RefusesUpsert}
+use Rattle.gixobj_editor.proofs.Edited.{halted_so, name_refused, nothing_upserted, opened_so, refuses, some_path, unchanged_at, upserted_at}
+use Rattle.gixobj_editor.proofs.Paths.{names_last}
+use Rattle.gixobj_editor.proofs.editor.Editor.try_upsert.Goals as goal
+
+pub returns-in_err-check_names-clause-refusal : goal.returns-in_err-check_names-clause-refusal
+returns-in_err-check_names-clause-refusal g c = err_weaker c.from_residual.result _ _ c.from_residual.ensures.1 (λ error is trees fits.
+    subst (RefusesUpsert (g.S.Store.objects c.args.self.now.store) (g.S.Store.may_fail c.args.self.now.store) trees (open_dirs c.args.self.now) (names_of c.args.path.now)) (sym is)
+    (name_refused (g.S.Store.objects c.args.self.now.store) (g.S.Store.may_fail c.args.self.now.store) trees (open_dirs c.args.self.now) (names_of c.args.path.now) c.in_err-check_names.field-0.0 (c.in_err-check_names.ensures {u = tt}).refusal))
+
+pub returns-in_default-clause-upserted : goal.returns-in_default-clause-upserted
+returns-in_default-clause-upserted g c = λ trees fits. nothing_upserted trees c.args.self.now (names_of c.args.path.now) (names_none c.args.path.now c.in_default.ensures.cases) (mode_of_kind c.args.kind) c.args.id
+
+pub returns-in_err-open_along-clause-refused : goal.returns-in_err-open_along-clause-refused
+returns-in_err-open_along-clause-refused g c =
+    on_err c.from_residual-in_err-open_along.result _ (λ trees fits.
+    let s = c.self.inside in
+    let is = names_last c.args.path.now c.in-Some.directory.now c.in-Some._last.now c.in-Some.ensures.cases.0 in
+    let stored = ap (λ (o : State _). o.store) c.self.view_is in
+    let bad = (c.in_err-open_along.ensures {u = tt}).halted trees (subst (λ o. AreTreesOf (g.S.Store.objects o) trees) (sym stored) fits) in
+    halted_so s.store s.object_hash trees s.root c.open_along.new.self s.lookups c.open_along.new.lookups c.args.self.now c.self.view_is (names_of c.args.path.now) (names_of c.in-Some.directory.now) (bstring_bytes c.in-Some._last.now) is bad.0 bad.1 bad.2 bad.3)
+
+pub returns-in_err-open_along-clause-refusal : goal.returns-in_err-open_along-clause-refusal
+returns-in_err-open_along-clause-refusal g c =
+    err_weaker c.from_residual-in_err-open_along.result _ _ c.from_residual-in_err-open_along.ensures.1 (λ error gives trees fits.
+    let s = c.self.inside in
+    let is = names_last c.args.path.now c.in-Some.directory.now c.in-Some._last.now c.in-Some.ensures.cases.0 in
+    let stored = ap (λ (o : State _). o.store) c.self.view_is in
+    let bad = (c.in_err-open_along.ensures {u = tt}).halted trees (subst (λ o. AreTreesOf (g.S.Store.objects o) trees) (sym stored) fits) in
+    subst (RefusesUpsert (g.S.Store.objects c.args.self.now.store) (g.S.Store.may_fail c.args.self.now.store) trees (open_dirs c.args.self.now) (names_of c.args.path.now)) (sym gives)
+    (refuses s.store s.object_hash trees (g.S.Store.objects c.args.self.now.store) (g.S.Store.may_fail c.args.self.now.store) s.root c.open_along.new.self s.lookups c.args.self.now c.self.view_is (names_of c.args.path.now) (names_of c.in-Some.directory.now) (bstring_bytes c.in-Some._last.now)
+    is (c.in_ok-check_names.ensures {u = tt}).accepted bad.0 bad.1 bad.2 c.in_err-open_along.field-0.0 (subst (λ o. RefusesAt (g.S.Store.objects o) (g.S.Store.may_fail o) bad.1 c.in_err-open_along.field-0.0) stored bad.4)))
+
+pub put-requires : goal.put-requires
+put-requires g c = recursion_from_All IsEntryName (names_of c.args.path.now) (c.in_ok-check_names.ensures {u = tt}).accepted
+
+pub returns-in_err-put-clause-refused : goal.returns-in_err-put-clause-refused
+returns-in_err-put-clause-refused g c =
+    on_err c.from_residual-in_err-put.result _ (λ trees fits.
+    let s = c.self.inside in
+    let is = names_last c.args.path.now c.in-Some.directory.now c.in-Some._last.now c.in-Some.ensures.cases.0 in
+    let stored = ap (λ (o : State _). o.store) c.self.view_is in
+    let ok = (c.in_ok-open_along.ensures {u = tt}).opened trees (subst (λ o. AreTreesOf (g.S.Store.objects o) trees) (sym stored) fits) in
+    let same : c.put.new.self ≡ c.open_along.new.self = (c.in_err-put.ensures {u = tt}).unchanged in
+    opened_so s.store s.object_hash trees s.root c.put.new.self s.lookups c.open_along.new.lookups c.args.self.now c.self.view_is (names_of c.args.path.now) (names_of c.in-Some.directory.now) (bstring_bytes c.in-Some._last.now) is ok.0
+    (subst (λ (ds : Opened). Opens trees (names_of c.in-Some.directory.now) (dirs_of s.root) (dirs_of ds) ok.0) (sym same) ok.1) ok.2)
+
+pub invariant_of-self-2 : goal.invariant_of-self-2
+invariant_of-self-2 g c =
+    let names = recursion_from_All IsEntryName (names_of c.args.path.now) (c.in_ok-check_names.ensures {u = tt}).accepted in
+    let put : dirs_of c.put.new.self ≡ upserted_dirs (names_of c.args.path.now) (mode_of_kind c.args.kind) c.args.id c.null-null.result (dirs_of c.open_along.new.self) = λ i at. ((c.in_ok-put.ensures {u = tt}).ok at ∙ ap (λ mode. upserted_dirs (names_of c.args.path.now) mode c.args.id c.null-null.result (dirs_of c.open_along.new.self) at) c.into.ensures) i in
+    subst (λ (d : Dirs). IsOpened d) (sym put) (opened_upserted (names_of c.args.path.now) (mode_of_kind c.args.kind) c.args.id c.null-null.result (dirs_of c.open_along.new.self) names (c.open_along.ensures.still_opened c.self.invariant))
+
+pub returns-clause-upserted : goal.returns-clause-upserted
+returns-clause-upserted g c = λ trees fits.
+    let s = c.self.inside in
+    let is = names_last c.args.path.now c.in-Some.directory.now c.in-Some._last.now c.in-Some.ensures.cases.0 in
+    let stored = ap (λ (o : State _). o.store) c.self.view_is in
+    let ok = (c.in_ok-open_along.ensures {u = tt}).opened trees (subst (λ o. AreTreesOf (g.S.Store.objects o) trees) (sym stored) fits) in
+    upserted_at s.store s.object_hash trees s.root c.open_along.new.self c.put.new.self s.lookups c.open_along.new.lookups c.args.self.now c.self.view_is (names_of c.args.path.now) (names_of c.in-Some.directory.now) (bstring_bytes c.in-Some._last.now)
+    (mode_of_kind c.args.kind) c.args.id ok.0 is (c.in_ok-check_names.ensures {u = tt}).accepted ok.1
+    (λ at. (c.in_ok-put.ensures {u = tt}).ok at ∙ ap (λ mode. upserted_dirs (names_of c.args.path.now) mode c.args.id c.null-null.result (dirs_of c.open_along.new.self) at) c.into.ensures
+    ∙ ap (λ null. upserted_dirs (names_of c.args.path.now) (mode_of_kind c.args.kind) c.args.id null (dirs_of c.open_along.new.self) at) c.null-null.ensures.value) ok.2
