@@ -1,0 +1,5 @@
+//! Tests of the editor of nested trees.
+#![tactic(auto)]
+
+#[cfg(test)]
+mod upserts;
