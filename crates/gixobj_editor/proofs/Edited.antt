@@ -1,5 +1,5 @@
 -- An editor after an edit, from what became of its open directories.
-use Rattle.std.proofs.Common.{◌≡◌, ◌≢◌, ◌∙◌, ◌≤◌, ◌⊎◌, inl, inr, ℕ, Bool, true, All, List, [], ◌∷◌, ◌++◌, Option, Some, None, length, refl, sym, ap, subst, arith}
+use Rattle.std.proofs.Common.{◌≡◌, ◌≢◌, ◌∙◌, ◌≤◌, inl, inr, ℕ, Bool, true, List, [], ◌∷◌, ◌++◌, Option, Some, None, length, refl, sym, ap, subst, arith}
 use Rattle.std.proofs.lemmas.Cmp.{lists_total, nat_list_cmp_total}
 use Rattle.std.proofs.lemmas.List.Elements.{All-nil}
 use Rattle.std.specs.FinMap as map
@@ -9,11 +9,10 @@ use Rattle.gixobj_ids.specs.declared.hash.kind.Kind.{Kind}
 use Rattle.gixobj_ids.specs.declared.hash.object_id.ObjectId.{ObjectId}
 use Rattle.gixobj_data.specs.Stores.{Objects}
 use Rattle.gixobj_files.specs.Edits.{Opens, arrived, counted, upserted_dirs}
-use Rattle.gixobj_files.specs.Files.{Path, SameFiles, Table, Trees, Upserted}
+use Rattle.gixobj_files.specs.Files.{Path, SameFiles, Trees, Upserted}
 use Rattle.gixobj_files.specs.Halting.{Halts, IsUnopenedAbove}
 use Rattle.gixobj_files.specs.Opening.{Dirs, OpenFiles}
 use Rattle.gixobj_files.specs.State.{DirMap, EditorFiles, State, open_dirs}
-use Rattle.gixobj_files.specs.Tables.{AgreesWithStore}
 use Rattle.gixobj_files.specs.Unopened.{is_unopened, told_entry, unopened_count}
 use Rattle.gixobj_files.proofs.EditedFiles.{same_refl, same_trans, same_upserted}
 use Rattle.gixobj_files.proofs.Halted.{halted_at, halted_count, halts_opens, opens_known}
@@ -89,9 +88,13 @@ name_refused objects may_fail trees dirs path (error.CannotRemoveNonLeaf at) h =
 name_refused objects may_fail trees dirs path error.MalformedTree h = absurd (no_other path error.MalformedTree (λ name k. k) h)
 name_refused objects may_fail trees dirs path error.OutOfMemory h = absurd (no_other path error.OutOfMemory (λ name k. k) h)
 
+-- an editor of these parts
+abbrev pub state_of : {S : Type 0} → S → Kind → Opened → ℕ → State S
+state_of store hash ds n = record { dirs = map_of ds; store = store; lookups = n; object_hash = hash }
+
 module _ {S : Type 0} (store : S) (hash : Kind) (trees : Trees) where
   abbrev made : Opened → ℕ → State S
-  made ds n = record { dirs = map_of ds; store = store; lookups = n; object_hash = hash }
+  made ds n = state_of store hash ds n
 
   -- an entry was put in
   put_in : (ds mid ds' : Opened) (n m : ℕ) (path front : Path) (last : List ℕ) (mode : ℕ) (id : ObjectId) (asked : List ObjectId) → path ≡ front ++ last ∷ [] → AreNames path → Opens trees front (dirs_of ds) (dirs_of mid) asked

@@ -1,5 +1,5 @@
 -- Paths, their directories, and counts of lookups.
-use Rattle.std.proofs.Common.{◌≡◌, ◌∙◌, ◌+◌, ℕ, zero, suc, min, List, [], ◌∷◌, ◌++◌, length, refl, sym, ap}
+use Rattle.std.proofs.Common.{◌≡◌, ◌∙◌, ◌+◌, ℕ, min, List, [], ◌∷◌, ◌++◌, length, refl, ap}
 use Rattle.std.proofs.lemmas.List.{map-append}
 use Rattle.bstr.specs.Owned.{bstring_bytes}
 use Rattle.bstr.specs.declared.bstring.BString.{BString}

@@ -1,4 +1,5 @@
 pub mod Edits
+pub mod Writes
 pub use Rattle.gixobj_directories.specs.Calls
 pub use Rattle.gixobj_directories.specs.Openings
 pub use Rattle.gixobj_files.specs.Files

@@ -2,7 +2,8 @@
 //!
 //! It edits a tree and the trees below it by paths, and hands out what is to be stored. A directory is opened, that is
 //! looked up in the store, only where an edit needs it.
-ghost use Rattle.std.specs.Prelude.{◌≡◌, IfErr, IfOk, OnErr, OnOk};
+ghost use Rattle.std.specs.Prelude.{◌≡◌, Err, IfErr, IfOk, Ok, OnErr, OnOk};
+ghost use Rattle.std.specs.Fn.{CalledAt};
 ghost use Rattle.std.specs.Borrow.{Lends, sem};
 ghost use Rattle.std.specs.Option.{option_copied};
 ghost use Rattle.gixobj_trees.specs.Entries.{IsWellFormed};
@@ -11,7 +12,10 @@ ghost use Rattle.gixobj_files.specs.Edits.{entry_at};
 ghost use Rattle.gixobj_files.specs.Files.{Trees};
 ghost use Rattle.gixobj_files.specs.Opening.{IsOpened};
 ghost use Rattle.gixobj_files.specs.State.{open_dirs, root_alone, with_store};
-ghost use Rattle.gixobj_directories.specs.Calls.{names_of};
+ghost use Rattle.gixobj_files.specs.HandingOut.{HandsOut};
+ghost use Rattle.gixobj_directories.specs.Calls.{IsCallableOnTrees, names_of};
+ghost use Rattle.gixobj_directories.specs.Handing.{Stopped};
+ghost use Rattle.gixobj_editor.specs.Writes.{IsWritten};
 ghost use Rattle.gixobj_directories.specs.Openings.{AreTreesOf};
 ghost use Rattle.gixobj_editor.specs.Edits.{IsForAName, IsRefused, IsUpserted, RefusesUpsert};
 ghost use Rattle.gixobj_editor.specs.contracts.editor.Editor.{the_row};
@@ -23,6 +27,8 @@ use bstr::BString;
 use error::Error;
 use gixobj_data::Find;
 use gixobj_directories::open::Open;
+use gixobj_directories::write::write_all;
+pub use gixobj_directories::write::{WriteError, Written};
 use gixobj_ids::hash::{self, ObjectId};
 use gixobj_trees::Tree;
 use gixobj_trees::tree::{Entry, EntryKind};
@@ -135,5 +141,28 @@ impl<S: Find> Editor<S> {
         ensures { option_copied result ≡ entry_at (names_of path.now) (open_dirs self.now) }
     {
         self.root.get(path)
+    }
+}
+
+/// Writing
+impl<S> Editor<S> {
+    /// Hands out the open directories, each behind those in it and in the order of their entries, the root
+    /// last and also where it is empty; then the root alone is open, with the tree that was handed out for
+    /// it. Entries with null ids are left out, and so are other open directories that are then empty. The
+    /// answer of `out` to a tree is its id in the tree above; a null one leaves it out.
+    ///
+    /// `Out` where `out` refused a tree, `OutOfMemory` where memory was wanting; the editor is as it was,
+    /// and what `out` was asked so far stands.
+    pub fn try_write<E, F: FnMut(&Tree) -> Result<ObjectId, E>>(
+        &mut self,
+        out: &mut F,
+    ) -> Result<Written, WriteError<E>>
+        requires { IsCallableOnTrees F.pre }
+        ensures written { IfOk result (λ it. IsWritten (λ f p g. CalledAt F.FnMut f p.1 (Ok p.0) g) out.old self.old it.id it.trees.items self.new out.new) }
+        ensures stopped { IfErr result (Stopped (λ f p g. CalledAt F.FnMut f p.1 (Ok p.0) g) (λ f t e g. CalledAt F.FnMut f t (Err e) g) (HandsOut (open_dirs self.old)) out.old out.new) }
+        ensures unchanged { OnErr result (self.new ≡ self.old) }
+    {
+        let alloc = self.root.alloc();
+        write_all(alloc, &mut self.root, out)
     }
 }

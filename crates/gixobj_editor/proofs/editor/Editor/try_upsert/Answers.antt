@@ -1,13 +1,10 @@
 -- The directories above the path are opened, and then the entry is put in.
-use Rattle.std.proofs.Common.{◌≡◌, ◌∙◌, ◌++◌, [], ◌∷◌, List, length, refl, sym, ap, subst, arith}
+use Rattle.std.proofs.Common.{◌≡◌, ◌∙◌, sym, ap, subst}
 use Rattle.std.proofs.lemmas.List.Elements.{recursion_from_All}
-use Rattle.std.proofs.lemmas.Result.{MatchResult-weaker}
 use Rattle.bstr.specs.Owned.{bstring_bytes}
 use Rattle.gixobj_trees.specs.Entries.{IsEntryName}
 use Rattle.gixobj_trees.specs.Mode.{mode_of_kind}
-use Rattle.gixobj_data.specs.Stores.{Objects}
 use Rattle.gixobj_files.specs.Edits.{Opens, upserted_dirs}
-use Rattle.gixobj_files.specs.Files.{Path}
 use Rattle.gixobj_files.specs.Opening.{Dirs, IsOpened}
 use Rattle.gixobj_files.specs.State.{State, open_dirs}
 use Rattle.gixobj_files.proofs.StillOpened.{opened_upserted}
@@ -17,7 +14,7 @@ use Rattle.gixobj_directories.specs.Openings.{AreTreesOf, RefusesAt}
 use Rattle.gixobj_directories.proofs.Handing.{err_weaker}
 use Rattle.gixobj_directories.proofs.OpeningSteps.{names_none, on_err}
 use Rattle.gixobj_editor.specs.Edits.{RefusesUpsert}
-use Rattle.gixobj_editor.proofs.Edited.{halted_so, name_refused, nothing_upserted, opened_so, refuses, some_path, unchanged_at, upserted_at}
+use Rattle.gixobj_editor.proofs.Edited.{halted_so, name_refused, nothing_upserted, opened_so, refuses, upserted_at}
 use Rattle.gixobj_editor.proofs.Paths.{names_last}
 use Rattle.gixobj_editor.proofs.editor.Editor.try_upsert.Goals as goal
 
