@@ -3,3 +3,5 @@
 
 #[cfg(test)]
 mod upserts;
+#[cfg(test)]
+mod writes;

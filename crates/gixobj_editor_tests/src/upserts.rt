@@ -52,7 +52,11 @@ fn stored_file(alloc: Global, name: &[u8]) -> Result<(Memory, ObjectId), Fail> {
 }
 
 /// An editor whose root has the directory `a` alone, by this id.
-fn editor_of(alloc: Global, store: Memory, id: ObjectId) -> Result<Editor<Memory>, Fail> {
+pub(crate) fn editor_of(
+    alloc: Global,
+    store: Memory,
+    id: ObjectId,
+) -> Result<Editor<Memory>, Fail> {
     let root = tree_of(alloc, EntryKind::Tree, b"a", id)?;
     if !root.is_well_formed() {
         return Err("a well-formed root")?;
@@ -61,7 +65,11 @@ fn editor_of(alloc: Global, store: Memory, id: ObjectId) -> Result<Editor<Memory
 }
 
 /// The number of the refusal of an upsert of a file at these names, or 0 where it is accepted.
-fn upserted(alloc: Global, editor: &mut Editor<Memory>, names: &[&[u8]]) -> Result<u8, AllocError> {
+pub(crate) fn upserted(
+    alloc: Global,
+    editor: &mut Editor<Memory>,
+    names: &[&[u8]],
+) -> Result<u8, AllocError> {
     let path = path(alloc, names)?;
     Ok(match editor.try_upsert(&path, EntryKind::Blob, OTHER) {
         Ok(()) => 0,
