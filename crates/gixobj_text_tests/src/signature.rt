@@ -2,116 +2,118 @@
 
 use bstr::BStr;
 use gixobj_signing::signature::find;
-use gixobj_text::signature::{Format, SignatureRef};
-use std::test::Fail;
+use gixobj_text::signature::Format::{self, OpenPgp, Ssh, X509};
+use gixobj_text::signature::SignatureRef;
 
-const MARKERS: &[(&str, Format)] = &[
-    ("-----BEGIN PGP SIGNATURE-----", Format::OpenPgp),
-    ("-----BEGIN PGP MESSAGE-----", Format::OpenPgp),
-    ("-----BEGIN SIGNED MESSAGE-----", Format::X509),
-    ("-----BEGIN SSH SIGNATURE-----", Format::Ssh),
+/// Texts, and the format of the marker with which they begin.
+const FORMATS: &[(&str, Option<Format>)] = &[
+    ("-----BEGIN PGP SIGNATURE-----", Some(OpenPgp)),
+    ("-----BEGIN PGP MESSAGE-----", Some(OpenPgp)),
+    ("-----BEGIN SIGNED MESSAGE-----", Some(X509)),
+    ("-----BEGIN SSH SIGNATURE-----", Some(Ssh)),
+    ("-----BEGIN PGP SIGNATURE----", None),
+    ("-----BEGIN PGP MESSAGE----", None),
+    ("-----BEGIN SIGNED MESSAGE----", None),
+    ("-----BEGIN SSH SIGNATURE----", None),
+    ("x-----BEGIN PGP SIGNATURE-----", None),
+    ("x-----BEGIN PGP MESSAGE-----", None),
+    ("x-----BEGIN SIGNED MESSAGE-----", None),
+    ("x-----BEGIN SSH SIGNATURE-----", None),
+    ("", None),
+    ("\n-----BEGIN SSH SIGNATURE-----\n", None),
+    ("-----BEGIN PGP PUBLIC KEY BLOCK-----", None),
+    ("-----begin pgp signature-----", None),
+    ("-----END PGP SIGNATURE-----", None),
 ];
 
 #[test]
-fn formats_of_markers(rt: HostRuntime) -> Result<(), Fail> {
-    for &(marker, format) in MARKERS {
-        let bytes = marker.as_bytes();
-        let with_a_byte_before = format!(in rt.alloc(); "x{marker}")?;
-        assert_eq!(rt; Format::from_signature(bytes), Some(format));
-        assert_eq!(rt; Format::from_signature(&bytes[..bytes.len() - 1]), None);
-        assert_eq!(rt; Format::from_signature(with_a_byte_before.as_bytes()), None);
-    }
-    Ok(())
-}
-
-#[test]
-fn bytes_of_no_format(rt: HostRuntime) {
-    for bytes in [
-        "",
-        "\n-----BEGIN SSH SIGNATURE-----\n",
-        "-----BEGIN PGP PUBLIC KEY BLOCK-----",
-        "-----begin pgp signature-----",
-        "-----END PGP SIGNATURE-----",
-    ] {
-        assert_eq!(rt; Format::from_signature(bytes.as_bytes()), None, "{bytes}");
+fn formats(rt: HostRuntime) {
+    for &(text, format) in FORMATS {
+        let is_so = Format::from_signature(text.as_bytes()) == format;
+        assert!(rt; is_so, "{text}");
     }
 }
 
-#[test]
-fn places_of_each_marker(rt: HostRuntime) -> Result<(), Fail> {
-    for &(marker, format) in MARKERS {
-        let behind_a_line = format!(in rt.alloc(); "hi\n{marker}")?;
-        let before_others = format!(in rt.alloc(); "{marker} x\nhi\n")?;
-        assert_eq!(rt; find(marker.as_bytes()), Some((0, format)));
-        assert_eq!(rt; find(behind_a_line.as_bytes()), Some((3, format)));
-        assert_eq!(rt; find(before_others.as_bytes()), Some((0, format)));
-    }
-    Ok(())
-}
+/// Texts, where in them the last signature begins, and its format.
+const PLACES: &[(&str, Option<(usize, Format)>)] = &[
+    ("-----BEGIN PGP SIGNATURE-----", Some((0, OpenPgp))),
+    ("-----BEGIN PGP MESSAGE-----", Some((0, OpenPgp))),
+    ("-----BEGIN SIGNED MESSAGE-----", Some((0, X509))),
+    ("-----BEGIN SSH SIGNATURE-----", Some((0, Ssh))),
+    ("hi\n-----BEGIN PGP SIGNATURE-----", Some((3, OpenPgp))),
+    ("hi\n-----BEGIN PGP MESSAGE-----", Some((3, OpenPgp))),
+    ("hi\n-----BEGIN SIGNED MESSAGE-----", Some((3, X509))),
+    ("hi\n-----BEGIN SSH SIGNATURE-----", Some((3, Ssh))),
+    ("-----BEGIN PGP SIGNATURE----- x\nhi\n", Some((0, OpenPgp))),
+    ("-----BEGIN PGP MESSAGE----- x\nhi\n", Some((0, OpenPgp))),
+    ("-----BEGIN SIGNED MESSAGE----- x\nhi\n", Some((0, X509))),
+    ("-----BEGIN SSH SIGNATURE----- x\nhi\n", Some((0, Ssh))),
+    (
+        "-----BEGIN PGP SIGNATURE-----\n-----BEGIN SSH SIGNATURE-----\n",
+        Some((30, Ssh)),
+    ),
+    (
+        "-----BEGIN SSH SIGNATURE-----\n-----BEGIN PGP SIGNATURE-----\n",
+        Some((30, OpenPgp)),
+    ),
+    (
+        "hi\n-----BEGIN SIGNED MESSAGE-----\nx-----BEGIN SSH SIGNATURE-----\n",
+        Some((3, X509)),
+    ),
+    (
+        "-----BEGIN PGP MESSAGE----------BEGIN SSH SIGNATURE-----",
+        Some((0, OpenPgp)),
+    ),
+    (
+        "hi\r\n-----BEGIN PGP SIGNATURE-----\r\n",
+        Some((4, OpenPgp)),
+    ),
+    ("hi\n\n-----BEGIN SSH SIGNATURE-----\n", Some((4, Ssh))),
+    ("\n-----BEGIN PGP MESSAGE-----\n\n", Some((1, OpenPgp))),
+    ("", None),
+    ("\n\n", None),
+    ("x-----BEGIN SSH SIGNATURE-----", None),
+    ("-----BEGIN SSH SIGNATURE----", None),
+    ("hi\n -----BEGIN PGP SIGNATURE-----\n", None),
+    ("hi\r-----BEGIN PGP MESSAGE-----\n", None),
+    ("-----BEGIN SSH\nSIGNATURE-----\n", None),
+];
 
 #[test]
-fn the_last_place(rt: HostRuntime) {
-    for (text, place, format) in [
-        (
-            "-----BEGIN PGP SIGNATURE-----\n-----BEGIN SSH SIGNATURE-----\n",
-            30,
-            Format::Ssh,
-        ),
-        (
-            "-----BEGIN SSH SIGNATURE-----\n-----BEGIN PGP SIGNATURE-----\n",
-            30,
-            Format::OpenPgp,
-        ),
-        (
-            "hi\n-----BEGIN SIGNED MESSAGE-----\nx-----BEGIN SSH SIGNATURE-----\n",
-            3,
-            Format::X509,
-        ),
-        (
-            "-----BEGIN PGP MESSAGE----------BEGIN SSH SIGNATURE-----",
-            0,
-            Format::OpenPgp,
-        ),
-        (
-            "hi\r\n-----BEGIN PGP SIGNATURE-----\r\n",
-            4,
-            Format::OpenPgp,
-        ),
-        ("hi\n\n-----BEGIN SSH SIGNATURE-----\n", 4, Format::Ssh),
-        ("\n-----BEGIN PGP MESSAGE-----\n\n", 1, Format::OpenPgp),
-    ] {
-        assert_eq!(rt; find(text.as_bytes()), Some((place, format)), "{text}");
+fn places(rt: HostRuntime) {
+    for &(text, place) in PLACES {
+        assert!(rt; find(text.as_bytes()) == place, "{text}");
+    }
+}
+
+/// A format, and a text of a signature in it, in order.
+const SIGNATURES: &[(Format, &str)] = &[(OpenPgp, "b"), (OpenPgp, "c"), (Ssh, "a")];
+
+fn signature_of(row: (Format, &'static str)) -> SignatureRef<'static> {
+    SignatureRef {
+        format: row.0,
+        bytes: BStr::new(row.1.as_bytes()),
     }
 }
 
 #[test]
-fn no_place(rt: HostRuntime) {
-    for text in [
-        "",
-        "\n\n",
-        "x-----BEGIN SSH SIGNATURE-----",
-        "-----BEGIN SSH SIGNATURE----",
-        "hi\n -----BEGIN PGP SIGNATURE-----\n",
-        "hi\r-----BEGIN PGP MESSAGE-----\n",
-        "-----BEGIN SSH\nSIGNATURE-----\n",
-    ] {
-        assert_eq!(rt; find(text.as_bytes()), None, "{text}");
+fn order_of_signatures(rt: HostRuntime) {
+    for (at, &first) in SIGNATURES.iter().enumerate() {
+        for (other_at, &second) in SIGNATURES.iter().enumerate() {
+            let (first, second) = (signature_of(first), signature_of(second));
+            assert!(rt; first.cmp(&second) == at.cmp(&other_at), "{at} {other_at}");
+            assert!(rt; (first == second) == (at == other_at), "{at} {other_at}");
+        }
     }
 }
 
 #[test]
-fn order_and_equality(rt: HostRuntime) {
-    let [small, large, other] = [
-        (Format::OpenPgp, "b"),
-        (Format::OpenPgp, "c"),
-        (Format::Ssh, "a"),
-    ]
-    .map(|(format, bytes)| SignatureRef {
-        format,
-        bytes: BStr::new(bytes.as_bytes()),
-    });
-    assert!(rt; Format::OpenPgp < Format::X509 && Format::X509 < Format::Ssh);
-    assert!(rt; Format::Ssh == Format::Ssh && Format::Ssh != Format::X509);
-    assert!(rt; small < large && large < other);
-    assert!(rt; small == small && small != large && large != other);
+fn order_of_formats(rt: HostRuntime) {
+    let formats: &[Format] = &[OpenPgp, X509, Ssh];
+    for (at, first) in formats.iter().enumerate() {
+        for (other_at, second) in formats.iter().enumerate() {
+            assert!(rt; first.cmp(second) == at.cmp(&other_at), "{at} {other_at}");
+            assert!(rt; (first == second) == (at == other_at), "{at} {other_at}");
+        }
+    }
 }
