@@ -1,15 +1,13 @@
 -- An opening that came to a halt: how far it came, how many ids it asked for, and where it stopped.
-use Rattle.std.proofs.Common.{◌≡◌, ◌≢◌, ◌⊎◌, inl, inr, ℕ, ◌+◌, ◌≤◌, true, false, List, [], ◌∷◌, ◌++◌, append_assoc, length, length-append, refl, sym, ap, subst, ◌∙◌, arith, Option, Some, None}
+use Rattle.std.proofs.Common.{◌≡◌, inl, inr, ℕ, ◌≤◌, true, false, List, [], ◌∷◌, ◌++◌, append_assoc, length, length-append, refl, sym, ap, subst, ◌∙◌, arith, Option, Some}
 use Rattle.std.specs.Prelude.{◌&&◌}
 use Rattle.gixobj_trees.specs.Entries.{EntryView}
-use Rattle.gixobj_trees.specs.Mode.{is_tree_mode}
 use Rattle.gixobj_ids.specs.declared.hash.object_id.ObjectId.{ObjectId}
-use Rattle.gixobj_files.specs.Edits.{Finds, IsEntryOf, Opens, arrived, down, entry_of, found, only, stops, with_dir}
+use Rattle.gixobj_files.specs.Edits.{Finds, Opens, arrived, down, entry_of, found, only, stops}
 use Rattle.gixobj_files.specs.Files.{Path, Trees}
 use Rattle.gixobj_files.specs.Halting.{Halts, IsAbove, IsUnopenedAbove, at_once, in_vain}
 use Rattle.gixobj_files.specs.Halting as halting
-use Rattle.gixobj_files.specs.Opening.{Dirs, HasAt, in_dir}
-use Rattle.gixobj_files.specs.Tables.{IsEmptyId}
+use Rattle.gixobj_files.specs.Opening.{Dirs, in_dir}
 use Rattle.gixobj_files.specs.Unopened.{is_shut, is_sought, is_sought_tree, is_unopened, told_entry, unopened_count}
 use Rattle.gixobj_files.proofs.UnopenedCounts.{count_found, count_open, count_vain, found_below, sought, the_entry, told_open, unopened_found, unopened_here, unopened_nowhere, unopened_open, unsought}
 

@@ -1,9 +1,8 @@
 -- A tree that is opened as empty, and one that the store is asked for.
-use Rattle.std.proofs.Common.{◌≡◌, ◌∙◌, ⊎_elim, inl, inr, [], ◌∷◌, refl, sym, subst}
+use Rattle.std.proofs.Common.{◌∙◌, ⊎_elim, inl, inr, [], ◌∷◌, refl, sym, subst}
 use mathlib.Core.Bool.{true≢false}
 use Rattle.std.proofs.lemmas.Result.{IfOk-weaker}
 use Rattle.gixobj_trees.specs.Entries.{IsWellFormed}
-use Rattle.gixobj_files.specs.Tables.{IsEmptyId}
 use Rattle.gixobj_files.proofs.NullIds.{null_tested}
 use Rattle.gixobj_directories.proofs.OpeningSteps.{on_err}
 use Rattle.gixobj_directories.proofs.opening.load.Goals as goal

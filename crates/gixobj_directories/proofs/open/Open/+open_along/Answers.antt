@@ -1,10 +1,9 @@
 -- One level of opening: into a directory that is open, to an end, or into one that is looked up.
-use Rattle.std.proofs.Common.{◌≡◌, ◌∙◌, inl, inr, ◌++◌, [], ◌∷◌, List, Option, Some, None, refl, sym, ap, subst}
+use Rattle.std.proofs.Common.{◌≡◌, ◌∙◌, ◌++◌, [], ◌∷◌, List, Some, None, refl, sym, ap, subst}
 use Rattle.std.proofs.lemmas.Result.{MatchResult-weaker}
 use Rattle.bstr.specs.Owned.{bstring_bytes}
 use Rattle.gixobj_ids.specs.declared.hash.object_id.ObjectId.{ObjectId}
 use Rattle.gixobj_files.specs.Edits.{Finds, Opens, arrived, counted}
-use Rattle.gixobj_files.specs.Files.{Trees}
 use Rattle.gixobj_files.specs.Halting.{Halts}
 use Rattle.gixobj_files.specs.Opening.{IsOpened}
 use Rattle.gixobj_files.specs.Tables.{IsEmptyId}
