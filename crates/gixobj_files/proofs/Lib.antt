@@ -1,3 +1,4 @@
+pub mod Coming
 pub mod EditedFiles
 pub mod Formed
 pub mod Halted

@@ -4,7 +4,7 @@ use Rattle.gixobj_trees.specs.Entries.{EntryView}
 use Rattle.gixobj_trees.specs.Mode.{is_tree_mode}
 use Rattle.gixobj_ids.specs.Hash.{id_kind}
 use Rattle.gixobj_ids.specs.declared.hash.object_id.ObjectId.{ObjectId}
-use Rattle.gixobj_files.specs.Edits.{Finds, Opens, arrived, down, found, only, stops, with_dir}
+use Rattle.gixobj_files.specs.Edits.{Finds, IsNoTree, Opens, arrived, down, found, only, stops, with_dir}
 use Rattle.gixobj_files.specs.Files.{Below, Files, Path, SameFiles, Table, Trees}
 use Rattle.gixobj_files.specs.Opening.{Dirs, HasAt, OpenFiles, in_dir}
 use Rattle.gixobj_files.specs.Tables.{AgreesWithStore}
@@ -17,17 +17,17 @@ stands T trees agrees id entries asked (formed, inl (inl null, empty, none)) = i
 stands T trees agrees id entries asked (formed, inl (inr is, empty, none)) = inr (subst (λ (o : Option (List EntryView)). o ≡ Some entries) (sym (ap T.tree_at is ∙ T.none_in_empty (id_kind id))) (ap Some (sym empty)))
 stands T trees agrees id entries asked (formed, inr (filled, is, asks)) = inr (agrees id entries filled is)
 
-inside_is : (name : List ℕ) (inner dirs : Dirs) → in_dir name (with_dir name inner dirs) ≡ inner
+pub inside_is : (name : List ℕ) (inner dirs : Dirs) → in_dir name (with_dir name inner dirs) ≡ inner
 inside_is name inner dirs = ap (λ b path. cond b (inner path) (dirs (name ∷ path))) (name_itself name)
 
 beside_is : (name first : List ℕ) (inner dirs : Dirs) → name ≢ first → in_dir first (with_dir name inner dirs) ≡ in_dir first dirs
 beside_is name first inner dirs differ = ap (λ b path. cond b (inner path) (dirs (first ∷ path))) (name_other name first differ)
 
-pub opens_root : (trees : Trees) (path : Path) (dirs new : Dirs) (asked : List ObjectId) → Opens trees path dirs new asked → new [] ≡ dirs []
+pub opens_root : {Ends : EntryView → Type 0} (trees : Trees) (path : Path) (dirs new : Dirs) (asked : List ObjectId) → Opens Ends trees path dirs new asked → new [] ≡ dirs []
 opens_root trees path dirs new asked (arrived d) = refl
 opens_root trees path dirs new asked (stops name rest d other none) = refl
 opens_root trees path dirs new asked (down name rest d inner e entries more has named is opens) = refl
-opens_root trees path dirs new asked (found name rest d inner e entries first more entry tree none finds opens) = refl
+opens_root trees path dirs new asked (found name rest d inner e entries first more entry tree free none finds opens) = refl
 
 -- one level: the directories in a name have the same files as before
 same_level : (T : Table) (k : ℕ) (name : List ℕ) (inner dirs : Dirs) → ((path : Path) (mode : ℕ) (id : ObjectId) → (OpenFiles T (suc k) (with_dir name inner dirs) (name ∷ path) mode id → OpenFiles T (suc k) dirs (name ∷ path) mode id) × (OpenFiles T (suc k) dirs (name ∷ path) mode id → OpenFiles T (suc k) (with_dir name inner dirs) (name ∷ path) mode id))
@@ -40,7 +40,7 @@ same_level T k name inner dirs here (first ∷ path) mode id =
       | inr differ ↦ (elsewhere T k new dirs first (λ e named has. has) (beside_is name first inner dirs differ) path mode id, elsewhere T k dirs new first (λ e named has. has) (sym (beside_is name first inner dirs differ)) path mode id)
     ]
 
-pub opens_files : (T : Table) (trees : Trees) → AgreesWithStore T trees → (path : Path) (dirs new : Dirs) (asked : List ObjectId) → Opens trees path dirs new asked → (n : ℕ) → SameFiles (OpenFiles T n new) (OpenFiles T n dirs)
+pub opens_files : {Ends : EntryView → Type 0} (T : Table) (trees : Trees) → AgreesWithStore T trees → (path : Path) (dirs new : Dirs) (asked : List ObjectId) → Opens Ends trees path dirs new asked → (n : ℕ) → SameFiles (OpenFiles T n new) (OpenFiles T n dirs)
 opens_files T trees agrees path dirs new asked (arrived d) n = same_refl (OpenFiles T n d)
 opens_files T trees agrees path dirs new asked (stops name rest d other none) n = same_refl (OpenFiles T n d)
 opens_files T trees agrees path dirs new asked (down name rest d inner e entries more has named is opens) zero = λ path mode id. ((λ h. absurd h), λ h. absurd h)
@@ -53,8 +53,8 @@ opens_files T trees agrees path dirs new asked (down name rest d inner e entries
       (λ h. from_open T k d name entries e has named is path mode id (step.0 (subst (λ (x : Dirs). OpenFiles T k x path mode id) inside (into_open T k new name entries is_new path mode id h)))),
       λ h. from_open T k new name entries e has named is_new path mode id (subst (λ (x : Dirs). OpenFiles T k x path mode id) (sym inside) (step.1 (into_open T k d name entries is path mode id h))),
     ))
-opens_files T trees agrees path dirs new asked (found name rest d inner e entries first more entry tree none finds opens) zero = λ path mode id. ((λ h. absurd h), λ h. absurd h)
-opens_files T trees agrees path dirs new asked (found name rest d inner e entries first more entry tree none finds opens) (suc k) =
+opens_files T trees agrees path dirs new asked (found name rest d inner e entries first more entry tree free none finds opens) zero = λ path mode id. ((λ h. absurd h), λ h. absurd h)
+opens_files T trees agrees path dirs new asked (found name rest d inner e entries first more entry tree free none finds opens) (suc k) =
     same_level T k name inner d (λ path mode id.
     let new : Dirs = with_dir name inner d in
     let inside = inside_is name inner d in
@@ -78,14 +78,14 @@ ready_down : (name : List ℕ) (q : Path) (dirs : Dirs) → ((e : EntryView) × 
 ready_down name [] dirs entry is ready = tt
 ready_down name (next ∷ rest) dirs entry is ready = inr (entry, is, ready)
 
-pub opens_ready : (trees : Trees) (path : Path) (last : List ℕ) (dirs new : Dirs) (asked : List ObjectId) → Opens trees path dirs new asked → IsReady (path ++ last ∷ []) new
+pub opens_ready : (trees : Trees) (path : Path) (last : List ℕ) (dirs new : Dirs) (asked : List ObjectId) → Opens IsNoTree trees path dirs new asked → IsReady (path ++ last ∷ []) new
 opens_ready trees path last dirs new asked (arrived d) = tt
 opens_ready trees path last dirs new asked (stops name rest d other none) = ready_more name (rest ++ last ∷ []) d (other, none)
 opens_ready trees path last dirs new asked (down name rest d inner e entries more has named is opens) =
     let inside = inside_is name inner d in
     ready_down name (rest ++ last ∷ []) (with_dir name inner d) (e, has, named) (entries, ap (λ (x : Dirs). x []) inside ∙ opens_root trees rest (in_dir name d) inner more opens ∙ is)
     (subst (IsReady (rest ++ last ∷ [])) (sym inside) (opens_ready trees rest last (in_dir name d) inner more opens))
-opens_ready trees path last dirs new asked (found name rest d inner e entries first more entry tree none finds opens) =
+opens_ready trees path last dirs new asked (found name rest d inner e entries first more entry tree free none finds opens) =
     let inside = inside_is name inner d in
     ready_down name (rest ++ last ∷ []) (with_dir name inner d) (e, entry.0, entry.1) (entries, ap (λ (x : Dirs). x []) inside ∙ opens_root trees rest (only entries) inner more opens)
     (subst (IsReady (rest ++ last ∷ [])) (sym inside) (opens_ready trees rest last (only entries) inner more opens))

@@ -40,23 +40,23 @@ above_only : (entries : List EntryView) → AreAbove (only entries)
 above_only entries [] name es is = absurd (cc is)
 above_only entries (first ∷ path) name es is = absurd (cc is)
 
-formed_opening : (trees : Trees) (path : Path) (dirs new : Dirs) (asked : List ObjectId) → Opens trees path dirs new asked → AreFormed dirs → AreFormed new
+formed_opening : {Ends : EntryView → Type 0} (trees : Trees) (path : Path) (dirs new : Dirs) (asked : List ObjectId) → Opens Ends trees path dirs new asked → AreFormed dirs → AreFormed new
 formed_opening trees path dirs new asked (arrived d) formed = formed
 formed_opening trees path dirs new asked (stops name rest d other none) formed = formed
 formed_opening trees path dirs new asked (down name rest d inner e entries more has named is opens) formed =
     formed_with_dir name inner d (formed_opening trees rest (in_dir name d) inner more opens (λ q. formed (name ∷ q))) formed
-formed_opening trees path dirs new asked (found name rest d inner e entries first more entry tree none finds opens) formed =
+formed_opening trees path dirs new asked (found name rest d inner e entries first more entry tree free none finds opens) formed =
     formed_with_dir name inner d (formed_opening trees rest (only entries) inner more opens (formed_only entries finds.0)) formed
 
-above_opening : (trees : Trees) (path : Path) (dirs new : Dirs) (asked : List ObjectId) → Opens trees path dirs new asked → AreAbove dirs → AreAbove new
+above_opening : {Ends : EntryView → Type 0} (trees : Trees) (path : Path) (dirs new : Dirs) (asked : List ObjectId) → Opens Ends trees path dirs new asked → AreAbove dirs → AreAbove new
 above_opening trees path dirs new asked (arrived d) above = above
 above_opening trees path dirs new asked (stops name rest d other none) above = above
 above_opening trees path dirs new asked (down name rest d inner e entries more has named is opens) above =
     above_with_dir name inner d (above_opening trees rest (in_dir name d) inner more opens (λ q. above (name ∷ q))) above (above [] name entries is)
-above_opening trees path dirs new asked (found name rest d inner e entries first more entry tree none finds opens) above =
+above_opening trees path dirs new asked (found name rest d inner e entries first more entry tree free none finds opens) above =
     above_with_dir name inner d (above_opening trees rest (only entries) inner more opens (above_only entries)) above (e, entry.0, entry.1, tree)
 
-pub opened_opening : (trees : Trees) (path : Path) (dirs new : Dirs) (asked : List ObjectId) → Opens trees path dirs new asked → IsOpened dirs → IsOpened new
+pub opened_opening : {Ends : EntryView → Type 0} (trees : Trees) (path : Path) (dirs new : Dirs) (asked : List ObjectId) → Opens Ends trees path dirs new asked → IsOpened dirs → IsOpened new
 opened_opening trees path dirs new asked opens opened = record {
   root = λ none. opened.root (sym (opens_root trees path dirs new asked opens) ∙ none);
   well_formed = formed_opening trees path dirs new asked opens opened.well_formed;
@@ -82,7 +82,7 @@ opened_with_dir name inner dirs inside beside entry = record {
 }
 
 -- what is open stays as it is
-pub opening_keeps : (trees : Trees) (path : Path) (dirs new : Dirs) (asked : List ObjectId) → Opens trees path dirs new asked → (at : Path) (es : List EntryView) → dirs at ≡ Some es → new at ≡ Some es
+pub opening_keeps : {Ends : EntryView → Type 0} (trees : Trees) (path : Path) (dirs new : Dirs) (asked : List ObjectId) → Opens Ends trees path dirs new asked → (at : Path) (es : List EntryView) → dirs at ≡ Some es → new at ≡ Some es
 opening_keeps trees path dirs new asked (arrived d) at es is = is
 opening_keeps trees path dirs new asked (stops name rest d other none) at es is = is
 opening_keeps trees path dirs new asked (down name rest d inner e entries more has named there opens) [] es is = is
@@ -91,8 +91,8 @@ opening_keeps trees path dirs new asked (down name rest d inner e entries more h
       | true ↦ λ called. opening_keeps trees rest (in_dir name d) inner more opens at es (ap (λ n. d (n ∷ at)) ((bytes_decides name first).0 called) ∙ is)
       | false ↦ λ called. is
     ] refl
-opening_keeps trees path dirs new asked (found name rest d inner e entries first more entry tree none finds opens) [] es is = is
-opening_keeps trees path dirs new asked (found name rest d inner e entries first more entry tree none finds opens) (other ∷ at) es is =
+opening_keeps trees path dirs new asked (found name rest d inner e entries first more entry tree free none finds opens) [] es is = is
+opening_keeps trees path dirs new asked (found name rest d inner e entries first more entry tree free none finds opens) (other ∷ at) es is =
     elim (same_name name other) as (λ b. same_name name other ≡ b → cond b (inner at) (d (other ∷ at)) ≡ Some es) [
       | true ↦ λ called. absurd (let bad : None ≡ Some es = sym (none at) ∙ ap (λ n. d (n ∷ at)) ((bytes_decides name other).0 called) ∙ is in cc bad)
       | false ↦ λ called. is

@@ -1,5 +1,5 @@
 -- As many ids are asked for on a path as there are directories above its last name that aren't open and would be looked up.
-use Rattle.std.proofs.Common.{◌≡◌, ◌⊎◌, inl, inr, ℕ, ◌+◌, Bool, true, false, not, cond, List, [], ◌∷◌, ◌++◌, length, refl, sym, ap, ◌∙◌, arith, Option, Some, None}
+use Rattle.std.proofs.Common.{◌≡◌, ◌≢◌, ◌⊎◌, inl, inr, ℕ, ◌+◌, Bool, true, false, not, cond, List, [], ◌∷◌, ◌++◌, length, refl, sym, ap, ◌∙◌, arith, Option, Some, None}
 use Rattle.std.specs.Prelude.{◌&&◌, ◌≤◌, map}
 use Rattle.std.specs.List.{filter, find}
 use Rattle.std.specs.Cmp.Lexicographic.{bytes_decides}
@@ -12,10 +12,11 @@ use Rattle.gixobj_ids.specs.declared.hash.object_id.ObjectId.{ObjectId}
 use Rattle.gixobj_ids.specs.declared.hash.object_id.ObjectId.TheVariants as id
 use Rattle.gixobj_ids.specs.declared.kind.Kind.TheVariants.{Tree}
 use Rattle.gixobj_files.specs.Editing.{same_name}
-use Rattle.gixobj_files.specs.Edits.{Finds, IsEntryOf, Opens, arrived, down, entry_of, found, only, stops}
+use Rattle.gixobj_files.specs.Edits.{Finds, IsEntryOf, IsUnasked, Opens, arrived, down, entry_of, found, only, stops, with_dir}
 use Rattle.gixobj_files.specs.Files.{Has, Path, Trees, is_null}
 use Rattle.gixobj_files.specs.Opening.{Dirs, HasAt, in_dir}
 use Rattle.gixobj_files.specs.Tables.{IsEmptyId}
+use Rattle.gixobj_files.proofs.OpeningFiles.{inside_is}
 use Rattle.gixobj_files.specs.Unopened.{is_empty_tree_id, is_shut, is_sought, is_sought_tree, is_unopened, list_of, shut_or_open, strict_beginnings, told_entry, told_in, tree_of, unopened_count}
 
 -- which ids are asked for
@@ -66,7 +67,7 @@ find_none name (x ∷ xs) is e h named =
     here (inl same) other k = let yes : same_name x.name name ≡ true = (bytes_decides x.name name).1 (ap (λ (y : EntryView). y.name) same ∙ named) in let bad : true ≡ false = sym yes ∙ other in cc bad
     here (inr l) other k = k l
 
-entry_has : (name : List ℕ) (here : Option (List EntryView)) (e : EntryView) → entry_of name here ≡ Some e → HasAt here e × (e.name ≡ name)
+pub entry_has : (name : List ℕ) (here : Option (List EntryView)) (e : EntryView) → entry_of name here ≡ Some e → HasAt here e × (e.name ≡ name)
 entry_has name None e is = absurd (cc is)
 entry_has name (Some es) e is = find_has name es e is
 
@@ -109,9 +110,9 @@ passes_more p name next rest =
       | false ↦ omega (arith, mapped p name (strict_beginnings (next ∷ rest)))
     ]
 
-passes_deeper : (p : Path → Bool) (name : List ℕ) (rest : Path) (last : List ℕ) → passes p (name ∷ (rest ++ last ∷ [])) ≡ one_if (p (name ∷ [])) + passes (λ path. p (name ∷ path)) (rest ++ last ∷ [])
-passes_deeper p name [] last = passes_more p name last []
-passes_deeper p name (next ∷ rest) last = passes_more p name next (rest ++ last ∷ [])
+passes_deeper : (p : Path → Bool) (name : List ℕ) (rest : Path) (last : List ℕ) (behind : Path) → passes p (name ∷ (rest ++ last ∷ behind)) ≡ one_if (p (name ∷ [])) + passes (λ path. p (name ∷ path)) (rest ++ last ∷ behind)
+passes_deeper p name [] last behind = passes_more p name last behind
+passes_deeper p name (next ∷ rest) last behind = passes_more p name next (rest ++ last ∷ behind)
 
 -- tests that agree on all paths with names
 same_passes : (p r : Path → Bool) → ((first : List ℕ) (path : Path) → p (first ∷ path) ≡ r (first ∷ path)) → (path : Path) → passes p path ≡ passes r path
@@ -133,11 +134,23 @@ never_passes (name ∷ next ∷ rest) = omega (arith, passes_more never name nex
 no_passes : (p : Path → Bool) → ((first : List ℕ) (path : Path) → p (first ∷ path) ≡ false) → (path : Path) → passes p path ≡ 0
 no_passes p fails path = same_passes p never fails path ∙ never_passes path
 
-passes_deeper_none : (p : Path → Bool) (name : List ℕ) (rest : Path) (last : List ℕ) → p (name ∷ []) ≡ false → ((first : List ℕ) (path : Path) → p (name ∷ first ∷ path) ≡ false) → passes p (name ∷ (rest ++ last ∷ [])) ≡ 0
-passes_deeper_none p name rest last here below =
+passes_deeper_none : (p : Path → Bool) (name : List ℕ) (rest : Path) (last : List ℕ) (behind : Path) → p (name ∷ []) ≡ false → ((first : List ℕ) (path : Path) → p (name ∷ first ∷ path) ≡ false) → passes p (name ∷ (rest ++ last ∷ behind)) ≡ 0
+passes_deeper_none p name rest last behind here below =
     let none : one_if (p (name ∷ [])) ≡ 0 = ap one_if here in
-    let nothing : passes (λ path. p (name ∷ path)) (rest ++ last ∷ []) ≡ 0 = no_passes (λ path. p (name ∷ path)) below (rest ++ last ∷ []) in
-    omega (arith, passes_deeper p name rest last, none, nothing)
+    let nothing : passes (λ path. p (name ∷ path)) (rest ++ last ∷ behind) ≡ 0 = no_passes (λ path. p (name ∷ path)) below (rest ++ last ∷ behind) in
+    omega (arith, passes_deeper p name rest last behind, none, nothing)
+
+-- an opening ends at most before entries that the store isn't asked for
+abbrev pub IsIdle : (EntryView → Type 0) → Type 0
+IsIdle Ends = (e : EntryView) → Ends e → IsUnasked e
+
+-- no name is left behind the last one, or the opening ended above the path's directory
+abbrev pub EndsAbove : Dirs → Path → Path → Type 0
+EndsAbove new path behind = (behind ≡ []) ⊎ (new path ≡ None)
+
+pub ends_inside : (name : List ℕ) (rest : Path) (inner dirs : Dirs) (behind : Path) → EndsAbove (with_dir name inner dirs) (name ∷ rest) behind → EndsAbove inner rest behind
+ends_inside name rest inner dirs behind (inl at_last) = inl at_last
+ends_inside name rest inner dirs behind (inr none) = inr (sym (ap (λ (d : Dirs). d rest) (inside_is name inner dirs)) ∙ none)
 
 -- entries below a list
 module _ (trees : Trees) where
@@ -159,22 +172,39 @@ module _ (trees : Trees) where
   told_shut : (name first : List ℕ) (path : Path) (dirs : Dirs) → dirs (name ∷ []) ≡ None → told_entry trees (name ∷ first ∷ path) dirs ≡ told_in trees (first ∷ path) (list_of trees (entry_of name (dirs [])))
   told_shut name first path dirs none = ap (λ o. shut_or_open o (told_in trees (first ∷ path) (list_of trees (entry_of name (dirs [])))) (told_entry trees (first ∷ path) (in_dir name dirs))) none
 
-  -- no tree's entry of the name
-  other_entry : (name : List ℕ) (dirs : Dirs) → ((e : EntryView) → HasAt (dirs []) e → e.name ≡ name → is_tree_mode e.mode ≡ false)
-      → (is_sought_tree (entry_of name (dirs [])) ≡ false) × (list_of trees (entry_of name (dirs [])) ≡ None)
-  other_entry name dirs other = by_cases (found_or_none (entry_of name (dirs [])))
+  -- nothing is below an id that isn't asked for
+  unasked_told : (it : ObjectId) → IsEmptyId it → (path : Path) → told_in trees path (tree_of trees it) ≡ None
+  unasked_told it empty path =
+      elim (is_null it) as (λ b. is_null it ≡ b → told_in trees path (cond b None (cond (is_empty_tree_id it) (Some []) (trees it))) ≡ None) [
+        | true ↦ λ null. told_none path
+        | false ↦ λ some. ap (λ b. told_in trees path (cond b (Some []) (trees it))) (is_empty empty some) ∙ told_nothing path
+      ] refl
     where
-      by_cases : (entry_of name (dirs []) ≡ None) ⊎ ((x : EntryView) × (entry_of name (dirs []) ≡ Some x)) → (is_sought_tree (entry_of name (dirs [])) ≡ false) × (list_of trees (entry_of name (dirs [])) ≡ None)
-      by_cases (inl none) = (ap is_sought_tree none, ap (list_of trees) none)
+      is_empty : IsEmptyId it → is_null it ≡ false → is_empty_tree_id it ≡ true
+      is_empty (inl null) some = absurd (let bad : true ≡ false = sym null ∙ some in cc bad)
+      is_empty (inr is) some = is_empty_id it is
+
+  -- no entry of the name, or one that isn't asked for
+  idle_entry : (name : List ℕ) (dirs : Dirs) → ((e : EntryView) → HasAt (dirs []) e → e.name ≡ name → IsUnasked e)
+      → (is_sought_tree (entry_of name (dirs [])) ≡ false) × ((path : Path) → told_in trees path (list_of trees (entry_of name (dirs []))) ≡ None)
+  idle_entry name dirs idle = by_cases (found_or_none (entry_of name (dirs [])))
+    where
+      by_kind : (e : EntryView) → IsUnasked e → (is_sought_tree (Some e) ≡ false) × ((path : Path) → told_in trees path (list_of trees (Some e)) ≡ None)
+      by_kind e (inl mode) = (ap (λ b. b && is_sought e.id) mode, λ path. ap (λ b. told_in trees path (cond b (tree_of trees e.id) None)) mode ∙ told_none path)
+      by_kind e (inr empty) = (
+        elim (is_tree_mode e.mode) as (λ b. (b && is_sought e.id) ≡ false) [ true ↦ unsought e.id empty | false ↦ refl ],
+        λ path. elim (is_tree_mode e.mode) as (λ b. told_in trees path (cond b (tree_of trees e.id) None) ≡ None) [ true ↦ unasked_told e.id empty path | false ↦ told_none path ],
+      )
+
+      by_cases : (entry_of name (dirs []) ≡ None) ⊎ ((x : EntryView) × (entry_of name (dirs []) ≡ Some x)) → (is_sought_tree (entry_of name (dirs [])) ≡ false) × ((path : Path) → told_in trees path (list_of trees (entry_of name (dirs []))) ≡ None)
+      by_cases (inl none) = (ap is_sought_tree none, λ path. ap (λ o. told_in trees path (list_of trees o)) none ∙ told_none path)
       by_cases (inr some) =
           let has = entry_has name (dirs []) some.0 some.1 in
-          let mode = other some.0 has.0 has.1 in
-          (ap is_sought_tree some.1 ∙ ap (λ b. b && is_sought (some.0.id)) mode, ap (list_of trees) some.1 ∙ ap (λ b. cond b (tree_of trees some.0.id) None) mode)
+          let it = by_kind some.0 (idle some.0 has.0 has.1) in
+          (ap is_sought_tree some.1 ∙ it.0, λ path. ap (λ o. told_in trees path (list_of trees o)) some.1 ∙ it.1 path)
 
-  stopped_here : (name first : List ℕ) (path : Path) (dirs : Dirs) → ((e : EntryView) → HasAt (dirs []) e → e.name ≡ name → is_tree_mode e.mode ≡ false) → ((path : Path) → dirs (name ∷ path) ≡ None)
-      → is_sought_tree (told_entry trees (name ∷ first ∷ path) dirs) ≡ false
-  stopped_here name first path dirs other none =
-      ap is_sought_tree (told_shut name first path dirs (none []) ∙ ap (told_in trees (first ∷ path)) (other_entry name dirs other).1 ∙ told_none (first ∷ path))
+  pub told_nowhere : (name first : List ℕ) (path : Path) (dirs : Dirs) → ((e : EntryView) → HasAt (dirs []) e → e.name ≡ name → IsUnasked e) → ((path : Path) → dirs (name ∷ path) ≡ None) → told_entry trees (name ∷ first ∷ path) dirs ≡ None
+  told_nowhere name first path dirs idle none = told_shut name first path dirs (none []) ∙ (idle_entry name dirs idle).1 (first ∷ path)
 
   -- a tree's entry that isn't open
   first_asked : (it : ObjectId) (entries : List EntryView) (first : List ObjectId) → Finds trees it entries first → length first ≡ one_if (is_sought it)
@@ -183,15 +213,7 @@ module _ (trees : Trees) where
 
   below_found : (it : ObjectId) (entries : List EntryView) (first : List ObjectId) → Finds trees it entries first → (path : Path) → told_in trees path (tree_of trees it) ≡ told_in trees path (Some entries)
   below_found it entries first (formed, inr (filled, is, asks)) path = let both = sought_if it filled in ap (told_in trees path) (ap (λ b. cond b None (cond (is_empty_tree_id it) (Some []) (trees it))) both.0 ∙ ap (λ b. cond b (Some []) (trees it)) both.1 ∙ is)
-  below_found it entries first (formed, inl (empty, nothing, none)) path =
-      elim (is_null it) as (λ b. is_null it ≡ b → told_in trees path (cond b None (cond (is_empty_tree_id it) (Some []) (trees it))) ≡ told_in trees path (Some entries)) [
-        | true ↦ λ null. told_none path ∙ sym (ap (λ es. told_in trees path (Some es)) nothing ∙ told_nothing path)
-        | false ↦ λ some. ap (told_in trees path) (ap (λ b. cond b (Some []) (trees it)) (is_empty empty some)) ∙ sym (ap (λ es. told_in trees path (Some es)) nothing)
-      ] refl
-    where
-      is_empty : IsEmptyId it → is_null it ≡ false → is_empty_tree_id it ≡ true
-      is_empty (inl null) some = absurd (let bad : true ≡ false = sym null ∙ some in cc bad)
-      is_empty (inr is) some = is_empty_id it is
+  below_found it entries first (formed, inl (empty, nothing, none)) path = unasked_told it empty path ∙ sym (ap (λ es. told_in trees path (Some es)) nothing ∙ told_nothing path)
 
   pub found_below : (name first : List ℕ) (path : Path) (dirs : Dirs) (e : EntryView) (entries : List EntryView) (asks : List ObjectId) → IsEntryOf name (dirs []) e → is_tree_mode e.mode ≡ true → dirs (name ∷ []) ≡ None → Finds trees e.id entries asks
       → told_entry trees (name ∷ first ∷ path) dirs ≡ told_entry trees (first ∷ path) (only entries)
@@ -220,35 +242,41 @@ module _ (trees : Trees) where
   unopened_here name dirs e entry tree none =
       ap (λ o. is_shut o && is_sought_tree (entry_of name (dirs []))) none ∙ ap is_sought_tree (the_entry name (dirs []) e entry) ∙ ap (λ b. b && is_sought e.id) tree
 
-  -- no directory of the name
-  pub unopened_nowhere : (name : List ℕ) (path : Path) (dirs : Dirs) → ((e : EntryView) → HasAt (dirs []) e → e.name ≡ name → is_tree_mode e.mode ≡ false) → ((path : Path) → dirs (name ∷ path) ≡ None) → is_unopened trees dirs (name ∷ path) ≡ false
-  unopened_nowhere name [] dirs other none = ap (λ o. is_shut o && is_sought_tree (entry_of name (dirs []))) (none []) ∙ (other_entry name dirs other).0
-  unopened_nowhere name (first ∷ path) dirs other none = ap (λ o. is_shut o && is_sought_tree (told_entry trees (name ∷ first ∷ path) dirs)) (none (first ∷ path)) ∙ stopped_here name first path dirs other none
+  -- no directory of the name that is asked for
+  pub unopened_nowhere : (name : List ℕ) (path : Path) (dirs : Dirs) → ((e : EntryView) → HasAt (dirs []) e → e.name ≡ name → IsUnasked e) → ((path : Path) → dirs (name ∷ path) ≡ None) → is_unopened trees dirs (name ∷ path) ≡ false
+  unopened_nowhere name [] dirs idle none = ap (λ o. is_shut o && is_sought_tree (entry_of name (dirs []))) (none []) ∙ (idle_entry name dirs idle).0
+  unopened_nowhere name (first ∷ path) dirs idle none = ap (λ o. is_shut o && is_sought_tree (told_entry trees (name ∷ first ∷ path) dirs)) (none (first ∷ path)) ∙ ap is_sought_tree (told_nowhere name first path dirs idle none)
 
   -- counts, a name deeper
-  pub count_open : (name : List ℕ) (rest : Path) (last : List ℕ) (dirs : Dirs) (entries : List EntryView) → dirs (name ∷ []) ≡ Some entries
-      → unopened_count trees dirs (name ∷ (rest ++ last ∷ [])) ≡ unopened_count trees (in_dir name dirs) (rest ++ last ∷ [])
-  count_open name rest last dirs entries is =
+  pub count_open : (name : List ℕ) (rest : Path) (last : List ℕ) (behind : Path) (dirs : Dirs) (entries : List EntryView) → dirs (name ∷ []) ≡ Some entries
+      → unopened_count trees dirs (name ∷ (rest ++ last ∷ behind)) ≡ unopened_count trees (in_dir name dirs) (rest ++ last ∷ behind)
+  count_open name rest last behind dirs entries is =
       let here : one_if (is_unopened trees dirs (name ∷ [])) ≡ 0 = ap (λ o. one_if (is_shut o && is_sought_tree (entry_of name (dirs [])))) is in
-      let below = same_passes (λ q. is_unopened trees dirs (name ∷ q)) (is_unopened trees (in_dir name dirs)) (λ first q. unopened_open name first q dirs entries is) (rest ++ last ∷ []) in
-      omega (arith, passes_deeper (is_unopened trees dirs) name rest last, here, below)
+      let below = same_passes (λ q. is_unopened trees dirs (name ∷ q)) (is_unopened trees (in_dir name dirs)) (λ first q. unopened_open name first q dirs entries is) (rest ++ last ∷ behind) in
+      omega (arith, passes_deeper (is_unopened trees dirs) name rest last behind, here, below)
 
-  pub count_found : (name : List ℕ) (rest : Path) (last : List ℕ) (dirs : Dirs) (e : EntryView) (entries : List EntryView) (first : List ObjectId) → IsEntryOf name (dirs []) e → is_tree_mode e.mode ≡ true → ((path : Path) → dirs (name ∷ path) ≡ None)
-      → Finds trees e.id entries first → unopened_count trees dirs (name ∷ (rest ++ last ∷ [])) ≡ length first + unopened_count trees (only entries) (rest ++ last ∷ [])
-  count_found name rest last dirs e entries first entry tree none finds =
+  pub count_found : (name : List ℕ) (rest : Path) (last : List ℕ) (behind : Path) (dirs : Dirs) (e : EntryView) (entries : List EntryView) (first : List ObjectId) → IsEntryOf name (dirs []) e → is_tree_mode e.mode ≡ true → ((path : Path) → dirs (name ∷ path) ≡ None)
+      → Finds trees e.id entries first → unopened_count trees dirs (name ∷ (rest ++ last ∷ behind)) ≡ length first + unopened_count trees (only entries) (rest ++ last ∷ behind)
+  count_found name rest last behind dirs e entries first entry tree none finds =
       let here : one_if (is_unopened trees dirs (name ∷ [])) ≡ length first = ap one_if (unopened_here name dirs e entry tree (none [])) ∙ sym (first_asked e.id entries first finds) in
-      let below = same_passes (λ q. is_unopened trees dirs (name ∷ q)) (is_unopened trees (only entries)) (λ next q. unopened_found name next q dirs e entries first entry tree none finds) (rest ++ last ∷ []) in
-      omega (arith, passes_deeper (is_unopened trees dirs) name rest last, here, below)
+      let below = same_passes (λ q. is_unopened trees dirs (name ∷ q)) (is_unopened trees (only entries)) (λ next q. unopened_found name next q dirs e entries first entry tree none finds) (rest ++ last ∷ behind) in
+      omega (arith, passes_deeper (is_unopened trees dirs) name rest last behind, here, below)
 
-  pub count_vain : (name : List ℕ) (rest : Path) (last : List ℕ) (dirs : Dirs) (e : EntryView) → IsEntryOf name (dirs []) e → is_tree_mode e.mode ≡ true → dirs (name ∷ []) ≡ None → (IsEmptyId e.id → ⊥) → 1 ≤ unopened_count trees dirs (name ∷ (rest ++ last ∷ []))
-  count_vain name rest last dirs e entry tree none filled =
+  pub count_vain : (name : List ℕ) (rest : Path) (last : List ℕ) (behind : Path) (dirs : Dirs) (e : EntryView) → IsEntryOf name (dirs []) e → is_tree_mode e.mode ≡ true → dirs (name ∷ []) ≡ None → (IsEmptyId e.id → ⊥)
+      → 1 ≤ unopened_count trees dirs (name ∷ (rest ++ last ∷ behind))
+  count_vain name rest last behind dirs e entry tree none filled =
       let here : one_if (is_unopened trees dirs (name ∷ [])) ≡ 1 = ap one_if (unopened_here name dirs e entry tree none ∙ sought e.id filled) in
-      omega (arith, passes_deeper (is_unopened trees dirs) name rest last, here)
+      omega (arith, passes_deeper (is_unopened trees dirs) name rest last behind, here)
 
-  pub asked_count : (path : Path) (last : List ℕ) (dirs new : Dirs) (asked : List ObjectId) → Opens trees path dirs new asked → length asked ≡ unopened_count trees dirs (path ++ last ∷ [])
-  asked_count path last dirs new asked (arrived d) = refl
-  asked_count path last dirs new asked (stops name rest d other none) =
-      sym (passes_deeper_none (is_unopened trees d) name rest last (unopened_nowhere name [] d other none) (λ first q. unopened_nowhere name (first ∷ q) d other none))
-  asked_count path last dirs new asked (down name rest d inner e entries more has named is opens) = asked_count rest last (in_dir name d) inner more opens ∙ sym (count_open name rest last d entries is)
-  asked_count path last dirs new asked (found name rest d inner e entries first more entry tree none finds opens) =
-      omega (arith, length-append first more, count_found name rest last d e entries first entry tree none finds, asked_count rest last (only entries) inner more opens)
+  -- where the opening comes to the directory of the last name, or ends before, it asked for each unopened directory above the path
+  pub asked_count : {Ends : EntryView → Type 0} → IsIdle Ends → (path : Path) (last : List ℕ) (behind : Path) (dirs new : Dirs) (asked : List ObjectId) → Opens Ends trees path dirs new asked → dirs [] ≢ None → EndsAbove new path behind
+      → length asked ≡ unopened_count trees dirs (path ++ last ∷ behind)
+  asked_count idle path last behind dirs new asked (arrived d) root (inl at_last) = sym (ap (λ q. unopened_count trees d (last ∷ q)) at_last)
+  asked_count idle path last behind dirs new asked (arrived d) root (inr none) = absurd (root none)
+  asked_count idle path last behind dirs new asked (stops name rest d other none) root ends =
+      sym (passes_deeper_none (is_unopened trees d) name rest last behind (unopened_nowhere name [] d (λ e h n. idle e (other e h n)) none) (λ first q. unopened_nowhere name (first ∷ q) d (λ e h n. idle e (other e h n)) none))
+  asked_count idle path last behind dirs new asked (down name rest d inner e entries more has named is opens) root ends =
+      asked_count idle rest last behind (in_dir name d) inner more opens (λ none. let bad : Some entries ≡ None = sym is ∙ none in cc bad) (ends_inside name rest inner d behind ends) ∙ sym (count_open name rest last behind d entries is)
+  asked_count idle path last behind dirs new asked (found name rest d inner e entries first more entry tree free none finds opens) root ends =
+      omega (arith, length-append first more, count_found name rest last behind d e entries first entry tree none finds,
+      asked_count idle rest last behind (only entries) inner more opens (λ nothing. let bad : Some entries ≡ None = nothing in cc bad) (ends_inside name rest inner d behind ends))

@@ -83,11 +83,20 @@ abbrev pub counted : ℕ → List ObjectId → ℕ
 counted n [] = n
 counted n (id ∷ asked) = counted (min (n + 1) 18446744073709551615) asked
 
--- each directory on the path is opened, from the top, until there is none: which are open then, and the ids asked for
-pub data Opens (trees : Trees) : Path → Dirs → Dirs → List ObjectId → Type 0 where
-  arrived : (dirs : Dirs) → Opens trees [] dirs dirs []
-  stops : (name : List ℕ) (rest : Path) (dirs : Dirs) → ((e : EntryView) → HasAt (dirs []) e → e.name ≡ name → is_tree_mode e.mode ≡ false) → ((path : Path) → dirs (name ∷ path) ≡ None) → Opens trees (name ∷ rest) dirs dirs []
+-- an opening may end before an entry that is no tree's; or before one that the store isn't asked for too, by the null id or the empty
+-- tree's
+abbrev pub IsNoTree : EntryView → Type 0
+IsNoTree e = is_tree_mode e.mode ≡ false
+
+abbrev pub IsUnasked : EntryView → Type 0
+IsUnasked e = IsNoTree e ⊎ IsEmptyId e.id
+
+-- each directory on the path is opened, from the top, until there is none or the opening ends before its entry: which are open then,
+-- and the ids asked for
+pub data Opens (Ends : EntryView → Type 0) (trees : Trees) : Path → Dirs → Dirs → List ObjectId → Type 0 where
+  arrived : (dirs : Dirs) → Opens Ends trees [] dirs dirs []
+  stops : (name : List ℕ) (rest : Path) (dirs : Dirs) → ((e : EntryView) → HasAt (dirs []) e → e.name ≡ name → Ends e) → ((path : Path) → dirs (name ∷ path) ≡ None) → Opens Ends trees (name ∷ rest) dirs dirs []
   down : (name : List ℕ) (rest : Path) (dirs inner : Dirs) (e : EntryView) (entries : List EntryView) (asked : List ObjectId) → HasAt (dirs []) e → e.name ≡ name → dirs (name ∷ []) ≡ Some entries
-      → Opens trees rest (in_dir name dirs) inner asked → Opens trees (name ∷ rest) dirs (with_dir name inner dirs) asked
-  found : (name : List ℕ) (rest : Path) (dirs inner : Dirs) (e : EntryView) (entries : List EntryView) (first asked : List ObjectId) → IsEntryOf name (dirs []) e → is_tree_mode e.mode ≡ true → ((path : Path) → dirs (name ∷ path) ≡ None)
-      → Finds trees e.id entries first → Opens trees rest (only entries) inner asked → Opens trees (name ∷ rest) dirs (with_dir name inner dirs) (first ++ asked)
+      → Opens Ends trees rest (in_dir name dirs) inner asked → Opens Ends trees (name ∷ rest) dirs (with_dir name inner dirs) asked
+  found : (name : List ℕ) (rest : Path) (dirs inner : Dirs) (e : EntryView) (entries : List EntryView) (first asked : List ObjectId) → IsEntryOf name (dirs []) e → is_tree_mode e.mode ≡ true → (Ends e → ⊥) → ((path : Path) → dirs (name ∷ path) ≡ None)
+      → Finds trees e.id entries first → Opens Ends trees rest (only entries) inner asked → Opens Ends trees (name ∷ rest) dirs (with_dir name inner dirs) (first ++ asked)

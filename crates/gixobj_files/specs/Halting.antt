@@ -1,5 +1,5 @@
 -- Where the opening of the directories on a path comes to a halt.
-use Rattle.std.specs.Prelude.{◌≡◌, ◌++◌, ℕ, true, List, [], ◌∷◌, Option, Some, None}
+use Rattle.std.specs.Prelude.{◌≡◌, ◌⊎◌, ◌++◌, ℕ, true, List, [], ◌∷◌, Option, Some, None}
 use Rattle.gixobj_trees.specs.Entries.{EntryView}
 use Rattle.gixobj_trees.specs.Mode.{is_tree_mode}
 use Rattle.gixobj_ids.specs.declared.hash.object_id.ObjectId.{ObjectId}
@@ -11,14 +11,14 @@ use Rattle.gixobj_files.specs.Unopened.{is_unopened, told_entry}
 
 -- the opening of the directories on a path came to a halt: which are open then, the ids asked for, and the id whose tree wasn't
 -- opened, if one was asked for in vain
-pub data Halts (trees : Trees) : Path → Dirs → Dirs → List ObjectId → Option ObjectId → Type 0 where
-  at_once : (path : Path) (dirs : Dirs) → Halts trees path dirs dirs [] None
-  in_vain : (name : List ℕ) (rest : Path) (dirs : Dirs) (e : EntryView) → IsEntryOf name (dirs []) e → is_tree_mode e.mode ≡ true → ((path : Path) → dirs (name ∷ path) ≡ None) → (IsEmptyId e.id → ⊥)
-      → Halts trees (name ∷ rest) dirs dirs (e.id ∷ []) (Some e.id)
+pub data Halts (Ends : EntryView → Type 0) (trees : Trees) : Path → Dirs → Dirs → List ObjectId → Option ObjectId → Type 0 where
+  at_once : (name : List ℕ) (rest : Path) (dirs : Dirs) (e : EntryView) → IsEntryOf name (dirs []) e → is_tree_mode e.mode ≡ true → (Ends e → ⊥) → ((path : Path) → dirs (name ∷ path) ≡ None) → Halts Ends trees (name ∷ rest) dirs dirs [] None
+  in_vain : (name : List ℕ) (rest : Path) (dirs : Dirs) (e : EntryView) → IsEntryOf name (dirs []) e → is_tree_mode e.mode ≡ true → (Ends e → ⊥) → ((path : Path) → dirs (name ∷ path) ≡ None) → (IsEmptyId e.id → ⊥)
+      → Halts Ends trees (name ∷ rest) dirs dirs (e.id ∷ []) (Some e.id)
   down : (name : List ℕ) (rest : Path) (dirs inner : Dirs) (e : EntryView) (entries : List EntryView) (asked : List ObjectId) (vain : Option ObjectId) → HasAt (dirs []) e → e.name ≡ name → dirs (name ∷ []) ≡ Some entries
-      → Halts trees rest (in_dir name dirs) inner asked vain → Halts trees (name ∷ rest) dirs (with_dir name inner dirs) asked vain
-  found : (name : List ℕ) (rest : Path) (dirs inner : Dirs) (e : EntryView) (entries : List EntryView) (first asked : List ObjectId) (vain : Option ObjectId) → IsEntryOf name (dirs []) e → is_tree_mode e.mode ≡ true
-      → ((path : Path) → dirs (name ∷ path) ≡ None) → Finds trees e.id entries first → Halts trees rest (only entries) inner asked vain → Halts trees (name ∷ rest) dirs (with_dir name inner dirs) (first ++ asked) vain
+      → Halts Ends trees rest (in_dir name dirs) inner asked vain → Halts Ends trees (name ∷ rest) dirs (with_dir name inner dirs) asked vain
+  found : (name : List ℕ) (rest : Path) (dirs inner : Dirs) (e : EntryView) (entries : List EntryView) (first asked : List ObjectId) (vain : Option ObjectId) → IsEntryOf name (dirs []) e → is_tree_mode e.mode ≡ true → (Ends e → ⊥)
+      → ((path : Path) → dirs (name ∷ path) ≡ None) → Finds trees e.id entries first → Halts Ends trees rest (only entries) inner asked vain → Halts Ends trees (name ∷ rest) dirs (with_dir name inner dirs) (first ++ asked) vain
 
 -- the place is one above the path and below the root
 abbrev pub IsAbove : Path → Path → Type 0
@@ -32,3 +32,10 @@ pub record IsUnopenedAbove (trees : Trees) (dirs : Dirs) (path : Path) (id : Obj
   pub unopened : is_unopened trees dirs place ≡ true
   pub told : told_entry trees place dirs ≡ Some entry
   pub named : entry.id ≡ id
+
+-- the opening of a path comes to the directory at this place: the root, an open one, or one whose entry the opening doesn't end before
+-- and whose tree is known
+abbrev pub ComesTo : (EntryView → Type 0) → Trees → Dirs → Path → Type 0
+ComesTo Ends trees dirs place =
+    (place ≡ []) ⊎ ((entries : List EntryView) × (dirs place ≡ Some entries))
+    ⊎ ((e : EntryView) × (told_entry trees place dirs ≡ Some e) × (is_tree_mode e.mode ≡ true) × (Ends e → ⊥) × (IsEmptyId e.id ⊎ ((entries : List EntryView) × (trees e.id ≡ Some entries))))
