@@ -13,14 +13,18 @@ use Rattle.gixobj_ids.specs.declared.hash.object_id.ObjectId.{ObjectId}
 use Rattle.bstr.specs.declared.bstring.BString.{BString}
 use Rattle.gixobj_directories.specs.Calls.{names_of}
 use Rattle.gixobj_files.specs.Editing.{same_name}
-use Rattle.gixobj_files.specs.Edits.{Finds, IsEntryOf, Opens, arrived, counted, down, found, only, stops, with_dir}
+use Rattle.gixobj_files.specs.Edits.{Finds, IsEntryOf, Opens, counted, down, found, only, stops, with_dir}
 use Rattle.gixobj_files.specs.Files.{Has, Path, Trees}
 use Rattle.gixobj_directories.specs.Nested.{IsLevel, Opened, Part, dirs_of, in_part, opened, part, parts}
 use Rattle.gixobj_files.specs.Halting.{Halts, at_once, in_vain}
 use Rattle.gixobj_files.specs.Halting as halting
 use Rattle.gixobj_files.specs.Opening.{Dirs, HasAt, IsOpened, in_dir}
 use Rattle.gixobj_files.specs.Tables.{IsEmptyId}
+use Rattle.gixobj_directories.specs.Openings.{EndsBefore}
 use Rattle.gixobj_directories.specs.declared.open.Child.{Child}
+use Rattle.gixobj_directories.specs.declared.opening.Unasked.{Unasked}
+use Rattle.gixobj_directories.specs.declared.opening.Unasked.TheVariants as unasked
+use Rattle.gixobj_files.proofs.UnopenedCounts.{IsIdle}
 use Rattle.gixobj_files.proofs.StillOpenedOpenings.{opened_in_dir, opened_only, opened_with_dir}
 use Rattle.gixobj_files.proofs.HasTrees.{has_tree_of, of_has_tree}
 use Rattle.gixobj_directories.proofs.Levels.{at_name, called, child_above, level_pushed, level_set, push_becomes, set_becomes}
@@ -91,8 +95,8 @@ GoesIn Fits R =
     (name : List ℕ) (rest : Path) (dirs inner : Dirs) (e : EntryView) (entries : List EntryView) (first asked : List ObjectId) → IsEntryOf name (dirs []) e → is_tree_mode e.mode ≡ true → ((path : Path) → dirs (name ∷ path) ≡ None)
     → Fits e entries first → R rest (only entries) inner asked → R (name ∷ rest) dirs (with_dir name inner dirs) (first ++ asked)
 
-pub stop_step : (trees : Trees) (es : List EntryView) (ps : List Part) → IsLevel es ps → (name : List ℕ) (rest : Path) → ((path : Path) → in_part name ps path ≡ None) → ((e : EntryView) → Has es e → e.name ≡ name → is_tree_mode e.mode ≡ false)
-    → Opens trees (name ∷ rest) (dirs_of (opened es ps)) (dirs_of (opened es ps)) []
+pub stop_step : {Ends : EntryView → Type 0} (trees : Trees) (es : List EntryView) (ps : List Part) → IsLevel es ps → (name : List ℕ) (rest : Path) → ((path : Path) → in_part name ps path ≡ None) → ((e : EntryView) → Has es e → e.name ≡ name → Ends e)
+    → Opens Ends trees (name ∷ rest) (dirs_of (opened es ps)) (dirs_of (opened es ps)) []
 stop_step trees es ps level name rest none other = stops name rest (dirs_of (opened es ps)) other (λ path. at_name es ps name path level.apart ∙ none path)
 
 module _ (Fits : EntryView → List EntryView → List ObjectId → Type 0) (R : Path → Dirs → Dirs → List ObjectId → Type 0) (goes_down : GoesDown R) (goes_in : GoesIn Fits R) (es : List EntryView) where
@@ -127,10 +131,10 @@ copied_none r o is none = sym is ∙ ap option_copied none
 pub none_weaker : {X : Type 0} (r : Option X) (P : Type 0) → r ≡ None → P → IfNone r P
 none_weaker r P is p = subst (λ (o : Option _). IfNone o P) (sym is) p
 
-pub stop_in : (trees : Trees) (es : List EntryView) (ds : Opened) (path : Path) (name : List ℕ) (rest : Path) → path ≡ name ∷ rest → (ps : List Part) → opened es ps ≡ ds → IsLevel es ps → ((at : Path) → in_part name ps at ≡ None)
-    → ((e : EntryView) → Has es e → e.name ≡ name → is_tree_mode e.mode ≡ false) → Opens trees path (dirs_of ds) (dirs_of ds) []
-stop_in trees es ds path name rest path_is ps view level none other =
-    subst (λ p. Opens trees p (dirs_of ds) (dirs_of ds) []) (sym path_is) (subst (λ (d : Opened). Opens trees (name ∷ rest) (dirs_of d) (dirs_of d) []) view (stop_step trees es ps level name rest none other))
+pub stop_in : {Ends : EntryView → Type 0} (trees : Trees) (es : List EntryView) (ds : Opened) (path : Path) (name : List ℕ) (rest : Path) → path ≡ name ∷ rest → (ps : List Part) → opened es ps ≡ ds → IsLevel es ps → ((at : Path) → in_part name ps at ≡ None)
+    → ((e : EntryView) → Has es e → e.name ≡ name → Ends e) → Opens Ends trees path (dirs_of ds) (dirs_of ds) []
+stop_in {Ends = Ends} trees es ds path name rest path_is ps view level none other =
+    subst (λ p. Opens Ends trees p (dirs_of ds) (dirs_of ds) []) (sym path_is) (subst (λ (d : Opened). Opens Ends trees (name ∷ rest) (dirs_of d) (dirs_of d) []) view (stop_step trees es ps level name rest none other))
 
 -- the same, for a level seen whole and a path that is known by parts
 module _ (Fits : EntryView → List EntryView → List ObjectId → Type 0) (R : Path → Dirs → Dirs → List ObjectId → Type 0) (goes_down : GoesDown R) (goes_in : GoesIn Fits R) (es : List EntryView) (ds : Opened) (path : Path) (name : List ℕ) (rest : Path) (path_is : path ≡ name ∷ rest) where
@@ -165,43 +169,48 @@ pub on_err : {X E : Type 0} (r : Result X E) (P : Type 0) → P → OnErr r P
 on_err (Ok x) P p = tt
 on_err (Err error) P p = p
 
--- nothing was opened
-pub arrived_in : (trees : Trees) (es : List EntryView) (ds : Opened) (cs new : List Child) → opened es (parts cs) ≡ ds → new ≡ cs → Opens trees [] (dirs_of ds) (dirs_of (opened es (parts new))) []
-arrived_in trees es ds cs new view same = subst (λ (d : Opened). Opens trees [] (dirs_of ds) (dirs_of d) []) (sym (ap (λ (l : List Child). opened es (parts l)) same ∙ view)) (arrived (dirs_of ds))
-
 -- what an entry's directory is opened with
-abbrev pub OpensAs : Trees → EntryView → List EntryView → List ObjectId → Type 0
-OpensAs trees e entries first = Finds trees e.id entries first
+abbrev pub OpensAs : (EntryView → Type 0) → Trees → EntryView → List EntryView → List ObjectId → Type 0
+OpensAs Ends trees e entries first = (Ends e → ⊥) × Finds trees e.id entries first
+
+-- an opening ends at most before entries that the store isn't asked for
+pub ends_idle : (it : Unasked) → IsIdle (EndsBefore it)
+ends_idle unasked.Opened e other = inl other
+ends_idle unasked.Left e idle = idle
 
 -- openings and halts go on alike
-pub opens_down : (trees : Trees) → GoesDown (Opens trees)
-opens_down trees name rest dirs inner e entries asked has named is opens = down name rest dirs inner e entries asked has named is opens
+pub opens_down : (Ends : EntryView → Type 0) (trees : Trees) → GoesDown (Opens Ends trees)
+opens_down Ends trees name rest dirs inner e entries asked has named is opens = down name rest dirs inner e entries asked has named is opens
 
-pub opens_in : (trees : Trees) → GoesIn (OpensAs trees) (Opens trees)
-opens_in trees name rest dirs inner e entries first asked entry tree none finds opens = found name rest dirs inner e entries first asked entry tree none finds opens
+pub opens_in : (Ends : EntryView → Type 0) (trees : Trees) → GoesIn (OpensAs Ends trees) (Opens Ends trees)
+opens_in Ends trees name rest dirs inner e entries first asked entry tree none finds opens = found name rest dirs inner e entries first asked entry tree finds.0 none finds.1 opens
 
-abbrev pub HaltsAt : Trees → Option ObjectId → Path → Dirs → Dirs → List ObjectId → Type 0
-HaltsAt trees vain path old new asked = Halts trees path old new asked vain
+abbrev pub HaltsAt : (EntryView → Type 0) → Trees → Option ObjectId → Path → Dirs → Dirs → List ObjectId → Type 0
+HaltsAt Ends trees vain path old new asked = Halts Ends trees path old new asked vain
 
-pub halts_down : (trees : Trees) (vain : Option ObjectId) → GoesDown (HaltsAt trees vain)
-halts_down trees vain name rest dirs inner e entries asked has named is halts = halting.down name rest dirs inner e entries asked vain has named is halts
+pub halts_down : (Ends : EntryView → Type 0) (trees : Trees) (vain : Option ObjectId) → GoesDown (HaltsAt Ends trees vain)
+halts_down Ends trees vain name rest dirs inner e entries asked has named is halts = halting.down name rest dirs inner e entries asked vain has named is halts
 
-pub halts_in : (trees : Trees) (vain : Option ObjectId) → GoesIn (OpensAs trees) (HaltsAt trees vain)
-halts_in trees vain name rest dirs inner e entries first asked entry tree none finds halts = halting.found name rest dirs inner e entries first asked vain entry tree none finds halts
+pub halts_in : (Ends : EntryView → Type 0) (trees : Trees) (vain : Option ObjectId) → GoesIn (OpensAs Ends trees) (HaltsAt Ends trees vain)
+halts_in Ends trees vain name rest dirs inner e entries first asked entry tree none finds halts = halting.found name rest dirs inner e entries first asked vain entry tree finds.0 none finds.1 halts
 
--- nothing was opened, since there was no memory
-pub nothing_opened : (trees : Trees) (path : Path) (es : List EntryView) (ds : Opened) (cs new : List Child) → opened es (parts cs) ≡ ds → new ≡ cs → Halts trees path (dirs_of ds) (dirs_of (opened es (parts new))) [] None
-nothing_opened trees path es ds cs new view same =
-    subst (λ (d : Opened). Halts trees path (dirs_of ds) (dirs_of d) [] None) (sym (ap (λ (l : List Child). opened es (parts l)) same ∙ view)) (at_once path (dirs_of ds))
+-- nothing was opened: a halt at a level that stays as it is
+pub halted_here : (Ends : EntryView → Type 0) (trees : Trees) (path : Path) (name : List ℕ) (rest : Path) (es : List EntryView) (ds : Opened) (cs new : List Child) → path ≡ name ∷ rest → opened es (parts cs) ≡ ds → new ≡ cs → (asked : List ObjectId) (vain : Option ObjectId)
+    → Halts Ends trees (name ∷ rest) (dirs_of (opened es (parts cs))) (dirs_of (opened es (parts cs))) asked vain → Halts Ends trees path (dirs_of ds) (dirs_of (opened es (parts new))) asked vain
+halted_here Ends trees path name rest es ds cs new path_is view same asked vain halts =
+    subst (λ p. Halts Ends trees p (dirs_of ds) (dirs_of (opened es (parts new))) asked vain) (sym path_is)
+    (subst (λ (d : Opened). Halts Ends trees (name ∷ rest) (dirs_of ds) (dirs_of d) asked vain) (sym (ap (λ (l : List Child). opened es (parts l)) same ∙ view))
+    (subst (λ (d : Opened). Halts Ends trees (name ∷ rest) (dirs_of d) (dirs_of d) asked vain) view halts))
 
--- nothing was opened, since the directory of the name wasn't found
-pub none_found : (trees : Trees) (path : Path) (name : List ℕ) (rest : Path) (es : List EntryView) (ds : Opened) (cs new : List Child) → path ≡ name ∷ rest → opened es (parts cs) ≡ ds → new ≡ cs → IsLevel es (parts cs) → ((at : Path) → in_part name (parts cs) at ≡ None)
-    → (e : EntryView) → IsEntryOf name (Some es) e → is_tree_mode e.mode ≡ true → (IsEmptyId e.id → ⊥) → Halts trees path (dirs_of ds) (dirs_of (opened es (parts new))) (e.id ∷ []) (Some e.id)
-none_found trees path name rest es ds cs new path_is view same level none e entry tree filled =
-    subst (λ p. Halts trees p (dirs_of ds) (dirs_of (opened es (parts new))) (e.id ∷ []) (Some e.id)) (sym path_is)
-    (subst (λ (d : Opened). Halts trees (name ∷ rest) (dirs_of ds) (dirs_of d) (e.id ∷ []) (Some e.id)) (sym (ap (λ (l : List Child). opened es (parts l)) same ∙ view))
-    (subst (λ (d : Opened). Halts trees (name ∷ rest) (dirs_of d) (dirs_of d) (e.id ∷ []) (Some e.id)) view
-    (in_vain name rest (dirs_of (opened es (parts cs))) e entry tree (λ at. at_name es (parts cs) name at level.apart ∙ none at) filled)))
+-- since there was no memory
+pub no_memory : (Ends : EntryView → Type 0) (trees : Trees) (name : List ℕ) (rest : Path) (es : List EntryView) (cs : List Child) → IsLevel es (parts cs) → ((at : Path) → in_part name (parts cs) at ≡ None) → (e : EntryView) → IsEntryOf name (Some es) e → is_tree_mode e.mode ≡ true → (Ends e → ⊥)
+    → Halts Ends trees (name ∷ rest) (dirs_of (opened es (parts cs))) (dirs_of (opened es (parts cs))) [] None
+no_memory Ends trees name rest es cs level none e entry tree free = at_once name rest (dirs_of (opened es (parts cs))) e entry tree free (λ at. at_name es (parts cs) name at level.apart ∙ none at)
+
+-- since the directory of the name wasn't found
+pub none_found : (Ends : EntryView → Type 0) (trees : Trees) (name : List ℕ) (rest : Path) (es : List EntryView) (cs : List Child) → IsLevel es (parts cs) → ((at : Path) → in_part name (parts cs) at ≡ None) → (e : EntryView) → IsEntryOf name (Some es) e → is_tree_mode e.mode ≡ true → (Ends e → ⊥)
+    → (IsEmptyId e.id → ⊥) → Halts Ends trees (name ∷ rest) (dirs_of (opened es (parts cs))) (dirs_of (opened es (parts cs))) (e.id ∷ []) (Some e.id)
+none_found Ends trees name rest es cs level none e entry tree free filled = in_vain name rest (dirs_of (opened es (parts cs))) e entry tree free (λ at. at_name es (parts cs) name at level.apart ∙ none at) filled
 
 -- and so does what open directories are
 abbrev pub StaysOpened : Path → Dirs → Dirs → List ObjectId → Type 0

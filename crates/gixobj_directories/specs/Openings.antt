@@ -2,6 +2,7 @@
 use Rattle.std.specs.Prelude.{◌≡◌, Bool, List, Option, Some, None, ⊤}
 use Rattle.gixobj_data.specs.Stores.{Objects}
 use Rattle.gixobj_data.specs.declared.find.Error.TheVariants as find
+use Rattle.gixobj_files.specs.Edits.{IsNoTree, IsUnasked}
 use Rattle.gixobj_files.specs.Files.{Trees}
 use Rattle.gixobj_ids.specs.declared.decode.Error.TheVariants as decode
 use Rattle.gixobj_ids.specs.declared.hash.object_id.ObjectId.{ObjectId}
@@ -13,6 +14,13 @@ use Rattle.gixobj_tree_readers.specs.TreeReading.{IsTreeText}
 use Rattle.gixobj_trees.specs.Entries.{EntryView, IsWellFormed}
 use Rattle.gixobj_directories.specs.declared.opening.Error.{Error}
 use Rattle.gixobj_directories.specs.declared.opening.Error.TheVariants as opening
+use Rattle.gixobj_directories.specs.declared.opening.Unasked.{Unasked}
+use Rattle.gixobj_directories.specs.declared.opening.Unasked.TheVariants as unasked
+
+-- the entries that an opening ends before
+abbrev pub EndsBefore : Unasked → EntryView → Type 0
+EndsBefore unasked.Opened = IsNoTree
+EndsBefore unasked.Left = IsUnasked
 
 -- the id names a well-formed tree of these entries
 abbrev pub NamesTree : Objects → ObjectId → List EntryView → Type 0

@@ -1,15 +1,18 @@
 //! Opening the directories on a path, whose trees are looked up in a store.
-ghost use Rattle.std.specs.Prelude.{◌≡◌, ◌∷◌, [], IfErr, IfOk, List, OnErr, OnOk, Option, Some};
+ghost use Rattle.std.specs.Prelude.{◌≡◌, ◌↔◌, ◌∷◌, [], IfErr, IfNone, IfOk, IfSome, IsTrue, List, OnErr, OnOk, Option, Some, true};
+ghost use Rattle.bstr.specs.Owned.{bstring_bytes};
 ghost use Rattle.gixobj_trees.specs.Entries.{EntryView, IsWellFormed};
-ghost use Rattle.gixobj_files.specs.Edits.{Finds, Opens, counted};
-ghost use Rattle.gixobj_files.specs.Files.{Trees};
+ghost use Rattle.gixobj_trees.specs.Mode.{is_tree_mode};
+ghost use Rattle.gixobj_files.specs.Edits.{Finds, IsEntryOf, Opens, counted};
+ghost use Rattle.gixobj_files.specs.Files.{Has, Trees};
 ghost use Rattle.gixobj_files.specs.Halting.{Halts};
 ghost use Rattle.gixobj_files.specs.Opening.{IsOpened};
 ghost use Rattle.gixobj_files.specs.Tables.{IsEmptyId};
 ghost use Rattle.gixobj_ids.specs.declared.hash.object_id.ObjectId.{ObjectId};
 ghost use Rattle.gixobj_directories.specs.Calls.{names_of};
 ghost use Rattle.gixobj_directories.specs.Nested.{dirs_of};
-ghost use Rattle.gixobj_directories.specs.Openings.{AreTreesOf, NamesTree, RefusesAt, RefusesDirectory};
+ghost use Rattle.gixobj_directories.specs.Openings.{AreTreesOf, EndsBefore, NamesTree, RefusesAt, RefusesDirectory};
+ghost use Rattle.gixobj_directories.specs.declared.opening.Unasked.TheVariants.{Left};
 
 use crate::open::{Open, child_at, push_child, room_for, tree_id};
 use bstr::BString;
@@ -73,6 +76,47 @@ impl From<existing_object::Error> for Error {
     }
 }
 
+/// What an opening does at a directory that the store isn't asked for: one of the null id, or of the empty tree's.
+#[derive(Clone, Copy, Debug, PartialEq, Eq)]
+pub enum Unasked {
+    /// It is opened as empty.
+    Opened,
+    /// The opening ends above it.
+    Left,
+}
+
+impl Unasked {
+    /// Whether an opening ends above a directory of this id.
+    fn leaves(self, id: ObjectId) -> bool
+        ensures { IsTrue result ↔ ((self ≡ Left) × IsEmptyId id) }
+    {
+        match self {
+            Unasked::Opened => false,
+            Unasked::Left => is_unasked(id),
+        }
+    }
+}
+
+/// Whether the store isn't asked for an id: the null id, and that of the empty tree.
+fn is_unasked(id: ObjectId) -> bool
+    ensures { IsTrue result ↔ IsEmptyId id }
+{
+    id.is_null() || id.is_empty_tree()
+}
+
+/// The id of the directory of a name, where there is one and an opening goes into it.
+fn next_id(tree: &Tree, name: &BString, unasked: Unasked) -> Option<ObjectId>
+    requires { IsWellFormed tree.now }
+    ensures some { IfSome result (λ id. (e : EntryView) × IsEntryOf (bstring_bytes name.now) (Some tree.now) e × (is_tree_mode e.mode ≡ true) × (EndsBefore unasked e → ⊥) × (e.id ≡ id)) }
+    ensures none { IfNone result ((e : EntryView) → Has tree.now e → e.name ≡ bstring_bytes name.now → EndsBefore unasked e) }
+{
+    let id = tree_id(tree, name)?;
+    if unasked.leaves(id) {
+        return None;
+    }
+    Some(id)
+}
+
 /// The tree that a store has by an id.
 fn find_directory<S: Find>(alloc: Global, store: &S, id: ObjectId) -> Result<Tree, Error>
     requires { IsEmptyId id → ⊥ }
@@ -96,10 +140,7 @@ fn load<S: Find>(alloc: Global, store: &S, id: ObjectId, lookups: &mut u64) -> R
     ensures asked { OnErr result ((IsEmptyId id → ⊥) × (lookups.new ≡ counted lookups.old (id ∷ []))) }
     ensures refusal { IfErr result (RefusesDirectory (S.objects store.now) (S.may_fail store.now) id) }
 {
-    if id.is_null() {
-        return Ok(Tree::empty(alloc));
-    }
-    if id.is_empty_tree() {
+    if is_unasked(id) {
         return Ok(Tree::empty(alloc));
     }
     *lookups = lookups.saturating_add(1);
@@ -108,8 +149,9 @@ fn load<S: Find>(alloc: Global, store: &S, id: ObjectId, lookups: &mut u64) -> R
 
 impl Open {
     /// Opens each directory on a path, from the top, until there is none. An open one stays as it is; another
-    /// is looked up in the store by the id of its entry, but for the null id and that of the empty tree,
-    /// which are opened as empty. Each lookup is counted in `lookups`, which stays at the greatest `u64`.
+    /// is looked up in the store by the id of its entry. For the null id and that of the empty tree the store
+    /// isn't asked: `unasked` says whether such a directory is opened as empty, or the opening ends above it.
+    /// Each lookup is counted in `lookups`, which stays at the greatest `u64`.
     ///
     /// `FindExistingObject` or `MalformedTree` for the first directory that the store doesn't have as a
     /// well-formed tree, or whose lookup fails; `OutOfMemory` where memory was wanting. What was opened on
@@ -118,11 +160,12 @@ impl Open {
         &mut self,
         alloc: Global,
         path: &[BString],
+        unasked: Unasked,
         store: &S,
         lookups: &mut u64,
     ) -> Result<(), Error>
-        ensures opened { OnOk result ((trees : Trees) → AreTreesOf (S.objects store.now) trees → (asked : List ObjectId) × Opens trees (names_of path.now) (dirs_of self.old) (dirs_of self.new) asked × (lookups.new ≡ counted lookups.old asked)) }
-        ensures halted { IfErr result (λ error. (trees : Trees) → AreTreesOf (S.objects store.now) trees → (asked : List ObjectId) × (vain : Option ObjectId) × Halts trees (names_of path.now) (dirs_of self.old) (dirs_of self.new) asked vain
+        ensures opened { OnOk result ((trees : Trees) → AreTreesOf (S.objects store.now) trees → (asked : List ObjectId) × Opens (EndsBefore unasked) trees (names_of path.now) (dirs_of self.old) (dirs_of self.new) asked × (lookups.new ≡ counted lookups.old asked)) }
+        ensures halted { IfErr result (λ error. (trees : Trees) → AreTreesOf (S.objects store.now) trees → (asked : List ObjectId) × (vain : Option ObjectId) × Halts (EndsBefore unasked) trees (names_of path.now) (dirs_of self.old) (dirs_of self.new) asked vain
             × (lookups.new ≡ counted lookups.old asked) × RefusesAt (S.objects store.now) (S.may_fail store.now) vain error) }
         ensures still_opened { IsOpened (dirs_of self.old) → IsOpened (dirs_of self.new) }
         ensures root { (entries : List EntryView) × (dirs_of self.old [] ≡ Some entries) }
@@ -133,15 +176,15 @@ impl Open {
         };
         if let Some(place) = child_at(&self.children, name) {
             let child = &mut self.children[place];
-            return child.open.open_along(alloc, rest, store, lookups);
+            return child.open.open_along(alloc, rest, unasked, store, lookups);
         }
-        let Some(id) = tree_id(&self.tree, name) else {
+        let Some(id) = next_id(&self.tree, name, unasked) else {
             return Ok(());
         };
         let own_name = room_for(alloc, &mut self.children, name)?;
         let tree = load(alloc, store, id, lookups)?;
         let mut inner = Open::new(alloc, tree);
-        let opened = inner.open_along(alloc, rest, store, lookups);
+        let opened = inner.open_along(alloc, rest, unasked, store, lookups);
         push_child(&mut self.children, own_name, inner);
         opened
     }

@@ -12,7 +12,7 @@ use Rattle.gixobj_files.specs.Tables.{IsEmptyId}
 use Rattle.gixobj_files.specs.Unopened.{told_entry}
 use Rattle.gixobj_files.proofs.OpeningFiles.{inside_is, opens_root}
 use Rattle.gixobj_files.proofs.RemovedFiles.{IsBare, IsReached}
-use Rattle.gixobj_files.proofs.UnopenedCounts.{EndsAbove, IsIdle, ends_inside, entry_has, found_below, the_entry, told_nowhere, told_open}
+use Rattle.gixobj_files.proofs.UnopenedCounts.{IsIdle, entry_has, found_below, the_entry, told_nowhere, told_open}
 
 -- where nothing is open there is no entry
 entry_nowhere : (path : Path) (dirs : Dirs) → ((at : Path) → dirs at ≡ None) → entry_at path dirs ≡ None
@@ -119,15 +119,25 @@ module _ {Ends : EntryView → Type 0} (idle : IsIdle Ends) (trees : Trees) wher
   reached_down T name [] dirs is reached = tt
   reached_down T name (next ∷ rest) dirs is reached = inr (is, reached)
 
-  pub opens_reached : (T : Table) (path : Path) (last : List ℕ) (behind : Path) (dirs new : Dirs) (asked : List ObjectId) → Opens Ends trees path dirs new asked → dirs [] ≢ None → EndsAbove new path behind → IsReached T (path ++ last ∷ behind) new
-  opens_reached T path last behind dirs new asked (arrived d) root (inl at_last) = subst (λ q. IsReached T (last ∷ q) d) (sym at_last) tt
-  opens_reached T path last behind dirs new asked (arrived d) root (inr none) = absurd (root none)
-  opens_reached T path last behind dirs new asked (stops name rest d other none) root ends = reached_nowhere T name (rest ++ last ∷ behind) d ((λ e h n. bare T e (idle e (other e h n))), none)
-  opens_reached T path last behind dirs new asked (down name rest d inner e entries more has named is opens) root ends =
+  pub opens_reached : (T : Table) (path : Path) (last : List ℕ) (dirs new : Dirs) (asked : List ObjectId) → Opens Ends trees path dirs new asked → IsReached T (path ++ last ∷ []) new
+  opens_reached T path last dirs new asked (arrived d) = tt
+  opens_reached T path last dirs new asked (stops name rest d other none) = reached_nowhere T name (rest ++ last ∷ []) d ((λ e h n. bare T e (idle e (other e h n))), none)
+  opens_reached T path last dirs new asked (down name rest d inner e entries more has named is opens) =
       let inside = inside_is name inner d in
-      reached_down T name (rest ++ last ∷ behind) (with_dir name inner d) (entries, ap (λ (x : Dirs). x []) inside ∙ opens_root trees rest (in_dir name d) inner more opens ∙ is)
-      (subst (IsReached T (rest ++ last ∷ behind)) (sym inside) (opens_reached T rest last behind (in_dir name d) inner more opens (λ none. let bad : Some entries ≡ None = sym is ∙ none in cc bad) (ends_inside name rest inner d behind ends)))
-  opens_reached T path last behind dirs new asked (found name rest d inner e entries first more entry tree free none finds opens) root ends =
+      reached_down T name (rest ++ last ∷ []) (with_dir name inner d) (entries, ap (λ (x : Dirs). x []) inside ∙ opens_root trees rest (in_dir name d) inner more opens ∙ is)
+      (subst (IsReached T (rest ++ last ∷ [])) (sym inside) (opens_reached T rest last (in_dir name d) inner more opens))
+  opens_reached T path last dirs new asked (found name rest d inner e entries first more entry tree free none finds opens) =
       let inside = inside_is name inner d in
-      reached_down T name (rest ++ last ∷ behind) (with_dir name inner d) (entries, ap (λ (x : Dirs). x []) inside ∙ opens_root trees rest (only entries) inner more opens)
-      (subst (IsReached T (rest ++ last ∷ behind)) (sym inside) (opens_reached T rest last behind (only entries) inner more opens (λ nothing. let bad : Some entries ≡ None = nothing in cc bad) (ends_inside name rest inner d behind ends)))
+      reached_down T name (rest ++ last ∷ []) (with_dir name inner d) (entries, ap (λ (x : Dirs). x []) inside ∙ opens_root trees rest (only entries) inner more opens)
+      (subst (IsReached T (rest ++ last ∷ [])) (sym inside) (opens_reached T rest last (only entries) inner more opens))
+
+-- an opening that ended above the path's directory opens no more on a longer path
+pub opens_longer : {Ends : EntryView → Type 0} (trees : Trees) (path more : Path) (dirs new : Dirs) (asked : List ObjectId) → Opens Ends trees path dirs new asked → dirs [] ≢ None → new path ≡ None → Opens Ends trees (path ++ more) dirs new asked
+opens_longer trees path more dirs new asked (arrived d) root ended = absurd (root ended)
+opens_longer trees path more dirs new asked (stops name rest d other none) root ended = stops name (rest ++ more) d other none
+opens_longer trees path more dirs new asked (down name rest d inner e entries asks has named is opens) root ended =
+    down name (rest ++ more) d inner e entries asks has named is
+    (opens_longer trees rest more (in_dir name d) inner asks opens (λ none. let bad : Some entries ≡ None = sym is ∙ none in cc bad) (sym (ap (λ (x : Dirs). x rest) (inside_is name inner d)) ∙ ended))
+opens_longer trees path more dirs new asked (found name rest d inner e entries first asks entry tree free none finds opens) root ended =
+    found name (rest ++ more) d inner e entries first asks entry tree free none finds
+    (opens_longer trees rest more (only entries) inner asks opens (λ nothing. let bad : Some entries ≡ None = nothing in cc bad) (sym (ap (λ (x : Dirs). x rest) (inside_is name inner d)) ∙ ended))

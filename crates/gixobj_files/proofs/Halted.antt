@@ -6,7 +6,7 @@ use Rattle.gixobj_trees.specs.Mode.{is_tree_mode}
 use Rattle.gixobj_ids.specs.declared.hash.object_id.ObjectId.{ObjectId}
 use Rattle.gixobj_files.specs.Edits.{Finds, IsEntryOf, Opens, arrived, down, entry_of, found, only, stops}
 use Rattle.gixobj_files.specs.Files.{Path, Trees}
-use Rattle.gixobj_files.specs.Halting.{Halts, IsAbove, IsUnopenedAbove, at_once, in_vain}
+use Rattle.gixobj_files.specs.Halting.{Halts, IsAbove, IsShutAbove, IsUnopenedAbove, at_once, in_vain}
 use Rattle.gixobj_files.specs.Halting as halting
 use Rattle.gixobj_files.specs.Opening.{Dirs, in_dir}
 use Rattle.gixobj_files.specs.Unopened.{is_shut, is_sought, is_sought_tree, is_unopened, told_entry, unopened_count}
@@ -91,6 +91,49 @@ module _ (trees : Trees) where
   halted_at path last behind old new asked vain (halting.found name rest d inner e entries first more v entry tree free none finds halts) it is =
       let below = halted_at rest last behind (only entries) inner more v halts it is in
       (in_found name (rest ++ last ∷ behind) d e entries first entry tree none finds it below.0, below.1, ap (λ p. name ∷ p) below.2)
+
+  shut_here : {Ends : EntryView → Type 0} (name : List ℕ) (rest : Path) (last : List ℕ) (behind : Path) (d : Dirs) (e : EntryView) → IsEntryOf name (d []) e → is_tree_mode e.mode ≡ true → (Ends e → ⊥) → ((path : Path) → d (name ∷ path) ≡ None)
+      → IsShutAbove Ends trees d (name ∷ (rest ++ last ∷ behind))
+  shut_here name rest last behind d e entry tree free none =
+      let left = one_more rest last behind in
+      record {
+        place = name ∷ [];
+        entry = e;
+        above = (name, [], left.0, left.1, refl, ap (λ p. name ∷ p) left.2);
+        shut = none [];
+        told = the_entry name (d []) e entry;
+        tree = tree;
+        free = free;
+      }
+
+  -- a halt is at a directory that isn't open
+  pub halted_shut : {Ends : EntryView → Type 0} (path : Path) (last : List ℕ) (behind : Path) (old new : Dirs) (asked : List ObjectId) (vain : Option ObjectId) → Halts Ends trees path old new asked vain → IsShutAbove Ends trees old (path ++ last ∷ behind)
+  halted_shut path last behind old new asked vain (at_once name rest d e entry tree free none) = shut_here name rest last behind d e entry tree free none
+  halted_shut path last behind old new asked vain (in_vain name rest d e entry tree free none filled) = shut_here name rest last behind d e entry tree free none
+  halted_shut path last behind old new asked vain (halting.down name rest d inner e entries more v has named there halts) =
+      let h = halted_shut rest last behind (in_dir name d) inner more v halts in
+      let at = h.above in
+      record {
+        place = name ∷ h.place;
+        entry = h.entry;
+        above = above_more name h.place (rest ++ last ∷ behind) h.above;
+        shut = h.shut;
+        told = subst (λ q. told_entry trees (name ∷ q) d ≡ Some h.entry) (sym at.4) (told_open trees name at.0 at.1 d entries there ∙ subst (λ q. told_entry trees q (in_dir name d) ≡ Some h.entry) at.4 h.told);
+        tree = h.tree;
+        free = h.free;
+      }
+  halted_shut path last behind old new asked vain (halting.found name rest d inner e entries first more v entry tree free none finds halts) =
+      let h = halted_shut rest last behind (only entries) inner more v halts in
+      let at = h.above in
+      record {
+        place = name ∷ h.place;
+        entry = h.entry;
+        above = above_more name h.place (rest ++ last ∷ behind) h.above;
+        shut = none h.place;
+        told = subst (λ q. told_entry trees (name ∷ q) d ≡ Some h.entry) (sym at.4) (found_below trees name at.0 at.1 d e entries first entry tree (none []) finds ∙ subst (λ q. told_entry trees q (only entries) ≡ Some h.entry) at.4 h.told);
+        tree = h.tree;
+        free = h.free;
+      }
 
   -- where the opening came through, each unopened directory on the path was known
   same_head : (x y : List ℕ) (xs ys : Path) → x ∷ xs ≡ y ∷ ys → x ≡ y

@@ -1,5 +1,5 @@
 -- As many ids are asked for on a path as there are directories above its last name that aren't open and would be looked up.
-use Rattle.std.proofs.Common.{◌≡◌, ◌≢◌, ◌⊎◌, inl, inr, ℕ, ◌+◌, Bool, true, false, not, cond, List, [], ◌∷◌, ◌++◌, length, refl, sym, ap, ◌∙◌, arith, Option, Some, None}
+use Rattle.std.proofs.Common.{◌≡◌, ◌⊎◌, inl, inr, ℕ, ◌+◌, Bool, true, false, not, cond, List, [], ◌∷◌, ◌++◌, length, refl, sym, ap, ◌∙◌, arith, Option, Some, None}
 use Rattle.std.specs.Prelude.{◌&&◌, ◌≤◌, map}
 use Rattle.std.specs.List.{filter, find}
 use Rattle.std.specs.Cmp.Lexicographic.{bytes_decides}
@@ -12,11 +12,10 @@ use Rattle.gixobj_ids.specs.declared.hash.object_id.ObjectId.{ObjectId}
 use Rattle.gixobj_ids.specs.declared.hash.object_id.ObjectId.TheVariants as id
 use Rattle.gixobj_ids.specs.declared.kind.Kind.TheVariants.{Tree}
 use Rattle.gixobj_files.specs.Editing.{same_name}
-use Rattle.gixobj_files.specs.Edits.{Finds, IsEntryOf, IsUnasked, Opens, arrived, down, entry_of, found, only, stops, with_dir}
+use Rattle.gixobj_files.specs.Edits.{Finds, IsEntryOf, IsUnasked, Opens, arrived, down, entry_of, found, only, stops}
 use Rattle.gixobj_files.specs.Files.{Has, Path, Trees, is_null}
 use Rattle.gixobj_files.specs.Opening.{Dirs, HasAt, in_dir}
 use Rattle.gixobj_files.specs.Tables.{IsEmptyId}
-use Rattle.gixobj_files.proofs.OpeningFiles.{inside_is}
 use Rattle.gixobj_files.specs.Unopened.{is_empty_tree_id, is_shut, is_sought, is_sought_tree, is_unopened, list_of, shut_or_open, strict_beginnings, told_entry, told_in, tree_of, unopened_count}
 
 -- which ids are asked for
@@ -144,14 +143,6 @@ passes_deeper_none p name rest last behind here below =
 abbrev pub IsIdle : (EntryView → Type 0) → Type 0
 IsIdle Ends = (e : EntryView) → Ends e → IsUnasked e
 
--- no name is left behind the last one, or the opening ended above the path's directory
-abbrev pub EndsAbove : Dirs → Path → Path → Type 0
-EndsAbove new path behind = (behind ≡ []) ⊎ (new path ≡ None)
-
-pub ends_inside : (name : List ℕ) (rest : Path) (inner dirs : Dirs) (behind : Path) → EndsAbove (with_dir name inner dirs) (name ∷ rest) behind → EndsAbove inner rest behind
-ends_inside name rest inner dirs behind (inl at_last) = inl at_last
-ends_inside name rest inner dirs behind (inr none) = inr (sym (ap (λ (d : Dirs). d rest) (inside_is name inner dirs)) ∙ none)
-
 -- entries below a list
 module _ (trees : Trees) where
   told_none : (path : Path) → told_in trees path None ≡ None
@@ -268,15 +259,10 @@ module _ (trees : Trees) where
       let here : one_if (is_unopened trees dirs (name ∷ [])) ≡ 1 = ap one_if (unopened_here name dirs e entry tree none ∙ sought e.id filled) in
       omega (arith, passes_deeper (is_unopened trees dirs) name rest last behind, here)
 
-  -- where the opening comes to the directory of the last name, or ends before, it asked for each unopened directory above the path
-  pub asked_count : {Ends : EntryView → Type 0} → IsIdle Ends → (path : Path) (last : List ℕ) (behind : Path) (dirs new : Dirs) (asked : List ObjectId) → Opens Ends trees path dirs new asked → dirs [] ≢ None → EndsAbove new path behind
-      → length asked ≡ unopened_count trees dirs (path ++ last ∷ behind)
-  asked_count idle path last behind dirs new asked (arrived d) root (inl at_last) = sym (ap (λ q. unopened_count trees d (last ∷ q)) at_last)
-  asked_count idle path last behind dirs new asked (arrived d) root (inr none) = absurd (root none)
-  asked_count idle path last behind dirs new asked (stops name rest d other none) root ends =
-      sym (passes_deeper_none (is_unopened trees d) name rest last behind (unopened_nowhere name [] d (λ e h n. idle e (other e h n)) none) (λ first q. unopened_nowhere name (first ∷ q) d (λ e h n. idle e (other e h n)) none))
-  asked_count idle path last behind dirs new asked (down name rest d inner e entries more has named is opens) root ends =
-      asked_count idle rest last behind (in_dir name d) inner more opens (λ none. let bad : Some entries ≡ None = sym is ∙ none in cc bad) (ends_inside name rest inner d behind ends) ∙ sym (count_open name rest last behind d entries is)
-  asked_count idle path last behind dirs new asked (found name rest d inner e entries first more entry tree free none finds opens) root ends =
-      omega (arith, length-append first more, count_found name rest last behind d e entries first entry tree none finds,
-      asked_count idle rest last behind (only entries) inner more opens (λ nothing. let bad : Some entries ≡ None = nothing in cc bad) (ends_inside name rest inner d behind ends))
+  pub asked_count : {Ends : EntryView → Type 0} → IsIdle Ends → (path : Path) (last : List ℕ) (dirs new : Dirs) (asked : List ObjectId) → Opens Ends trees path dirs new asked → length asked ≡ unopened_count trees dirs (path ++ last ∷ [])
+  asked_count idle path last dirs new asked (arrived d) = refl
+  asked_count idle path last dirs new asked (stops name rest d other none) =
+      sym (passes_deeper_none (is_unopened trees d) name rest last [] (unopened_nowhere name [] d (λ e h n. idle e (other e h n)) none) (λ first q. unopened_nowhere name (first ∷ q) d (λ e h n. idle e (other e h n)) none))
+  asked_count idle path last dirs new asked (down name rest d inner e entries more has named is opens) = asked_count idle rest last (in_dir name d) inner more opens ∙ sym (count_open name rest last [] d entries is)
+  asked_count idle path last dirs new asked (found name rest d inner e entries first more entry tree free none finds opens) =
+      omega (arith, length-append first more, count_found name rest last [] d e entries first entry tree none finds, asked_count idle rest last (only entries) inner more opens)

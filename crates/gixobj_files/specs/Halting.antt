@@ -39,3 +39,13 @@ abbrev pub ComesTo : (EntryView → Type 0) → Trees → Dirs → Path → Type
 ComesTo Ends trees dirs place =
     (place ≡ []) ⊎ ((entries : List EntryView) × (dirs place ≡ Some entries))
     ⊎ ((e : EntryView) × (told_entry trees place dirs ≡ Some e) × (is_tree_mode e.mode ≡ true) × (Ends e → ⊥) × (IsEmptyId e.id ⊎ ((entries : List EntryView) × (trees e.id ≡ Some entries))))
+
+-- a directory above the path isn't open, and the opening of the path goes into it
+pub record IsShutAbove (Ends : EntryView → Type 0) (trees : Trees) (dirs : Dirs) (path : Path) : Type 0 where
+  pub place : Path
+  pub entry : EntryView
+  pub above : IsAbove place path
+  pub shut : dirs place ≡ None
+  pub told : told_entry trees place dirs ≡ Some entry
+  pub tree : is_tree_mode entry.mode ≡ true
+  pub free : Ends entry → ⊥

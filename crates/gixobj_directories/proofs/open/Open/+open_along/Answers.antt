@@ -9,16 +9,16 @@ use Rattle.gixobj_files.specs.Opening.{IsOpened}
 use Rattle.gixobj_files.specs.Tables.{IsEmptyId}
 use Rattle.gixobj_directories.specs.Calls.{names_of}
 use Rattle.gixobj_directories.specs.Nested.{Opened, dirs_of, opened, parts}
-use Rattle.gixobj_directories.specs.Openings.{RefusesDirectory}
+use Rattle.gixobj_directories.specs.Openings.{EndsBefore, RefusesDirectory}
 use Rattle.gixobj_directories.specs.declared.open.Child.{Child}
 use Rattle.gixobj_directories.proofs.Handing.{err_weaker}
 use Rattle.gixobj_directories.proofs.Levels.{level_root, level_set, none_named, not_found}
-use Rattle.gixobj_directories.proofs.OpeningSteps.{HaltsAt, IsFormedList, OpensAs, StaysOpened, counted_more, down_in, found_in, halts_down, halts_in, level_new, names_none, none_found, nothing_opened, opens_down, opens_in, stays_down, stays_in, still_opened, stop_in}
+use Rattle.gixobj_directories.proofs.OpeningSteps.{HaltsAt, IsFormedList, OpensAs, StaysOpened, counted_more, down_in, found_in, halts_down, halts_in, halted_here, level_new, names_none, no_memory, none_found, opens_down, opens_in, stays_down, stays_in, still_opened, stop_in}
 use Rattle.gixobj_directories.proofs.open.Open.+open_along.Goals as goal
 
 pub returns-in_default-clause-opened : goal.returns-in_default-clause-opened
 returns-in_default-clause-opened g t c = λ trees fits.
-    ([], subst (λ p. Opens trees p (dirs_of c.args.self.now) (dirs_of c.args.self.now) []) (sym (names_none c.args.path.now c.in_default.ensures.cases)) (arrived (dirs_of c.args.self.now)), refl)
+    ([], subst (λ p. Opens (EndsBefore c.args.unasked) trees p (dirs_of c.args.self.now) (dirs_of c.args.self.now) []) (sym (names_none c.args.path.now c.in_default.ensures.cases)) (arrived (dirs_of c.args.self.now)), refl)
 
 pub invariant_of-self : goal.invariant_of-self
 invariant_of-self g t c = level_set c.self.inside.tree c.self.inside.children.items c.in-Some-child_at.place c.index_mut-child.result.now _ c.index_mut-child.ensures.value refl c.self.invariant
@@ -28,7 +28,7 @@ returns-in-Some-child_at-clause-opened g t c = MatchResult-weaker c.open_along.r
     let root = c.open_along.ensures.root in
     let below = ok trees fits in (
       below.0,
-      down_in (OpensAs trees) (Opens trees) (opens_down trees) (opens_in trees) c.self.inside.tree c.args.self.now (names_of c.args.path.now) (bstring_bytes c.in-Some.name.now) (names_of c.in-Some.rest.now) (ap names_of c.in-Some.ensures.cases.0)
+      down_in (OpensAs (EndsBefore c.args.unasked) trees) (Opens (EndsBefore c.args.unasked) trees) (opens_down (EndsBefore c.args.unasked) trees) (opens_in (EndsBefore c.args.unasked) trees) c.self.inside.tree c.args.self.now (names_of c.args.path.now) (bstring_bytes c.in-Some.name.now) (names_of c.in-Some.rest.now) (ap names_of c.in-Some.ensures.cases.0)
           c.self.inside.children.items c.deref.result.now c.self.view_is c.self.invariant c.in-Some-child_at.place c.index_mut-child.result.now (record { name = c.index_mut-child.result.now.name; «open» = c.open_along.new.self })
           c.deref.ensures.value (c.in-Some-child_at.ensures {u = tt}) c.index_mut-child.ensures.value refl root.0 root.1 below.0 below.1,
       below.2,
@@ -40,39 +40,51 @@ returns-in-Some-child_at-clause-halted g t c = MatchResult-weaker c.open_along.r
     let below = bad trees fits in (
       below.0,
       below.1,
-      down_in (OpensAs trees) (HaltsAt trees below.1) (halts_down trees below.1) (halts_in trees below.1) c.self.inside.tree c.args.self.now (names_of c.args.path.now) (bstring_bytes c.in-Some.name.now) (names_of c.in-Some.rest.now) (ap names_of c.in-Some.ensures.cases.0)
+      down_in (OpensAs (EndsBefore c.args.unasked) trees) (HaltsAt (EndsBefore c.args.unasked) trees below.1) (halts_down (EndsBefore c.args.unasked) trees below.1) (halts_in (EndsBefore c.args.unasked) trees below.1) c.self.inside.tree c.args.self.now (names_of c.args.path.now) (bstring_bytes c.in-Some.name.now) (names_of c.in-Some.rest.now) (ap names_of c.in-Some.ensures.cases.0)
           c.self.inside.children.items c.deref.result.now c.self.view_is c.self.invariant c.in-Some-child_at.place c.index_mut-child.result.now (record { name = c.index_mut-child.result.now.name; «open» = c.open_along.new.self })
           c.deref.ensures.value (c.in-Some-child_at.ensures {u = tt}) c.index_mut-child.ensures.value refl root.0 root.1 below.0 below.2,
       below.3,
       below.4,
     ))
 
-pub returns-in_default-tree_id-clause-opened : goal.returns-in_default-tree_id-clause-opened
-returns-in_default-tree_id-clause-opened g t c = λ trees fits. (
+pub returns-in_default-next_id-clause-opened : goal.returns-in_default-next_id-clause-opened
+returns-in_default-next_id-clause-opened g t c = λ trees fits. (
   [],
   stop_in trees c.self.inside.tree c.args.self.now (names_of c.args.path.now) (bstring_bytes c.in-Some.name.now) (names_of c.in-Some.rest.now) (ap names_of c.in-Some.ensures.cases.0)
       (parts c.self.inside.children.items) c.self.view_is c.self.invariant (not_found (bstring_bytes c.in-Some.name.now) c.self.inside.children.items c.deref.result.now c.deref.ensures.value (c.in_default-child_at.ensures {u = tt}))
-      (c.in_default-tree_id.ensures {u = tt}).none,
+      (c.in_default-next_id.ensures {u = tt}).none,
   refl,
 )
 
 pub returns-in_err-own_name-clause-halted : goal.returns-in_err-own_name-clause-halted
 returns-in_err-own_name-clause-halted g t c = err_weaker c.from_residual.result _ _ c.from_residual.ensures.1 (λ error is trees fits.
-    ([], None, nothing_opened trees (names_of c.args.path.now) c.self.inside.tree c.args.self.now c.self.inside.children.items c.room_for.new.children.items c.self.view_is c.room_for.ensures.items, refl, is))
+    let Ends = EndsBefore c.args.unasked in
+    let name = bstring_bytes c.in-Some.name.now in
+    let cs = c.self.inside.children.items in
+    let there = (c.in-Some-next_id.ensures {u = tt}).some in (
+      [],
+      None,
+      halted_here Ends trees (names_of c.args.path.now) name (names_of c.in-Some.rest.now) c.self.inside.tree c.args.self.now cs c.room_for.new.children.items (ap names_of c.in-Some.ensures.cases.0) c.self.view_is c.room_for.ensures.items [] None
+          (no_memory Ends trees name (names_of c.in-Some.rest.now) c.self.inside.tree cs c.self.invariant (not_found name cs c.deref.result.now c.deref.ensures.value (c.in_default-child_at.ensures {u = tt})) there.0 there.1 there.2 there.3),
+      refl,
+      is,
+    ))
 
 pub returns-in_err-tree-clause-halted : goal.returns-in_err-tree-clause-halted
 returns-in_err-tree-clause-halted g t c = err_weaker c.from_residual-in_err-tree.result _ _ c.from_residual-in_err-tree.ensures.1 (λ error is trees fits.
+    let Ends = EndsBefore c.args.unasked in
     let name = bstring_bytes c.in-Some.name.now in
     let cs = c.self.inside.children.items in
-    let there = (c.in-Some-tree_id.ensures {u = tt}).some in
+    let there = (c.in-Some-next_id.ensures {u = tt}).some in
     let asked = (c.in_err-tree.ensures {u = tt}).asked in (
-      c.in-Some-tree_id.id ∷ [],
-      Some c.in-Some-tree_id.id,
-      subst (λ (id : ObjectId). Halts trees (names_of c.args.path.now) (dirs_of c.args.self.now) (dirs_of (opened c.self.inside.tree (parts c.room_for.new.children.items))) (id ∷ []) (Some id)) there.3
-          (none_found trees (names_of c.args.path.now) name (names_of c.in-Some.rest.now) c.self.inside.tree c.args.self.now cs c.room_for.new.children.items (ap names_of c.in-Some.ensures.cases.0) c.self.view_is c.room_for.ensures.items c.self.invariant
-          (not_found name cs c.deref.result.now c.deref.ensures.value (c.in_default-child_at.ensures {u = tt})) there.0 there.1 there.2 (subst (λ (id : ObjectId). IsEmptyId id → ⊥) (sym there.3) asked.0)),
+      c.in-Some-next_id.id ∷ [],
+      Some c.in-Some-next_id.id,
+      subst (λ (id : ObjectId). Halts Ends trees (names_of c.args.path.now) (dirs_of c.args.self.now) (dirs_of (opened c.self.inside.tree (parts c.room_for.new.children.items))) (id ∷ []) (Some id)) there.4
+          (halted_here Ends trees (names_of c.args.path.now) name (names_of c.in-Some.rest.now) c.self.inside.tree c.args.self.now cs c.room_for.new.children.items (ap names_of c.in-Some.ensures.cases.0) c.self.view_is c.room_for.ensures.items (there.0.id ∷ []) (Some there.0.id)
+          (none_found Ends trees name (names_of c.in-Some.rest.now) c.self.inside.tree cs c.self.invariant (not_found name cs c.deref.result.now c.deref.ensures.value (c.in_default-child_at.ensures {u = tt})) there.0 there.1 there.2 there.3
+          (subst (λ (id : ObjectId). IsEmptyId id → ⊥) (sym there.4) asked.0))),
       asked.1,
-      subst (RefusesDirectory (g.S.Store.objects c.args.store.now) (g.S.Store.may_fail c.args.store.now) c.in-Some-tree_id.id) (sym is) (c.in_err-tree.ensures {u = tt}).refusal,
+      subst (RefusesDirectory (g.S.Store.objects c.args.store.now) (g.S.Store.may_fail c.args.store.now) c.in-Some-next_id.id) (sym is) (c.in_err-tree.ensures {u = tt}).refusal,
     ))
 
 pub invariant_of-self-2 : goal.invariant_of-self-2
@@ -81,7 +93,7 @@ invariant_of-self-2 g t c =
     let cs = c.self.inside.children.items in
     let inner : Child = record { name = c.in_ok-own_name.own_name; «open» = c.open_along-opened.new.self } in
     let same : c.push_child.new.children.items ≡ cs ++ inner ∷ [] = c.push_child.ensures ∙ ap (λ (l : List Child). l ++ inner ∷ []) c.room_for.ensures.items in
-    let there = (c.in-Some-tree_id.ensures {u = tt}).some in
+    let there = (c.in-Some-next_id.ensures {u = tt}).some in
     level_new name c.self.inside.tree cs c.self.invariant (none_named name cs c.deref.result.now c.deref.ensures.value (c.in_default-child_at.ensures {u = tt})) there.0 there.1 there.2 inner (c.in_ok-own_name.ensures {u = tt}).ok.0 c.push_child.new.children.items same
 
 pub returns-clause-opened : goal.returns-clause-opened
@@ -90,14 +102,14 @@ returns-clause-opened g t c = MatchResult-weaker c.open_along-opened.result c.op
     let cs = c.self.inside.children.items in
     let inner : Child = record { name = c.in_ok-own_name.own_name; «open» = c.open_along-opened.new.self } in
     let same : c.push_child.new.children.items ≡ cs ++ inner ∷ [] = c.push_child.ensures ∙ ap (λ (l : List Child). l ++ inner ∷ []) c.room_for.ensures.items in
-    let there = (c.in-Some-tree_id.ensures {u = tt}).some in
+    let there = (c.in-Some-next_id.ensures {u = tt}).some in
     let below = ok trees fits in
     let finds = (c.in_ok-tree.ensures {u = tt}).found trees fits in (
       finds.0 ++ below.0,
-      found_in (OpensAs trees) (Opens trees) (opens_down trees) (opens_in trees) c.self.inside.tree c.args.self.now (names_of c.args.path.now) name (names_of c.in-Some.rest.now) (ap names_of c.in-Some.ensures.cases.0)
+      found_in (OpensAs (EndsBefore c.args.unasked) trees) (Opens (EndsBefore c.args.unasked) trees) (opens_down (EndsBefore c.args.unasked) trees) (opens_in (EndsBefore c.args.unasked) trees) c.self.inside.tree c.args.self.now (names_of c.args.path.now) name (names_of c.in-Some.rest.now) (ap names_of c.in-Some.ensures.cases.0)
           cs c.self.view_is c.self.invariant (none_named name cs c.deref.result.now c.deref.ensures.value (c.in_default-child_at.ensures {u = tt})) (not_found name cs c.deref.result.now c.deref.ensures.value (c.in_default-child_at.ensures {u = tt}))
-          there.0 there.1 there.2 c.in_ok-tree.tree finds.0 below.0 (subst (λ id. Finds trees id c.in_ok-tree.tree finds.0) (sym there.3) finds.1) inner (c.in_ok-own_name.ensures {u = tt}).ok.0 c.push_child.new.children.items same
-          (subst (λ (d : Opened). Opens trees (names_of c.in-Some.rest.now) (dirs_of d) (dirs_of c.open_along-opened.new.self) below.0) c.new-inner.ensures below.1),
+          there.0 there.1 there.2 c.in_ok-tree.tree finds.0 below.0 (there.3, subst (λ id. Finds trees id c.in_ok-tree.tree finds.0) (sym there.4) finds.1) inner (c.in_ok-own_name.ensures {u = tt}).ok.0 c.push_child.new.children.items same
+          (subst (λ (d : Opened). Opens (EndsBefore c.args.unasked) trees (names_of c.in-Some.rest.now) (dirs_of d) (dirs_of c.open_along-opened.new.self) below.0) c.new-inner.ensures below.1),
       below.2 ∙ ap (λ n. counted n below.0) finds.2 ∙ counted_more c.args.lookups.now finds.0 below.0,
     )) (λ _ u. u)
 
@@ -107,15 +119,15 @@ returns-clause-halted g t c = MatchResult-weaker c.open_along-opened.result c.op
     let cs = c.self.inside.children.items in
     let inner : Child = record { name = c.in_ok-own_name.own_name; «open» = c.open_along-opened.new.self } in
     let same : c.push_child.new.children.items ≡ cs ++ inner ∷ [] = c.push_child.ensures ∙ ap (λ (l : List Child). l ++ inner ∷ []) c.room_for.ensures.items in
-    let there = (c.in-Some-tree_id.ensures {u = tt}).some in
+    let there = (c.in-Some-next_id.ensures {u = tt}).some in
     let below = bad trees fits in
     let finds = (c.in_ok-tree.ensures {u = tt}).found trees fits in (
       finds.0 ++ below.0,
       below.1,
-      found_in (OpensAs trees) (HaltsAt trees below.1) (halts_down trees below.1) (halts_in trees below.1) c.self.inside.tree c.args.self.now (names_of c.args.path.now) name (names_of c.in-Some.rest.now) (ap names_of c.in-Some.ensures.cases.0)
+      found_in (OpensAs (EndsBefore c.args.unasked) trees) (HaltsAt (EndsBefore c.args.unasked) trees below.1) (halts_down (EndsBefore c.args.unasked) trees below.1) (halts_in (EndsBefore c.args.unasked) trees below.1) c.self.inside.tree c.args.self.now (names_of c.args.path.now) name (names_of c.in-Some.rest.now) (ap names_of c.in-Some.ensures.cases.0)
           cs c.self.view_is c.self.invariant (none_named name cs c.deref.result.now c.deref.ensures.value (c.in_default-child_at.ensures {u = tt})) (not_found name cs c.deref.result.now c.deref.ensures.value (c.in_default-child_at.ensures {u = tt}))
-          there.0 there.1 there.2 c.in_ok-tree.tree finds.0 below.0 (subst (λ id. Finds trees id c.in_ok-tree.tree finds.0) (sym there.3) finds.1) inner (c.in_ok-own_name.ensures {u = tt}).ok.0 c.push_child.new.children.items same
-          (subst (λ (d : Opened). Halts trees (names_of c.in-Some.rest.now) (dirs_of d) (dirs_of c.open_along-opened.new.self) below.0 below.1) c.new-inner.ensures below.2),
+          there.0 there.1 there.2 c.in_ok-tree.tree finds.0 below.0 (there.3, subst (λ id. Finds trees id c.in_ok-tree.tree finds.0) (sym there.4) finds.1) inner (c.in_ok-own_name.ensures {u = tt}).ok.0 c.push_child.new.children.items same
+          (subst (λ (d : Opened). Halts (EndsBefore c.args.unasked) trees (names_of c.in-Some.rest.now) (dirs_of d) (dirs_of c.open_along-opened.new.self) below.0 below.1) c.new-inner.ensures below.2),
       below.3 ∙ ap (λ n. counted n below.0) finds.2 ∙ counted_more c.args.lookups.now finds.0 below.0,
       below.4,
     ))
@@ -139,7 +151,7 @@ returns-clause-still_opened g t c =
     let cs = c.self.inside.children.items in
     let inner : Child = record { name = c.in_ok-own_name.own_name; «open» = c.open_along-opened.new.self } in
     let same : c.push_child.new.children.items ≡ cs ++ inner ∷ [] = c.push_child.ensures ∙ ap (λ (l : List Child). l ++ inner ∷ []) c.room_for.ensures.items in
-    let there = (c.in-Some-tree_id.ensures {u = tt}).some in
+    let there = (c.in-Some-next_id.ensures {u = tt}).some in
     found_in IsFormedList StaysOpened stays_down stays_in c.self.inside.tree c.args.self.now (names_of c.args.path.now) name (names_of c.in-Some.rest.now) (ap names_of c.in-Some.ensures.cases.0)
     cs c.self.view_is c.self.invariant (none_named name cs c.deref.result.now c.deref.ensures.value (c.in_default-child_at.ensures {u = tt})) (not_found name cs c.deref.result.now c.deref.ensures.value (c.in_default-child_at.ensures {u = tt}))
     there.0 there.1 there.2 c.in_ok-tree.tree [] [] (c.in_ok-tree.ensures {u = tt}).well_formed inner (c.in_ok-own_name.ensures {u = tt}).ok.0 c.push_child.new.children.items same
@@ -151,8 +163,8 @@ returns-in_default-clause-root g t c = (c.self.inside.tree, level_root c.args.se
 pub returns-in-Some-child_at-clause-root : goal.returns-in-Some-child_at-clause-root
 returns-in-Some-child_at-clause-root g t c = (c.self.inside.tree, level_root c.args.self.now c.self.inside.tree (parts c.self.inside.children.items) c.self.view_is)
 
-pub returns-in_default-tree_id-clause-root : goal.returns-in_default-tree_id-clause-root
-returns-in_default-tree_id-clause-root g t c = (c.self.inside.tree, level_root c.args.self.now c.self.inside.tree (parts c.self.inside.children.items) c.self.view_is)
+pub returns-in_default-next_id-clause-root : goal.returns-in_default-next_id-clause-root
+returns-in_default-next_id-clause-root g t c = (c.self.inside.tree, level_root c.args.self.now c.self.inside.tree (parts c.self.inside.children.items) c.self.view_is)
 
 pub returns-in_err-tree-clause-root : goal.returns-in_err-tree-clause-root
 returns-in_err-tree-clause-root g t c = (c.self.inside.tree, level_root c.args.self.now c.self.inside.tree (parts c.self.inside.children.items) c.self.view_is)
