@@ -8,7 +8,7 @@ use Rattle.gixobj_ids.specs.Hash.{null_id}
 use Rattle.gixobj_ids.specs.declared.hash.kind.Kind.{Kind}
 use Rattle.gixobj_ids.specs.declared.hash.object_id.ObjectId.{ObjectId}
 use Rattle.gixobj_data.specs.Stores.{Objects}
-use Rattle.gixobj_files.specs.Edits.{Opens, arrived, counted, upserted_dirs}
+use Rattle.gixobj_files.specs.Edits.{IsNoTree, Opens, arrived, counted, upserted_dirs}
 use Rattle.gixobj_files.specs.Files.{Path, SameFiles, Trees, Upserted}
 use Rattle.gixobj_files.specs.Halting.{Halts, IsUnopenedAbove}
 use Rattle.gixobj_files.specs.Opening.{Dirs, OpenFiles}
@@ -18,7 +18,7 @@ use Rattle.gixobj_files.proofs.EditedFiles.{same_refl, same_trans, same_upserted
 use Rattle.gixobj_files.proofs.Halted.{halted_at, halted_count, halts_opens, opens_known}
 use Rattle.gixobj_files.proofs.OpeningFiles.{opens_files, opens_ready}
 use Rattle.gixobj_files.proofs.StillOpenedOpenings.{opening_keeps}
-use Rattle.gixobj_files.proofs.UnopenedCounts.{asked_count}
+use Rattle.gixobj_files.proofs.UnopenedCounts.{IsIdle, asked_count}
 use Rattle.gixobj_files.proofs.UpsertedFiles.{IsReady, upserted_files}
 use Rattle.gixobj_directories.specs.Calls.{AreNames}
 use Rattle.gixobj_directories.specs.Nested.{Opened, dirs_of}
@@ -28,7 +28,7 @@ use Rattle.gixobj_directories.specs.declared.opening.Error.TheVariants as openin
 use Rattle.gixobj_editor.specs.Edits.{IsRefused, IsUpserted, RefusesName, RefusesNames, RefusesUpsert, directory_of, edit_refusal, raised}
 use Rattle.gixobj_editor.specs.declared.editor.error.Error.{Error}
 use Rattle.gixobj_editor.specs.declared.editor.error.Error.TheVariants as error
-use Rattle.gixobj_editor.proofs.Paths.{counted_raised, directory_is}
+use Rattle.gixobj_editor.proofs.Paths.{counted_raised, directory_is, strictly_above}
 
 -- the open directories of an editor
 abbrev pub map_of : Opened → DirMap
@@ -43,18 +43,24 @@ dirs_at ds at = map.get-from_entries (lists_total nat_list_cmp_total) ds at
 pub same_dirs : (ds : Opened) → map_dirs ds ≡ dirs_of ds
 same_dirs ds = λ i at. dirs_at ds at i
 
+-- an upsert's opening ends before entries that are no trees' alone
+pub at_files : IsIdle IsNoTree
+at_files e other = inl other
+
 -- nothing is above the root
-none_above : (trees : Trees) (dirs : Dirs) (it : ObjectId) → IsUnopenedAbove trees dirs [] it → ⊥
+pub none_above : (trees : Trees) (dirs : Dirs) (it : ObjectId) → IsUnopenedAbove trees dirs [] it → ⊥
 none_above trees dirs it h = longer h.place (h.above.2) (h.above.3) (h.above.5)
   where
     longer : (place : Path) (next : List ℕ) (rest : Path) → [] ≡ place ++ next ∷ rest → ⊥
     longer [] next rest is = cc is
     longer (name ∷ place) next rest is = cc is
 
-known_above : (trees : Trees) (path front : Path) (last : List ℕ) → path ≡ front ++ last ∷ [] → (old new : Dirs) (asked : List ObjectId) → Opens trees front old new asked → (it : ObjectId) → IsUnopenedAbove trees old path it → (entries : List EntryView) × (trees it ≡ Some entries)
-known_above trees path front last is old new asked opens it h =
+pub known_above : {Ends : EntryView → Type 0} → IsIdle Ends → (trees : Trees) (path front : Path) (last : List ℕ) → path ≡ front ++ last ∷ [] → (old new : Dirs) (asked : List ObjectId) → Opens Ends trees front old new asked → (it : ObjectId) → IsUnopenedAbove trees old path it
+    → (entries : List EntryView) × (trees it ≡ Some entries)
+known_above idle trees path front last is old new asked opens it h =
     let at = h.above in
-    let found = opens_known trees front last old new asked opens at.0 at.1 at.2 at.3 (sym is ∙ at.5 ∙ ap (λ p. p ++ at.2 ∷ at.3) at.4) (subst (λ p. is_unopened trees old p ≡ true) at.4 h.unopened) h.entry (subst (λ p. told_entry trees p old ≡ Some h.entry) at.4 h.told) in
+    let begins = strictly_above front last h.place at.2 at.3 (sym is ∙ at.5) in
+    let found = opens_known trees idle front old new asked opens at.0 at.1 begins.0 (begins.1 ∙ ap (λ p. p ++ begins.0) at.4) (subst (λ p. is_unopened trees old p ≡ true) at.4 h.unopened) h.entry (subst (λ p. told_entry trees p old ≡ Some h.entry) at.4 h.told) in
     (found.0, ap trees (sym h.named) ∙ found.1)
 
 -- without names nothing is put in
@@ -97,35 +103,35 @@ module _ {S : Type 0} (store : S) (hash : Kind) (trees : Trees) where
   made ds n = state_of store hash ds n
 
   -- an entry was put in
-  put_in : (ds mid ds' : Opened) (n m : ℕ) (path front : Path) (last : List ℕ) (mode : ℕ) (id : ObjectId) (asked : List ObjectId) → path ≡ front ++ last ∷ [] → AreNames path → Opens trees front (dirs_of ds) (dirs_of mid) asked
+  put_in : (ds mid ds' : Opened) (n m : ℕ) (path front : Path) (last : List ℕ) (mode : ℕ) (id : ObjectId) (asked : List ObjectId) → path ≡ front ++ last ∷ [] → AreNames path → Opens IsNoTree trees front (dirs_of ds) (dirs_of mid) asked
       → ((at : Path) → dirs_of ds' at ≡ upserted_dirs path mode id (null_id hash) (dirs_of mid) at) → m ≡ counted n asked → IsUpserted trees (made ds n) path mode id (made ds' m)
   put_in ds mid ds' n m path front last mode id asked is names opens put count =
       let old_is = same_dirs ds in
-      let opened : Opens trees front (map_dirs ds) (dirs_of mid) asked = subst (λ (d : Dirs). Opens trees front d (dirs_of mid) asked) (sym old_is) opens in
+      let opened : Opens IsNoTree trees front (map_dirs ds) (dirs_of mid) asked = subst (λ (d : Dirs). Opens IsNoTree trees front d (dirs_of mid) asked) (sym old_is) opens in
       let new_is : map_dirs ds' ≡ upserted_dirs path mode id (null_id hash) (dirs_of mid) = λ i at. (dirs_at ds' at ∙ put at) i in
       let ready : IsReady path (dirs_of mid) = subst (λ p. IsReady p (dirs_of mid)) (sym is) (opens_ready trees front last (map_dirs ds) (dirs_of mid) asked opened) in
       record {
         names = names;
         opened = dirs_of mid;
         asked = asked;
-        opens = subst (λ p. Opens trees p (map_dirs ds) (dirs_of mid) asked) (sym (ap directory_of is ∙ directory_is front last)) opened;
+        opens = subst (λ p. Opens IsNoTree trees p (map_dirs ds) (dirs_of mid) asked) (sym (ap directory_of is ∙ directory_is front last)) opened;
         dirs = λ at. dirs_at ds' at ∙ put at;
-        lookups = count ∙ counted_raised n asked ∙ ap (raised n) (asked_count trees front last (map_dirs ds) (dirs_of mid) asked opened ∙ ap (unopened_count trees (map_dirs ds)) (sym is));
+        lookups = count ∙ counted_raised n asked ∙ ap (raised n) (asked_count trees at_files front last (map_dirs ds) (dirs_of mid) asked opened ∙ ap (unopened_count trees (map_dirs ds)) (sym is));
         rest = refl;
-        known = known_above trees path front last is (map_dirs ds) (dirs_of mid) asked opened;
+        known = known_above at_files trees path front last is (map_dirs ds) (dirs_of mid) asked opened;
         files = λ T k agrees. subst (λ (d : Dirs). SameFiles (OpenFiles T k d) (Upserted T k path mode id (OpenFiles T k (map_dirs ds)))) (sym new_is)
             (same_trans _ _ _ (upserted_files T k path mode id (null_id hash) (dirs_of mid) ready) (same_upserted T k path mode id (OpenFiles T k (dirs_of mid)) (OpenFiles T k (map_dirs ds)) (opens_files T trees agrees front (map_dirs ds) (dirs_of mid) asked opened k)));
       }
 
-  pub upserted_at : (ds mid ds' : Opened) (n m : ℕ) (old : State S) → made ds n ≡ old → (path front : Path) (last : List ℕ) (mode : ℕ) (id : ObjectId) (asked : List ObjectId) → path ≡ front ++ last ∷ [] → AreNames path → Opens trees front (dirs_of ds) (dirs_of mid) asked
+  pub upserted_at : (ds mid ds' : Opened) (n m : ℕ) (old : State S) → made ds n ≡ old → (path front : Path) (last : List ℕ) (mode : ℕ) (id : ObjectId) (asked : List ObjectId) → path ≡ front ++ last ∷ [] → AreNames path → Opens IsNoTree trees front (dirs_of ds) (dirs_of mid) asked
       → ((at : Path) → dirs_of ds' at ≡ upserted_dirs path mode id (null_id hash) (dirs_of mid) at) → m ≡ counted n asked → IsUpserted trees old path mode id (made ds' m)
   upserted_at ds mid ds' n m old view path front last mode id asked is names opens put count =
       subst (λ (o : State S). IsUpserted trees o path mode id (made ds' m)) view (put_in ds mid ds' n m path front last mode id asked is names opens put count)
 
   -- nothing but directories was opened
-  stay : (ds ds' : Opened) (n m : ℕ) (path front : Path) (answered asked : List ObjectId) → Opens trees front (dirs_of ds) (dirs_of ds') answered → length asked ≤ unopened_count trees (dirs_of ds) path → m ≡ counted n asked → IsRefused trees (made ds n) path (made ds' m)
-  stay ds ds' n m path front answered asked opens few count =
-      let opened : Opens trees front (map_dirs ds) (map_dirs ds') answered = subst (λ (d : Dirs). Opens trees front d (map_dirs ds') answered) (sym (same_dirs ds)) (subst (λ (d : Dirs). Opens trees front (dirs_of ds) d answered) (sym (same_dirs ds')) opens) in
+  pub stay : {Ends : EntryView → Type 0} (ds ds' : Opened) (n m : ℕ) (path front : Path) (answered asked : List ObjectId) → Opens Ends trees front (dirs_of ds) (dirs_of ds') answered → length asked ≤ unopened_count trees (dirs_of ds) path → m ≡ counted n asked → IsRefused trees (made ds n) path (made ds' m)
+  stay {Ends = Ends} ds ds' n m path front answered asked opens few count =
+      let opened : Opens Ends trees front (map_dirs ds) (map_dirs ds') answered = subst (λ (d : Dirs). Opens Ends trees front d (map_dirs ds') answered) (sym (same_dirs ds)) (subst (λ (d : Dirs). Opens Ends trees front (dirs_of ds) d answered) (sym (same_dirs ds')) opens) in
       record {
         stays = opening_keeps trees front (map_dirs ds) (map_dirs ds') answered opened;
         count = length asked;
@@ -136,19 +142,19 @@ module _ {S : Type 0} (store : S) (hash : Kind) (trees : Trees) where
       }
 
   pub unchanged_at : (ds : Opened) (n : ℕ) (old : State S) → made ds n ≡ old → (path : Path) → IsRefused trees old path old
-  unchanged_at ds n old view path = subst (λ (o : State S). IsRefused trees o path o) view (stay ds ds n n path [] [] [] (arrived (dirs_of ds)) (omega arith) refl)
+  unchanged_at ds n old view path = subst (λ (o : State S). IsRefused trees o path o) view (stay {Ends = IsNoTree} ds ds n n path [] [] [] (arrived (dirs_of ds)) (omega arith) refl)
 
-  pub halted_so : (ds ds' : Opened) (n m : ℕ) (old : State S) → made ds n ≡ old → (path front : Path) (last : List ℕ) → path ≡ front ++ last ∷ [] → (asked : List ObjectId) (vain : Option ObjectId) → Halts trees front (dirs_of ds) (dirs_of ds') asked vain → m ≡ counted n asked
+  pub halted_so : (ds ds' : Opened) (n m : ℕ) (old : State S) → made ds n ≡ old → (path front : Path) (last : List ℕ) → path ≡ front ++ last ∷ [] → (asked : List ObjectId) (vain : Option ObjectId) → Halts IsNoTree trees front (dirs_of ds) (dirs_of ds') asked vain → m ≡ counted n asked
       → IsRefused trees old path (made ds' m)
   halted_so ds ds' n m old view path front last is asked vain halts count =
       let came = halts_opens trees front (dirs_of ds) (dirs_of ds') asked vain halts in
       subst (λ (o : State S). IsRefused trees o path (made ds' m)) view
-      (stay ds ds' n m path came.0 came.2 asked came.5 (subst (λ p. length asked ≤ unopened_count trees (dirs_of ds) p) (sym is) (halted_count trees front last (dirs_of ds) (dirs_of ds') asked vain halts)) count)
+      (stay ds ds' n m path came.0 came.2 asked came.5 (subst (λ p. length asked ≤ unopened_count trees (dirs_of ds) p) (sym is) (halted_count trees front last [] (dirs_of ds) (dirs_of ds') asked vain halts)) count)
 
-  pub opened_so : (ds ds' : Opened) (n m : ℕ) (old : State S) → made ds n ≡ old → (path front : Path) (last : List ℕ) → path ≡ front ++ last ∷ [] → (asked : List ObjectId) → Opens trees front (dirs_of ds) (dirs_of ds') asked → m ≡ counted n asked → IsRefused trees old path (made ds' m)
-  opened_so ds ds' n m old view path front last is asked opens count =
+  pub opened_so : {Ends : EntryView → Type 0} → IsIdle Ends → (ds ds' : Opened) (n m : ℕ) (old : State S) → made ds n ≡ old → (path front : Path) (last : List ℕ) → path ≡ front ++ last ∷ [] → (asked : List ObjectId) → Opens Ends trees front (dirs_of ds) (dirs_of ds') asked → m ≡ counted n asked → IsRefused trees old path (made ds' m)
+  opened_so idle ds ds' n m old view path front last is asked opens count =
       subst (λ (o : State S). IsRefused trees o path (made ds' m)) view
-      (stay ds ds' n m path front asked asked opens (subst (λ p. length asked ≤ unopened_count trees (dirs_of ds) p) (sym is) (let same = asked_count trees front last (dirs_of ds) (dirs_of ds') asked opens in omega (arith, same))) count)
+      (stay ds ds' n m path front asked asked opens (subst (λ p. length asked ≤ unopened_count trees (dirs_of ds) p) (sym is) (let same = asked_count trees idle front last (dirs_of ds) (dirs_of ds') asked opens in omega (arith, same))) count)
 
   -- why the opening halted
   some_name : (front : Path) (last : List ℕ) → front ++ last ∷ [] ≢ []
@@ -159,15 +165,15 @@ module _ {S : Type 0} (store : S) (hash : Kind) (trees : Trees) where
   some_path path front last is = λ none. some_name front last (sym is ∙ none)
 
   pub refuses : (objects : Objects) (may_fail : ObjectId → Bool) (ds ds' : Opened) (n : ℕ) (old : State S) → made ds n ≡ old → (path front : Path) (last : List ℕ) → path ≡ front ++ last ∷ [] → AreNames path → (asked : List ObjectId) (vain : Option ObjectId)
-      → Halts trees front (dirs_of ds) (dirs_of ds') asked vain → (cause : directory.Error) → RefusesAt objects may_fail vain cause → RefusesUpsert objects may_fail trees (open_dirs old) path (edit_refusal cause)
+      → Halts IsNoTree trees front (dirs_of ds) (dirs_of ds') asked vain → (cause : directory.Error) → RefusesAt objects may_fail vain cause → RefusesUpsert objects may_fail trees (open_dirs old) path (edit_refusal cause)
   refuses objects may_fail ds ds' n old view path front last is names asked vain halts cause at =
       subst (λ (o : State S). RefusesUpsert objects may_fail trees (open_dirs o) path (edit_refusal cause)) view
       (subst (λ (d : Dirs). RefusesUpsert objects may_fail trees d path (edit_refusal cause)) (sym (same_dirs ds)) (by_cause cause vain halts at))
     where
-      above : (v : Option ObjectId) → Halts trees front (dirs_of ds) (dirs_of ds') asked v → (it : ObjectId) → v ≡ Some it → IsUnopenedAbove trees (dirs_of ds) path it
-      above v h it some = subst (λ p. IsUnopenedAbove trees (dirs_of ds) p it) (sym is) (halted_at trees front last (dirs_of ds) (dirs_of ds') asked v h it some)
+      above : (v : Option ObjectId) → Halts IsNoTree trees front (dirs_of ds) (dirs_of ds') asked v → (it : ObjectId) → v ≡ Some it → IsUnopenedAbove trees (dirs_of ds) path it
+      above v h it some = subst (λ p. IsUnopenedAbove trees (dirs_of ds) p it) (sym is) (halted_at trees front last [] (dirs_of ds) (dirs_of ds') asked v h it some).0
 
-      by_cause : (why : directory.Error) (v : Option ObjectId) → Halts trees front (dirs_of ds) (dirs_of ds') asked v → RefusesAt objects may_fail v why → RefusesUpsert objects may_fail trees (dirs_of ds) path (edit_refusal why)
+      by_cause : (why : directory.Error) (v : Option ObjectId) → Halts IsNoTree trees front (dirs_of ds) (dirs_of ds') asked v → RefusesAt objects may_fail v why → RefusesUpsert objects may_fail trees (dirs_of ds) path (edit_refusal why)
       by_cause opening.OutOfMemory v h r = (names, some_path path front last is)
       by_cause opening.MalformedTree None h r = absurd (cc r)
       by_cause opening.MalformedTree (Some it) h r = (names, (it, above (Some it) h it refl, r))

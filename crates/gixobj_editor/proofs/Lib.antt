@@ -1,3 +1,5 @@
 mod Edited
 mod Paths
+mod RemovedAt
+mod Removing
 mod WrittenOut

@@ -1,11 +1,11 @@
 -- What an edit of an editor promises.
-use Rattle.std.specs.Prelude.{◌≡◌, ◌≢◌, ◌≤◌, ◌⊎◌, ◌+◌, ℕ, zero, suc, Bool, List, [], ◌∷◌, Contains, Some, min}
+use Rattle.std.specs.Prelude.{◌≡◌, ◌≢◌, ◌≤◌, ◌⊎◌, ◌+◌, ◌++◌, ℕ, zero, suc, Bool, List, [], ◌∷◌, Contains, Some, min, ⊤}
 use Rattle.gixobj_data.specs.Stores.{Objects}
 use Rattle.gixobj_directories.specs.Calls.{AreNames}
 use Rattle.gixobj_directories.specs.Openings.{RefusesDirectory}
 use Rattle.gixobj_directories.specs.declared.opening.Error as directory
 use Rattle.gixobj_directories.specs.declared.opening.Error.TheVariants as opening
-use Rattle.gixobj_files.specs.Edits.{Opens, upserted_dirs}
+use Rattle.gixobj_files.specs.Edits.{IsNoTree, Opens, upserted_dirs}
 use Rattle.gixobj_files.specs.Files.{Path, SameFiles, Table, Trees, Upserted}
 use Rattle.gixobj_files.specs.Halting.{IsUnopenedAbove}
 use Rattle.gixobj_files.specs.Opening.{Dirs}
@@ -44,6 +44,16 @@ abbrev pub RefusesNames : Path → Error → Type 0
 RefusesNames [] refusal = ⊥
 RefusesNames (name ∷ path) refusal = RefusesName name refusal ⊎ (IsEntryName name × RefusesNames path refusal)
 
+-- if there is a first name, no entry may have it
+abbrev pub StartsRefused : Path → Type 0
+StartsRefused [] = ⊤
+StartsRefused (name ∷ path) = IsEntryName name → ⊥
+
+-- a path as names that entries may have, and the names from the first other one on: where there is none, the path without its last name
+abbrev pub IsJudged : Path → Path → Path → Type 0
+IsJudged path names [] = AreNames path × (names ≡ directory_of path)
+IsJudged path names (name ∷ rest) = AreNames names × (IsEntryName name → ⊥) × (path ≡ names ++ name ∷ rest)
+
 -- a directory above the path isn't opened
 abbrev pub RefusesAbove : Objects → (ObjectId → Bool) → Trees → Dirs → Path → directory.Error → Type 0
 RefusesAbove objects may_fail trees dirs path cause = AreNames path × ((it : ObjectId) × IsUnopenedAbove trees dirs path it × RefusesDirectory objects may_fail it cause)
@@ -74,7 +84,7 @@ pub record IsUpserted {S : Type 0} (trees : Trees) (old : State S) (path : Path)
   -- the directories above the path are opened, and then the entry is put in
   pub opened : Dirs
   pub asked : List ObjectId
-  pub opens : Opens trees (directory_of path) (open_dirs old) opened asked
+  pub opens : Opens IsNoTree trees (directory_of path) (open_dirs old) opened asked
   pub dirs : (at : Path) → open_dirs new at ≡ upserted_dirs path mode id (null_id old.object_hash) opened at
   pub lookups : new.lookups ≡ raised old.lookups (unopened_count trees (open_dirs old) path)
   pub rest : new ≡ record old { dirs = new.dirs; lookups = new.lookups }

@@ -8,7 +8,7 @@ ghost use Rattle.std.specs.Borrow.{Lends, sem};
 ghost use Rattle.std.specs.Option.{option_copied};
 ghost use Rattle.gixobj_trees.specs.Entries.{IsWellFormed};
 ghost use Rattle.gixobj_trees.specs.Mode.{mode_of_kind};
-ghost use Rattle.gixobj_files.specs.Edits.{entry_at};
+ghost use Rattle.gixobj_files.specs.Edits.{IsNoTree, entry_at};
 ghost use Rattle.gixobj_files.specs.Files.{Trees};
 ghost use Rattle.gixobj_files.specs.Opening.{IsOpened};
 ghost use Rattle.gixobj_files.specs.State.{open_dirs, root_alone, with_store};
@@ -18,21 +18,25 @@ ghost use Rattle.gixobj_directories.specs.Handing.{Stopped};
 ghost use Rattle.gixobj_editor.specs.Writes.{IsWritten};
 ghost use Rattle.gixobj_directories.specs.Openings.{AreTreesOf};
 ghost use Rattle.gixobj_editor.specs.Edits.{IsForAName, IsRefused, IsUpserted, RefusesUpsert};
+ghost use Rattle.gixobj_editor.specs.Removals.{IsLeafRemoved, IsRemoved, RefusesLeafRemoval, RefusesRemoval};
 ghost use Rattle.gixobj_editor.specs.contracts.editor.Editor.{the_row};
 
 pub mod error;
 mod names;
+mod removal;
 
 use bstr::BString;
 use error::Error;
 use gixobj_data::Find;
 use gixobj_directories::open::Open;
+use gixobj_directories::opening::Unasked;
 use gixobj_directories::write::write_all;
 pub use gixobj_directories::write::{WriteError, Written};
 use gixobj_ids::hash::{self, ObjectId};
 use gixobj_trees::Tree;
 use gixobj_trees::tree::{Entry, EntryKind};
 use names::check_names;
+use removal::{check_leaf, open_for_removal};
 use std::marker::Model;
 
 /// An editor of a tree, over a store of objects.
@@ -129,9 +133,61 @@ impl<S: Find> Editor<S> {
         };
         let alloc = self.root.alloc();
         let null = ObjectId::null(self.object_hash);
-        self.root
-            .open_along(alloc, directory, &self.store, &mut self.lookups)?;
+        self.root.open_along(
+            alloc,
+            directory,
+            Unasked::Opened,
+            &self.store,
+            &mut self.lookups,
+        )?;
         self.root.put(alloc, path, kind.into(), id, null)?;
+        Ok(())
+    }
+
+    /// Takes out the entry at the path and all that is below it. The directories above are looked up where they
+    /// aren't open; where one is missing, or isn't a directory, there is nothing to remove, and the names
+    /// behind it aren't judged. Without names nothing changes.
+    ///
+    /// `EmptyPathComponent` or `SlashInPathComponent` for a name that no entry may have, and
+    /// `FindExistingObject` or `MalformedTree` for a directory that the store doesn't have as a well-formed
+    /// tree, or whose lookup fails, whichever comes first on the way from the root; `OutOfMemory` where memory was
+    /// wanting, which is taken only where a directory is opened. A refusal leaves the files as they were; what
+    /// was opened on the way stays open.
+    pub fn try_remove(&mut self, path: &[BString]) -> Result<(), Error>
+        ensures removed { OnOk result ((trees : Trees) → AreTreesOf (S.objects self.old.store) trees → IsRemoved IsNoTree trees self.old (names_of path.now) self.new) }
+        ensures refused { OnErr result ((trees : Trees) → AreTreesOf (S.objects self.old.store) trees → IsRefused trees self.old (names_of path.now) self.new) }
+        ensures refusal { IfErr result (λ error. (trees : Trees) → AreTreesOf (S.objects self.old.store) trees → RefusesRemoval IsNoTree (S.objects self.old.store) (S.may_fail self.old.store) trees (open_dirs self.old) (names_of path.now) error) }
+    {
+        open_for_removal(
+            &mut self.root,
+            path,
+            Unasked::Opened,
+            &self.store,
+            &mut self.lookups,
+        )?;
+        self.root.take(path);
+        Ok(())
+    }
+
+    /// As [`Editor::try_remove`], but a directory at the path isn't taken out. A directory above it of the null
+    /// id, or of the empty tree's, isn't opened: there is nothing to remove in it.
+    ///
+    /// `CannotRemoveNonLeaf` where a directory is at the path, beside what refuses a removal; `OutOfMemory` also
+    /// where there was no memory for its path.
+    pub fn try_remove_leaf(&mut self, path: &[BString]) -> Result<(), Error>
+        ensures removed { OnOk result ((trees : Trees) → AreTreesOf (S.objects self.old.store) trees → IsLeafRemoved trees self.old (names_of path.now) self.new) }
+        ensures refused { OnErr result ((trees : Trees) → AreTreesOf (S.objects self.old.store) trees → IsRefused trees self.old (names_of path.now) self.new) }
+        ensures refusal { IfErr result (λ error. (trees : Trees) → AreTreesOf (S.objects self.old.store) trees → RefusesLeafRemoval (S.objects self.old.store) (S.may_fail self.old.store) trees (open_dirs self.old) (names_of path.now) error) }
+    {
+        open_for_removal(
+            &mut self.root,
+            path,
+            Unasked::Left,
+            &self.store,
+            &mut self.lookups,
+        )?;
+        check_leaf(&self.root, path)?;
+        self.root.take(path);
         Ok(())
     }
 

@@ -266,3 +266,11 @@ module _ (trees : Trees) where
   asked_count idle path last dirs new asked (down name rest d inner e entries more has named is opens) = asked_count idle rest last (in_dir name d) inner more opens ∙ sym (count_open name rest last [] d entries is)
   asked_count idle path last dirs new asked (found name rest d inner e entries first more entry tree free none finds opens) =
       omega (arith, length-append first more, count_found name rest last [] d e entries first entry tree none finds, asked_count idle rest last (only entries) inner more opens)
+
+  -- no more ids are asked for than there are unopened directories above a path that goes on
+  pub opens_at_most : {Ends : EntryView → Type 0} (path : Path) (last : List ℕ) (behind : Path) (dirs new : Dirs) (asked : List ObjectId) → Opens Ends trees path dirs new asked → length asked ≤ unopened_count trees dirs (path ++ last ∷ behind)
+  opens_at_most path last behind dirs new asked (arrived d) = omega arith
+  opens_at_most path last behind dirs new asked (stops name rest d other none) = omega arith
+  opens_at_most path last behind dirs new asked (down name rest d inner e entries more has named is opens) = omega (arith, count_open name rest last behind d entries is, opens_at_most rest last behind (in_dir name d) inner more opens)
+  opens_at_most path last behind dirs new asked (found name rest d inner e entries first more entry tree free none finds opens) =
+      omega (arith, length-append first more, count_found name rest last behind d e entries first entry tree none finds, opens_at_most rest last behind (only entries) inner more opens)

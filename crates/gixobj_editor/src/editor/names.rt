@@ -1,13 +1,50 @@
 //! Names in the paths of edits.
-ghost use Rattle.std.specs.Prelude.{IfErr, OnOk};
+ghost use Rattle.std.specs.Prelude.{◌≡◌, ◌≤◌, IfErr, OnOk, drop, length, take};
 ghost use Rattle.bstr.specs.Owned.{bstring_bytes};
 ghost use Rattle.gixobj_trees.specs.Entries.{IsEntryName};
 ghost use Rattle.gixobj_directories.specs.Calls.{AreNames, names_of};
-ghost use Rattle.gixobj_editor.specs.Edits.{RefusesName, RefusesNames};
+ghost use Rattle.gixobj_editor.specs.Edits.{IsJudged, RefusesName, RefusesNames, StartsRefused, directory_of};
 
 use crate::editor::error::Error;
 use bstr::BString;
 use gixobj_texts::parse::has_byte;
+
+/// The directories that a removal at the path may open, by names that entries may have, and the names from the
+/// first one on that no entry may have.
+pub(crate) fn judged(path: &[BString]) -> (&[BString], &[BString])
+    ensures { IsJudged (names_of path.now) (names_of result.0.now) (names_of result.1.now) }
+{
+    let (names, refused) = path.split_at(count_names(path));
+    if refused.is_empty() {
+        return (above(names), refused);
+    }
+    (names, refused)
+}
+
+/// The path of the directory that a path is in.
+fn above(path: &[BString]) -> &[BString]
+    ensures { names_of result.now ≡ directory_of (names_of path.now) }
+{
+    match path.split_last() {
+        Some((_last, directory)) => directory,
+        None => path,
+    }
+}
+
+/// How many names stand before the first that no entry may have.
+fn count_names(path: &[BString]) -> usize
+    ensures names { AreNames (names_of (take result path.now)) }
+    ensures refused { StartsRefused (names_of (drop result path.now)) }
+    ensures count { result ≤ length path.now }
+{
+    let Some((name, rest)) = path.split_first() else {
+        return 0;
+    };
+    if check_name(name).is_err() {
+        return 0;
+    }
+    1 + count_names(rest)
+}
 
 /// Refuses the first name that no entry may have.
 pub(crate) fn check_names(path: &[BString]) -> Result<(), Error>

@@ -4,7 +4,7 @@ use Rattle.std.proofs.lemmas.List.Elements.{recursion_from_All}
 use Rattle.bstr.specs.Owned.{bstring_bytes}
 use Rattle.gixobj_trees.specs.Entries.{IsEntryName}
 use Rattle.gixobj_trees.specs.Mode.{mode_of_kind}
-use Rattle.gixobj_files.specs.Edits.{Opens, upserted_dirs}
+use Rattle.gixobj_files.specs.Edits.{IsNoTree, Opens, upserted_dirs}
 use Rattle.gixobj_files.specs.Opening.{Dirs, IsOpened}
 use Rattle.gixobj_files.specs.State.{State, open_dirs}
 use Rattle.gixobj_files.proofs.StillOpened.{opened_upserted}
@@ -14,7 +14,7 @@ use Rattle.gixobj_directories.specs.Openings.{AreTreesOf, RefusesAt}
 use Rattle.gixobj_directories.proofs.Handing.{err_weaker}
 use Rattle.gixobj_directories.proofs.OpeningSteps.{names_none, on_err}
 use Rattle.gixobj_editor.specs.Edits.{RefusesUpsert}
-use Rattle.gixobj_editor.proofs.Edited.{halted_so, name_refused, nothing_upserted, opened_so, refuses, upserted_at}
+use Rattle.gixobj_editor.proofs.Edited.{at_files, halted_so, name_refused, nothing_upserted, opened_so, refuses, upserted_at}
 use Rattle.gixobj_editor.proofs.Paths.{names_last}
 use Rattle.gixobj_editor.proofs.editor.Editor.try_upsert.Goals as goal
 
@@ -57,8 +57,8 @@ returns-in_err-put-clause-refused g c =
     let stored = ap (λ (o : State _). o.store) c.self.view_is in
     let ok = (c.in_ok-open_along.ensures {u = tt}).opened trees (subst (λ o. AreTreesOf (g.S.Store.objects o) trees) (sym stored) fits) in
     let same : c.put.new.self ≡ c.open_along.new.self = (c.in_err-put.ensures {u = tt}).unchanged in
-    opened_so s.store s.object_hash trees s.root c.put.new.self s.lookups c.open_along.new.lookups c.args.self.now c.self.view_is (names_of c.args.path.now) (names_of c.in-Some.directory.now) (bstring_bytes c.in-Some._last.now) is ok.0
-    (subst (λ (ds : Opened). Opens trees (names_of c.in-Some.directory.now) (dirs_of s.root) (dirs_of ds) ok.0) (sym same) ok.1) ok.2)
+    opened_so s.store s.object_hash trees at_files s.root c.put.new.self s.lookups c.open_along.new.lookups c.args.self.now c.self.view_is (names_of c.args.path.now) (names_of c.in-Some.directory.now) (bstring_bytes c.in-Some._last.now) is ok.0
+    (subst (λ (ds : Opened). Opens IsNoTree trees (names_of c.in-Some.directory.now) (dirs_of s.root) (dirs_of ds) ok.0) (sym same) ok.1) ok.2)
 
 pub invariant_of-self-2 : goal.invariant_of-self-2
 invariant_of-self-2 g c =

@@ -1,0 +1,69 @@
+-- The directories above the path are opened as far as there are any, and then the entry is taken out.
+use Rattle.std.proofs.Common.{◌≡◌, ◌∙◌, inl, inr, sym, ap, subst}
+use Rattle.gixobj_files.specs.Edits.{IsUnasked, removed_dirs}
+use Rattle.gixobj_files.specs.Opening.{Dirs, IsOpened}
+use Rattle.gixobj_files.specs.State.{State, open_dirs}
+use Rattle.gixobj_files.proofs.StillOpenedRemovals.{opened_removed}
+use Rattle.gixobj_directories.specs.Calls.{names_of}
+use Rattle.gixobj_directories.specs.Nested.{dirs_of}
+use Rattle.gixobj_directories.specs.Openings.{AreTreesOf}
+use Rattle.gixobj_directories.proofs.Handing.{err_weaker}
+use Rattle.gixobj_directories.proofs.OpeningSteps.{on_err}
+use Rattle.gixobj_editor.specs.Removals.{RefusesDirectoryAt, RefusesLeafRemoval}
+use Rattle.gixobj_editor.proofs.Edited.{same_dirs}
+use Rattle.gixobj_editor.proofs.RemovedAt.{refused_at, removed_at, stopped_at, told_at, unasked_idle}
+use Rattle.gixobj_editor.proofs.editor.Editor.try_remove_leaf.Goals as goal
+
+pub returns-in_err-open_for_removal-clause-refused : goal.returns-in_err-open_for_removal-clause-refused
+returns-in_err-open_for_removal-clause-refused g c =
+    on_err c.from_residual.result _ (λ trees fits.
+    let s = c.self.inside in
+    let stored = ap (λ (o : State _). o.store) c.self.view_is in
+    let bad = (c.in_err-open_for_removal.ensures {u = tt}).refused trees (subst (λ o. AreTreesOf (g.S.Store.objects o) trees) (sym stored) fits) in
+    stopped_at s.store s.object_hash trees unasked_idle s.root c.open_for_removal.new.root s.lookups c.open_for_removal.new.lookups c.args.self.now c.self.view_is (names_of c.args.path.now) bad.0 bad.1 bad.2 bad.3 bad.4 bad.5)
+
+pub returns-in_err-open_for_removal-clause-refusal : goal.returns-in_err-open_for_removal-clause-refusal
+returns-in_err-open_for_removal-clause-refusal g c =
+    err_weaker c.from_residual.result _ _ c.from_residual.ensures.1 (λ error is trees fits.
+    let s = c.self.inside in
+    let stored = ap (λ (o : State _). o.store) c.self.view_is in
+    let path = names_of c.args.path.now in
+    let bad = (c.in_err-open_for_removal.ensures {u = tt}).refused trees (subst (λ o. AreTreesOf (g.S.Store.objects o) trees) (sym stored) fits) in
+    let whole = subst (λ (d : Dirs). RefusesLeafRemoval (g.S.Store.objects s.store) (g.S.Store.may_fail s.store) trees d path c.in_err-open_for_removal.field-0.0) (sym (same_dirs s.root)) (inl bad.6) in
+    subst (RefusesLeafRemoval (g.S.Store.objects c.args.self.now.store) (g.S.Store.may_fail c.args.self.now.store) trees (open_dirs c.args.self.now) path) (sym is)
+    (subst (λ (o : State _). RefusesLeafRemoval (g.S.Store.objects o.store) (g.S.Store.may_fail o.store) trees (open_dirs o) path c.in_err-open_for_removal.field-0.0) c.self.view_is whole))
+
+pub invariant_of-self-2 : goal.invariant_of-self-2
+invariant_of-self-2 g c =
+    let taken : dirs_of c.take.new.self ≡ removed_dirs (names_of c.args.path.now) (dirs_of c.open_for_removal.new.root) = λ i at. c.take.ensures at i in
+    subst (λ (d : Dirs). IsOpened d) (sym taken) (opened_removed (names_of c.args.path.now) (dirs_of c.open_for_removal.new.root) (c.open_for_removal.ensures.still_opened c.self.invariant))
+
+pub returns-in_err-check_leaf-clause-refused : goal.returns-in_err-check_leaf-clause-refused
+returns-in_err-check_leaf-clause-refused g c =
+    on_err c.from_residual-in_err-check_leaf.result _ (λ trees fits.
+    let s = c.self.inside in
+    let stored = ap (λ (o : State _). o.store) c.self.view_is in
+    let ok = (c.in_ok-open_for_removal.ensures {u = tt}).opened trees (subst (λ o. AreTreesOf (g.S.Store.objects o) trees) (sym stored) fits) in
+    refused_at s.store s.object_hash trees unasked_idle s.root c.open_for_removal.new.root s.lookups c.open_for_removal.new.lookups c.args.self.now c.self.view_is (names_of c.args.path.now) ok.0 (ok.1, ok.3) ok.2)
+
+pub returns-in_err-check_leaf-clause-refusal : goal.returns-in_err-check_leaf-clause-refusal
+returns-in_err-check_leaf-clause-refusal g c =
+    err_weaker c.from_residual-in_err-check_leaf.result _ _ c.from_residual-in_err-check_leaf.ensures.1 (λ error is trees fits.
+    let s = c.self.inside in
+    let path = names_of c.args.path.now in
+    let stored = ap (λ (o : State _). o.store) c.self.view_is in
+    let ok = (c.in_ok-open_for_removal.ensures {u = tt}).opened trees (subst (λ o. AreTreesOf (g.S.Store.objects o) trees) (sym stored) fits) in
+    let bad = (c.in_err-check_leaf.ensures {u = tt}).refusal in
+    let told = told_at s.store s.object_hash trees unasked_idle s.root c.open_for_removal.new.root s.lookups c.args.self.now c.self.view_is path ok.0 (ok.1, ok.3) in
+    inr ((bad.0, sym told ∙ bad.1, bad.2), subst (RefusesDirectoryAt path) (sym is) bad.3))
+
+pub returns-clause-removed : goal.returns-clause-removed
+returns-clause-removed g c = λ trees fits.
+    let s = c.self.inside in
+    let stored = ap (λ (o : State _). o.store) c.self.view_is in
+    let ok = (c.in_ok-open_for_removal.ensures {u = tt}).opened trees (subst (λ o. AreTreesOf (g.S.Store.objects o) trees) (sym stored) fits) in
+    let told = told_at s.store s.object_hash trees unasked_idle s.root c.open_for_removal.new.root s.lookups c.args.self.now c.self.view_is (names_of c.args.path.now) ok.0 (ok.1, ok.3) in
+    record {
+      removed = removed_at s.store s.object_hash trees unasked_idle s.root c.open_for_removal.new.root c.take.new.self s.lookups c.open_for_removal.new.lookups c.args.self.now c.self.view_is (names_of c.args.path.now) ok.0 (ok.1, ok.3) ok.2 c.take.ensures;
+      leaf = λ e is. (c.in_ok-check_leaf.ensures {u = tt}).accepted e (told ∙ is);
+    }

@@ -1,0 +1,34 @@
+-- The directories are opened along the names that entries may have; then the next name, if the removal comes to it, is judged.
+use Rattle.std.proofs.Common.{◌≡◌, ◌∙◌, inl, inr, Some, None, sym, subst}
+use Rattle.std.proofs.lemmas.Result.{MatchResult-weaker}
+use Rattle.gixobj_directories.specs.Calls.{names_of}
+use Rattle.gixobj_directories.specs.Nested.{dirs_of}
+use Rattle.gixobj_directories.specs.Openings.{EndsBefore}
+use Rattle.gixobj_directories.proofs.Handing.{err_weaker}
+use Rattle.gixobj_directories.proofs.OpeningSteps.{ends_idle}
+use Rattle.gixobj_editor.proofs.Removing.{IsRefusedSo, halted_removal, name_refused_so, opened_for}
+use Rattle.gixobj_editor.proofs.editor.removal.open_for_removal.Goals as goal
+
+pub returns-in_err-open_along-clause-refused : goal.returns-in_err-open_along-clause-refused
+returns-in_err-open_along-clause-refused g c = err_weaker c.from_residual.result _ _ c.from_residual.ensures.1 (λ error is trees fits.
+    let Ends = EndsBefore c.args.unasked in
+    let bad = (c.in_err-open_along.ensures {u = tt}).halted trees fits in
+    let so = halted_removal (ends_idle c.args.unasked) (g.S.Store.objects c.args.store.now) (g.S.Store.may_fail c.args.store.now) trees (names_of c.args.path.now) (names_of c.judged.result.0.now) (names_of c.judged.result.1.now) c.judged.ensures
+    (dirs_of c.args.root.now) (dirs_of c.open_along.new.self) bad.0 bad.1 bad.2 c.in_err-open_along.field-0.0 bad.4 in
+    let told = subst (λ e. IsRefusedSo Ends (g.S.Store.objects c.args.store.now) (g.S.Store.may_fail c.args.store.now) trees (names_of c.args.path.now) (dirs_of c.args.root.now) (dirs_of c.open_along.new.self) bad.0 e) (sym is) so in
+    (told.0, told.1, bad.0, told.2, bad.3, told.3, told.4))
+
+pub returns-clause-refused : goal.returns-clause-refused
+returns-clause-refused g c = MatchResult-weaker c.check_reached.result c.check_reached.ensures.refusal (λ _ u. u) (λ error bad trees fits.
+    let ok = (c.in_ok-open_along.ensures {u = tt}).opened trees fits in
+    let so = name_refused_so (ends_idle c.args.unasked) (g.S.Store.objects c.args.store.now) (g.S.Store.may_fail c.args.store.now) trees (names_of c.args.path.now) (names_of c.judged.result.0.now) (names_of c.judged.result.1.now) c.judged.ensures
+    (dirs_of c.args.root.now) (dirs_of c.open_along.new.self) ok.0 ok.1 bad.0 bad.1 error bad.2 in
+    (so.0, so.1, ok.0, so.2, ok.2, so.3, so.4))
+
+pub returns-clause-opened : goal.returns-clause-opened
+returns-clause-opened g c = MatchResult-weaker c.check_reached.result c.check_reached.ensures.accepted (λ _ came trees fits.
+    let ok = (c.in_ok-open_along.ensures {u = tt}).opened trees fits in
+    let root = c.open_along.ensures.root in
+    let so = opened_for (ends_idle c.args.unasked) trees (names_of c.args.path.now) (names_of c.judged.result.0.now) (names_of c.judged.result.1.now) c.judged.ensures (dirs_of c.args.root.now) (dirs_of c.open_along.new.self)
+    (λ none. let bad : Some root.0 ≡ None = sym root.1 ∙ none in cc bad) ok.0 ok.1 came in
+    (ok.0, so.0, ok.2, so.1)) (λ _ u. u)

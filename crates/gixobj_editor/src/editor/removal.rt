@@ -1,0 +1,80 @@
+//! How a removal goes along its path.
+ghost use Rattle.std.specs.Prelude.{◌≡◌, ◌⊎◌, ◌≤◌, ◌∷◌, [], true, false, IfErr, IfOk, List, None, OnErr, OnOk, Some, length};
+ghost use Rattle.bstr.specs.Owned.{bstring_bytes, joined};
+ghost use Rattle.gixobj_files.specs.Edits.{Opens, counted, entry_at};
+ghost use Rattle.gixobj_files.specs.Files.{Path, Trees};
+ghost use Rattle.gixobj_files.specs.Opening.{IsOpened};
+ghost use Rattle.gixobj_files.specs.Unopened.{unopened_count};
+ghost use Rattle.gixobj_directories.specs.Calls.{AreNames, names_of};
+ghost use Rattle.gixobj_directories.specs.Nested.{dirs_of};
+ghost use Rattle.gixobj_directories.specs.Openings.{AreTreesOf, EndsBefore};
+ghost use Rattle.gixobj_ids.specs.declared.hash.object_id.ObjectId.{ObjectId};
+ghost use Rattle.gixobj_texts.specs.Bytes.{slash};
+ghost use Rattle.gixobj_trees.specs.Entries.{EntryView, IsEntryName};
+ghost use Rattle.gixobj_trees.specs.Mode.{is_tree_mode};
+ghost use Rattle.gixobj_editor.specs.Edits.{RefusesNames, directory_of};
+ghost use Rattle.gixobj_editor.specs.Removals.{Judges, RefusesDirectoryAt, RefusesRemoval};
+
+use crate::editor::error::Error;
+use crate::editor::names::{check_names, judged};
+use bstr::BString;
+use gixobj_data::Find;
+use gixobj_directories::open::Open;
+use gixobj_directories::opening::Unasked;
+use std::alloc::{AllocError, Global};
+
+/// Opens the directories above a path, as far as there are any, and judges each name that it comes to.
+pub(crate) fn open_for_removal<S: Find>(
+    root: &mut Open,
+    path: &[BString],
+    unasked: Unasked,
+    store: &S,
+    lookups: &mut u64,
+) -> Result<(), Error>
+    ensures opened { OnOk result ((trees : Trees) → AreTreesOf (S.objects store.now) trees
+        → (asked : List ObjectId) × Opens (EndsBefore unasked) trees (directory_of (names_of path.now)) (dirs_of root.old) (dirs_of root.new) asked × (lookups.new ≡ counted lookups.old asked)
+        × ((name : List _) → Judges (EndsBefore unasked) trees (dirs_of root.old) (names_of path.now) name → IsEntryName name)) }
+    ensures refused { IfErr result (λ error. (trees : Trees) → AreTreesOf (S.objects store.now) trees
+        → (front : Path) × (answered asked : List ObjectId) × Opens (EndsBefore unasked) trees front (dirs_of root.old) (dirs_of root.new) answered × (lookups.new ≡ counted lookups.old asked)
+        × (length asked ≤ unopened_count trees (dirs_of root.old) (names_of path.now)) × RefusesRemoval (EndsBefore unasked) (S.objects store.now) (S.may_fail store.now) trees (dirs_of root.old) (names_of path.now) error) }
+    ensures still_opened { IsOpened (dirs_of root.old) → IsOpened (dirs_of root.new) }
+{
+    let alloc = root.alloc();
+    let (directory, refused) = judged(path);
+    root.open_along(alloc, directory, unasked, store, lookups)?;
+    check_reached(root, directory, refused)
+}
+
+/// Refuses the first of these names that no entry may have, where the directory above them is open.
+fn check_reached(root: &Open, directory: &[BString], names: &[BString]) -> Result<(), Error>
+    ensures accepted { OnOk result ((dirs_of root.now (names_of directory.now) ≡ None) ⊎ AreNames (names_of names.now)) }
+    ensures refusal { IfErr result (λ error. (entries : List EntryView) × (dirs_of root.now (names_of directory.now) ≡ Some entries) × RefusesNames (names_of names.now) error) }
+{
+    let Some(_reached) = root.tree(directory) else {
+        return Ok(());
+    };
+    check_names(names)
+}
+
+/// Refuses a path at which a directory is.
+pub(crate) fn check_leaf(root: &Open, path: &[BString]) -> Result<(), Error>
+    ensures accepted { OnOk result ((e : EntryView) → entry_at (names_of path.now) (dirs_of root.now) ≡ Some e → is_tree_mode e.mode ≡ false) }
+    ensures refusal { IfErr result (λ error. (e : EntryView) × (entry_at (names_of path.now) (dirs_of root.now) ≡ Some e) × (is_tree_mode e.mode ≡ true) × RefusesDirectoryAt (names_of path.now) error) }
+{
+    let Some(entry) = root.get(path) else {
+        return Ok(());
+    };
+    if !entry.mode.is_tree() {
+        return Ok(());
+    }
+    let rela_path = join_names(root.alloc(), path)?;
+    Err(Error::CannotRemoveNonLeaf { rela_path })
+}
+
+/// The names with a `/` between each two.
+fn join_names(alloc: Global, path: &[BString]) -> Result<BString, AllocError>
+    ensures { IfOk result (λ it. bstring_bytes it ≡ joined (slash ∷ []) (names_of path.now)) }
+{
+    let text = bstr::join(alloc, b"/", path)?;
+    Ok(BString::from(text))
+}
