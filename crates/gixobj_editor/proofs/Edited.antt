@@ -3,6 +3,7 @@ use Rattle.std.proofs.Common.{◌≡◌, ◌≢◌, ◌∙◌, ◌≤◌, inl, i
 use Rattle.std.proofs.lemmas.Cmp.{lists_total, nat_list_cmp_total}
 use Rattle.std.proofs.lemmas.List.Elements.{All-nil}
 use Rattle.std.specs.FinMap as map
+use Rattle.std.specs.List.{AllByRecursion}
 use Rattle.gixobj_trees.specs.Entries.{EntryView, IsEntryName}
 use Rattle.gixobj_ids.specs.Hash.{null_id}
 use Rattle.gixobj_ids.specs.declared.hash.kind.Kind.{Kind}
@@ -11,12 +12,13 @@ use Rattle.gixobj_data.specs.Stores.{Objects}
 use Rattle.gixobj_files.specs.Edits.{IsNoTree, Opens, arrived, counted, upserted_dirs}
 use Rattle.gixobj_files.specs.Files.{Path, SameFiles, Trees, Upserted}
 use Rattle.gixobj_files.specs.Halting.{Halts, IsUnopenedAbove}
-use Rattle.gixobj_files.specs.Opening.{Dirs, OpenFiles}
+use Rattle.gixobj_files.specs.Opening.{Dirs, IsOpened, OpenFiles}
 use Rattle.gixobj_files.specs.State.{DirMap, EditorFiles, State, open_dirs}
 use Rattle.gixobj_files.specs.Unopened.{is_unopened, told_entry, unopened_count}
 use Rattle.gixobj_files.proofs.EditedFiles.{same_refl, same_trans, same_upserted}
 use Rattle.gixobj_files.proofs.Halted.{halted_at, halted_count, halts_opens, opens_known}
 use Rattle.gixobj_files.proofs.OpeningFiles.{opens_files, opens_ready}
+use Rattle.gixobj_files.proofs.StillOpened.{opened_upserted}
 use Rattle.gixobj_files.proofs.StillOpenedOpenings.{opening_keeps}
 use Rattle.gixobj_files.proofs.UnopenedCounts.{IsIdle, asked_count}
 use Rattle.gixobj_files.proofs.UpsertedFiles.{IsReady, upserted_files}
@@ -43,6 +45,15 @@ dirs_at ds at = map.get-from_entries (lists_total nat_list_cmp_total) ds at
 pub same_dirs : (ds : Opened) → map_dirs ds ≡ dirs_of ds
 same_dirs ds = λ i at. dirs_at ds at i
 
+pub as_map : (ds : Opened) → IsOpened (dirs_of ds) → IsOpened (map_dirs ds)
+as_map ds all = subst (λ (d : Dirs). IsOpened d) (sym (same_dirs ds)) all
+
+pub opened_as : {S : Type 0} (store : S) (hash : Kind) (ds : Opened) (n : ℕ) (old : State S) → record { dirs = map_of ds; store = store; lookups = n; object_hash = hash } ≡ old → IsOpened (dirs_of ds) → IsOpened (open_dirs old)
+opened_as {S} store hash ds n old view all = subst (λ (o : State S). IsOpened (open_dirs o)) view (as_map ds all)
+
+pub still_put : (path : Path) (mode : ℕ) (id null : ObjectId) (mid ds : Opened) → AllByRecursion IsEntryName path → IsOpened (dirs_of mid) → ((at : Path) → dirs_of ds at ≡ upserted_dirs path mode id null (dirs_of mid) at) → IsOpened (dirs_of ds)
+still_put path mode id null mid ds names all put = subst (λ (d : Dirs). IsOpened d) (sym (λ i at. put at i)) (opened_upserted path mode id null (dirs_of mid) names all)
+
 -- an upsert's opening ends before entries that are no trees' alone
 pub at_files : IsIdle IsNoTree
 at_files e other = inl other
@@ -64,8 +75,8 @@ known_above idle trees path front last is old new asked opens it h =
     (found.0, ap trees (sym h.named) ∙ found.1)
 
 -- without names nothing is put in
-pub nothing_upserted : {S : Type 0} (trees : Trees) (old : State S) (path : Path) → path ≡ [] → (mode : ℕ) (id : ObjectId) → IsUpserted trees old path mode id old
-nothing_upserted {S} trees old path none mode id = subst (λ p. IsUpserted trees old p mode id old) (sym none) nothing
+pub nothing_upserted : {S : Type 0} (trees : Trees) (old : State S) (path : Path) → path ≡ [] → (mode : ℕ) (id : ObjectId) → IsOpened (open_dirs old) → IsUpserted trees old path mode id old
+nothing_upserted {S} trees old path none mode id all = subst (λ p. IsUpserted trees old p mode id old) (sym none) nothing
   where
     nothing : IsUpserted trees old [] mode id old
     nothing = record {
@@ -76,6 +87,7 @@ nothing_upserted {S} trees old path none mode id = subst (λ p. IsUpserted trees
       dirs = λ at. refl;
       lookups = refl;
       rest = refl;
+      is_opened = all;
       known = λ it h. absurd (none_above trees (open_dirs old) it h);
       files = λ T k agrees. same_refl (EditorFiles T k old);
     }
@@ -104,8 +116,8 @@ module _ {S : Type 0} (store : S) (hash : Kind) (trees : Trees) where
 
   -- an entry was put in
   put_in : (ds mid ds' : Opened) (n m : ℕ) (path front : Path) (last : List ℕ) (mode : ℕ) (id : ObjectId) (asked : List ObjectId) → path ≡ front ++ last ∷ [] → AreNames path → Opens IsNoTree trees front (dirs_of ds) (dirs_of mid) asked
-      → ((at : Path) → dirs_of ds' at ≡ upserted_dirs path mode id (null_id hash) (dirs_of mid) at) → m ≡ counted n asked → IsUpserted trees (made ds n) path mode id (made ds' m)
-  put_in ds mid ds' n m path front last mode id asked is names opens put count =
+      → ((at : Path) → dirs_of ds' at ≡ upserted_dirs path mode id (null_id hash) (dirs_of mid) at) → m ≡ counted n asked → IsOpened (dirs_of ds') → IsUpserted trees (made ds n) path mode id (made ds' m)
+  put_in ds mid ds' n m path front last mode id asked is names opens put count all =
       let old_is = same_dirs ds in
       let opened : Opens IsNoTree trees front (map_dirs ds) (dirs_of mid) asked = subst (λ (d : Dirs). Opens IsNoTree trees front d (dirs_of mid) asked) (sym old_is) opens in
       let new_is : map_dirs ds' ≡ upserted_dirs path mode id (null_id hash) (dirs_of mid) = λ i at. (dirs_at ds' at ∙ put at) i in
@@ -118,19 +130,20 @@ module _ {S : Type 0} (store : S) (hash : Kind) (trees : Trees) where
         dirs = λ at. dirs_at ds' at ∙ put at;
         lookups = count ∙ counted_raised n asked ∙ ap (raised n) (asked_count trees at_files front last (map_dirs ds) (dirs_of mid) asked opened ∙ ap (unopened_count trees (map_dirs ds)) (sym is));
         rest = refl;
+        is_opened = as_map ds' all;
         known = known_above at_files trees path front last is (map_dirs ds) (dirs_of mid) asked opened;
         files = λ T k agrees. subst (λ (d : Dirs). SameFiles (OpenFiles T k d) (Upserted T k path mode id (OpenFiles T k (map_dirs ds)))) (sym new_is)
             (same_trans _ _ _ (upserted_files T k path mode id (null_id hash) (dirs_of mid) ready) (same_upserted T k path mode id (OpenFiles T k (dirs_of mid)) (OpenFiles T k (map_dirs ds)) (opens_files T trees agrees front (map_dirs ds) (dirs_of mid) asked opened k)));
       }
 
   pub upserted_at : (ds mid ds' : Opened) (n m : ℕ) (old : State S) → made ds n ≡ old → (path front : Path) (last : List ℕ) (mode : ℕ) (id : ObjectId) (asked : List ObjectId) → path ≡ front ++ last ∷ [] → AreNames path → Opens IsNoTree trees front (dirs_of ds) (dirs_of mid) asked
-      → ((at : Path) → dirs_of ds' at ≡ upserted_dirs path mode id (null_id hash) (dirs_of mid) at) → m ≡ counted n asked → IsUpserted trees old path mode id (made ds' m)
-  upserted_at ds mid ds' n m old view path front last mode id asked is names opens put count =
-      subst (λ (o : State S). IsUpserted trees o path mode id (made ds' m)) view (put_in ds mid ds' n m path front last mode id asked is names opens put count)
+      → ((at : Path) → dirs_of ds' at ≡ upserted_dirs path mode id (null_id hash) (dirs_of mid) at) → m ≡ counted n asked → IsOpened (dirs_of ds') → IsUpserted trees old path mode id (made ds' m)
+  upserted_at ds mid ds' n m old view path front last mode id asked is names opens put count all =
+      subst (λ (o : State S). IsUpserted trees o path mode id (made ds' m)) view (put_in ds mid ds' n m path front last mode id asked is names opens put count all)
 
   -- nothing but directories was opened
-  pub stay : {Ends : EntryView → Type 0} (ds ds' : Opened) (n m : ℕ) (path front : Path) (answered asked : List ObjectId) → Opens Ends trees front (dirs_of ds) (dirs_of ds') answered → length asked ≤ unopened_count trees (dirs_of ds) path → m ≡ counted n asked → IsRefused trees (made ds n) path (made ds' m)
-  stay {Ends = Ends} ds ds' n m path front answered asked opens few count =
+  pub stay : {Ends : EntryView → Type 0} (ds ds' : Opened) (n m : ℕ) (path front : Path) (answered asked : List ObjectId) → Opens Ends trees front (dirs_of ds) (dirs_of ds') answered → length asked ≤ unopened_count trees (dirs_of ds) path → m ≡ counted n asked → IsOpened (dirs_of ds') → IsRefused trees (made ds n) path (made ds' m)
+  stay {Ends = Ends} ds ds' n m path front answered asked opens few count all =
       let opened : Opens Ends trees front (map_dirs ds) (map_dirs ds') answered = subst (λ (d : Dirs). Opens Ends trees front d (map_dirs ds') answered) (sym (same_dirs ds)) (subst (λ (d : Dirs). Opens Ends trees front (dirs_of ds) d answered) (sym (same_dirs ds')) opens) in
       record {
         stays = opening_keeps trees front (map_dirs ds) (map_dirs ds') answered opened;
@@ -138,23 +151,24 @@ module _ {S : Type 0} (store : S) (hash : Kind) (trees : Trees) where
         few = subst (λ (d : Dirs). length asked ≤ unopened_count trees d path) (sym (same_dirs ds)) few;
         lookups = count ∙ counted_raised n asked;
         rest = refl;
+        is_opened = as_map ds' all;
         files = λ T k agrees. opens_files T trees agrees front (map_dirs ds) (map_dirs ds') answered opened k;
       }
 
-  pub unchanged_at : (ds : Opened) (n : ℕ) (old : State S) → made ds n ≡ old → (path : Path) → IsRefused trees old path old
-  unchanged_at ds n old view path = subst (λ (o : State S). IsRefused trees o path o) view (stay {Ends = IsNoTree} ds ds n n path [] [] [] (arrived (dirs_of ds)) (omega arith) refl)
+  pub unchanged_at : (ds : Opened) (n : ℕ) (old : State S) → made ds n ≡ old → (path : Path) → IsOpened (dirs_of ds) → IsRefused trees old path old
+  unchanged_at ds n old view path all = subst (λ (o : State S). IsRefused trees o path o) view (stay {Ends = IsNoTree} ds ds n n path [] [] [] (arrived (dirs_of ds)) (omega arith) refl all)
 
   pub halted_so : (ds ds' : Opened) (n m : ℕ) (old : State S) → made ds n ≡ old → (path front : Path) (last : List ℕ) → path ≡ front ++ last ∷ [] → (asked : List ObjectId) (vain : Option ObjectId) → Halts IsNoTree trees front (dirs_of ds) (dirs_of ds') asked vain → m ≡ counted n asked
-      → IsRefused trees old path (made ds' m)
-  halted_so ds ds' n m old view path front last is asked vain halts count =
+      → IsOpened (dirs_of ds') → IsRefused trees old path (made ds' m)
+  halted_so ds ds' n m old view path front last is asked vain halts count all =
       let came = halts_opens trees front (dirs_of ds) (dirs_of ds') asked vain halts in
       subst (λ (o : State S). IsRefused trees o path (made ds' m)) view
-      (stay ds ds' n m path came.0 came.2 asked came.5 (subst (λ p. length asked ≤ unopened_count trees (dirs_of ds) p) (sym is) (halted_count trees front last [] (dirs_of ds) (dirs_of ds') asked vain halts)) count)
+      (stay ds ds' n m path came.0 came.2 asked came.5 (subst (λ p. length asked ≤ unopened_count trees (dirs_of ds) p) (sym is) (halted_count trees front last [] (dirs_of ds) (dirs_of ds') asked vain halts)) count all)
 
-  pub opened_so : {Ends : EntryView → Type 0} → IsIdle Ends → (ds ds' : Opened) (n m : ℕ) (old : State S) → made ds n ≡ old → (path front : Path) (last : List ℕ) → path ≡ front ++ last ∷ [] → (asked : List ObjectId) → Opens Ends trees front (dirs_of ds) (dirs_of ds') asked → m ≡ counted n asked → IsRefused trees old path (made ds' m)
-  opened_so idle ds ds' n m old view path front last is asked opens count =
+  pub opened_so : {Ends : EntryView → Type 0} → IsIdle Ends → (ds ds' : Opened) (n m : ℕ) (old : State S) → made ds n ≡ old → (path front : Path) (last : List ℕ) → path ≡ front ++ last ∷ [] → (asked : List ObjectId) → Opens Ends trees front (dirs_of ds) (dirs_of ds') asked → m ≡ counted n asked → IsOpened (dirs_of ds') → IsRefused trees old path (made ds' m)
+  opened_so idle ds ds' n m old view path front last is asked opens count all =
       subst (λ (o : State S). IsRefused trees o path (made ds' m)) view
-      (stay ds ds' n m path front asked asked opens (subst (λ p. length asked ≤ unopened_count trees (dirs_of ds) p) (sym is) (let same = asked_count trees idle front last (dirs_of ds) (dirs_of ds') asked opens in omega (arith, same))) count)
+      (stay ds ds' n m path front asked asked opens (subst (λ p. length asked ≤ unopened_count trees (dirs_of ds) p) (sym is) (let same = asked_count trees idle front last (dirs_of ds) (dirs_of ds') asked opens in omega (arith, same))) count all)
 
   -- why the opening halted
   some_name : (front : Path) (last : List ℕ) → front ++ last ∷ [] ≢ []

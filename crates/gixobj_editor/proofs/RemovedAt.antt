@@ -10,17 +10,18 @@ use Rattle.gixobj_directories.specs.Nested.{Opened, dirs_of}
 use Rattle.gixobj_files.specs.Edits.{IsUnasked, Opens, arrived, counted, down, entry_at, found, removed_dirs, stops}
 use Rattle.gixobj_files.specs.Files.{Path, Removed, SameFiles, Table, Trees}
 use Rattle.gixobj_files.specs.Halting.{IsUnopenedAbove}
-use Rattle.gixobj_files.specs.Opening.{Dirs, OpenFiles}
+use Rattle.gixobj_files.specs.Opening.{Dirs, IsOpened, OpenFiles}
 use Rattle.gixobj_files.specs.State.{State, open_dirs}
 use Rattle.gixobj_files.specs.Unopened.{told_entry, unopened_count}
 use Rattle.gixobj_files.proofs.Coming.{opens_reached, told_after}
 use Rattle.gixobj_files.proofs.EditedFiles.{same_removed, same_trans}
 use Rattle.gixobj_files.proofs.OpeningFiles.{opens_files}
 use Rattle.gixobj_files.proofs.RemovedFiles.{IsReached, removed_files}
+use Rattle.gixobj_files.proofs.StillOpenedRemovals.{opened_removed}
 use Rattle.gixobj_files.proofs.UnopenedCounts.{IsIdle, asked_count}
 use Rattle.gixobj_editor.specs.Edits.{IsRefused, directory_of, raised}
 use Rattle.gixobj_editor.specs.Removals.{IsLeafRemoved, IsRemoved, Judges}
-use Rattle.gixobj_editor.proofs.Edited.{known_above, map_dirs, none_above, same_dirs, stay, state_of}
+use Rattle.gixobj_editor.proofs.Edited.{as_map, known_above, map_dirs, none_above, same_dirs, stay, state_of}
 use Rattle.gixobj_editor.proofs.Paths.{counted_raised, directory_is}
 use Rattle.gixobj_editor.proofs.Removing.{IsOpenedFor, path_ends}
 
@@ -29,6 +30,9 @@ nothing_asked trees p none old new asked (arrived d) = refl
 nothing_asked trees p none old new asked (stops name rest d other shut) = refl
 nothing_asked trees p none old new asked (down name rest d inner e entries more has named is below) = absurd (cc none)
 nothing_asked trees p none old new asked (found name rest d inner e entries first more entry tree free shut finds below) = absurd (cc none)
+
+pub still_taken : (path : Path) (mid ds : Opened) → IsOpened (dirs_of mid) → ((at : Path) → dirs_of ds at ≡ removed_dirs path (dirs_of mid) at) → IsOpened (dirs_of ds)
+still_taken path mid ds all taken = subst (λ (d : Dirs). IsOpened d) (sym (λ i at. taken at i)) (opened_removed path (dirs_of mid) all)
 
 -- a leaf's removal ends before all that the store isn't asked for
 pub unasked_idle : IsIdle IsUnasked
@@ -72,8 +76,8 @@ module _ {S : Type 0} (store : S) (hash : Kind) (trees : Trees) {Ends : EntryVie
   for_map ds new path asked opened = subst (λ (d : Dirs). IsOpenedFor Ends trees path d new asked) (sym (same_dirs ds)) opened
 
   taken_out : (ds mid ds' : Opened) (n m : ℕ) (path : Path) (asked : List ObjectId) → IsOpenedFor Ends trees path (dirs_of ds) (dirs_of mid) asked → m ≡ counted n asked → ((at : Path) → dirs_of ds' at ≡ removed_dirs path (dirs_of mid) at)
-      → IsRemoved Ends trees (made ds n) path (made ds' m)
-  taken_out ds mid ds' n m path asked opened count take =
+      → IsOpened (dirs_of ds') → IsRemoved Ends trees (made ds n) path (made ds' m)
+  taken_out ds mid ds' n m path asked opened count take all =
       let so = for_map ds (dirs_of mid) path asked opened in
       let new_is : map_dirs ds' ≡ removed_dirs path (dirs_of mid) = same_dirs ds' ∙ (λ i at. take at i) in
       record {
@@ -84,26 +88,27 @@ module _ {S : Type 0} (store : S) (hash : Kind) (trees : Trees) {Ends : EntryVie
         dirs = λ at. ap (λ (d : Dirs). d at) new_is;
         lookups = count ∙ counted_raised n asked ∙ ap (raised n) (count_above idle trees path (map_dirs ds) (dirs_of mid) asked so.0);
         rest = refl;
+        is_opened = as_map ds' all;
         known = all_known idle trees path (map_dirs ds) (dirs_of mid) asked so.0;
         files = λ T k agrees. subst (λ (d : Dirs). SameFiles (OpenFiles T k d) (Removed path (OpenFiles T k (map_dirs ds)))) (sym new_is)
             (same_trans _ _ _ (removed_files T k path (dirs_of mid) (reached_above idle trees path (map_dirs ds) (dirs_of mid) asked so.0 T)) (same_removed path (OpenFiles T k (dirs_of mid)) (OpenFiles T k (map_dirs ds)) (opens_files T trees agrees (directory_of path) (map_dirs ds) (dirs_of mid) asked so.0 k)));
       }
 
   pub removed_at : (ds mid ds' : Opened) (n m : ℕ) (old : State S) → made ds n ≡ old → (path : Path) (asked : List ObjectId) → IsOpenedFor Ends trees path (dirs_of ds) (dirs_of mid) asked → m ≡ counted n asked
-      → ((at : Path) → dirs_of ds' at ≡ removed_dirs path (dirs_of mid) at) → IsRemoved Ends trees old path (made ds' m)
-  removed_at ds mid ds' n m old view path asked opened count take = subst (λ (o : State S). IsRemoved Ends trees o path (made ds' m)) view (taken_out ds mid ds' n m path asked opened count take)
+      → ((at : Path) → dirs_of ds' at ≡ removed_dirs path (dirs_of mid) at) → IsOpened (dirs_of ds') → IsRemoved Ends trees old path (made ds' m)
+  removed_at ds mid ds' n m old view path asked opened count take all = subst (λ (o : State S). IsRemoved Ends trees o path (made ds' m)) view (taken_out ds mid ds' n m path asked opened count take all)
 
   -- the entry at the path, before and after the opening
   pub told_at : (ds mid : Opened) (n : ℕ) (old : State S) → made ds n ≡ old → (path : Path) (asked : List ObjectId) → IsOpenedFor Ends trees path (dirs_of ds) (dirs_of mid) asked → entry_at path (dirs_of mid) ≡ told_entry trees path (open_dirs old)
   told_at ds mid n old view path asked opened = subst (λ (o : State S). entry_at path (dirs_of mid) ≡ told_entry trees path (open_dirs o)) view (told_same idle trees path (map_dirs ds) (dirs_of mid) asked (for_map ds (dirs_of mid) path asked opened).0)
 
   -- nothing but directories was opened, and then the removal was refused
-  pub refused_at : (ds mid : Opened) (n m : ℕ) (old : State S) → made ds n ≡ old → (path : Path) (asked : List ObjectId) → IsOpenedFor Ends trees path (dirs_of ds) (dirs_of mid) asked → m ≡ counted n asked → IsRefused trees old path (made mid m)
-  refused_at ds mid n m old view path asked opened count =
+  pub refused_at : (ds mid : Opened) (n m : ℕ) (old : State S) → made ds n ≡ old → (path : Path) (asked : List ObjectId) → IsOpenedFor Ends trees path (dirs_of ds) (dirs_of mid) asked → m ≡ counted n asked → IsOpened (dirs_of mid) → IsRefused trees old path (made mid m)
+  refused_at ds mid n m old view path asked opened count all =
       let same = count_above idle trees path (dirs_of ds) (dirs_of mid) asked opened.0 in
-      subst (λ (o : State S). IsRefused trees o path (made mid m)) view (stay store hash trees ds mid n m path (directory_of path) asked asked opened.0 (omega (arith, same)) count)
+      subst (λ (o : State S). IsRefused trees o path (made mid m)) view (stay store hash trees ds mid n m path (directory_of path) asked asked opened.0 (omega (arith, same)) count all)
 
   -- the opening was refused
   pub stopped_at : (ds mid : Opened) (n m : ℕ) (old : State S) → made ds n ≡ old → (path front : Path) (answered asked : List ObjectId) → Opens Ends trees front (dirs_of ds) (dirs_of mid) answered → m ≡ counted n asked → length asked ≤ unopened_count trees (dirs_of ds) path
-      → IsRefused trees old path (made mid m)
-  stopped_at ds mid n m old view path front answered asked opens count few = subst (λ (o : State S). IsRefused trees o path (made mid m)) view (stay store hash trees ds mid n m path front answered asked opens few count)
+      → IsOpened (dirs_of mid) → IsRefused trees old path (made mid m)
+  stopped_at ds mid n m old view path front answered asked opens count few all = subst (λ (o : State S). IsRefused trees o path (made mid m)) view (stay store hash trees ds mid n m path front answered asked opens few count all)

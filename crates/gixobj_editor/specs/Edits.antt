@@ -8,7 +8,7 @@ use Rattle.gixobj_directories.specs.declared.opening.Error.TheVariants as openin
 use Rattle.gixobj_files.specs.Edits.{IsNoTree, Opens, upserted_dirs}
 use Rattle.gixobj_files.specs.Files.{Path, SameFiles, Table, Trees, Upserted}
 use Rattle.gixobj_files.specs.Halting.{IsUnopenedAbove}
-use Rattle.gixobj_files.specs.Opening.{Dirs}
+use Rattle.gixobj_files.specs.Opening.{Dirs, IsOpened}
 use Rattle.gixobj_files.specs.State.{EditorFiles, State, open_dirs}
 use Rattle.gixobj_files.specs.Tables.{AgreesWithStore}
 use Rattle.gixobj_files.specs.Unopened.{unopened_count}
@@ -88,6 +88,7 @@ pub record IsUpserted {S : Type 0} (trees : Trees) (old : State S) (path : Path)
   pub dirs : (at : Path) → open_dirs new at ≡ upserted_dirs path mode id (null_id old.object_hash) opened at
   pub lookups : new.lookups ≡ raised old.lookups (unopened_count trees (open_dirs old) path)
   pub rest : new ≡ record old { dirs = new.dirs; lookups = new.lookups }
+  pub is_opened : IsOpened (open_dirs new)
   -- the store has each unopened directory above the path
   pub known : (it : ObjectId) → IsUnopenedAbove trees (open_dirs old) path it → (entries : List EntryView) × (trees it ≡ Some entries)
   pub files : (T : Table) (n : ℕ) → AgreesWithStore T trees → SameFiles (EditorFiles T n new) (Upserted T n path mode id (EditorFiles T n old))
@@ -100,4 +101,5 @@ pub record IsRefused {S : Type 0} (trees : Trees) (old : State S) (path : Path) 
   pub few : count ≤ unopened_count trees (open_dirs old) path
   pub lookups : new.lookups ≡ raised old.lookups count
   pub rest : new ≡ record old { dirs = new.dirs; lookups = new.lookups }
+  pub is_opened : IsOpened (open_dirs new)
   pub files : (T : Table) (n : ℕ) → AgreesWithStore T trees → SameFiles (EditorFiles T n new) (EditorFiles T n old)

@@ -9,7 +9,7 @@ use Rattle.gixobj_directories.specs.declared.opening.Error.TheVariants as openin
 use Rattle.gixobj_files.specs.Edits.{IsUnasked, Opens, removed_dirs}
 use Rattle.gixobj_files.specs.Files.{Path, Removed, SameFiles, Table, Trees}
 use Rattle.gixobj_files.specs.Halting.{ComesTo, IsShutAbove, IsUnopenedAbove}
-use Rattle.gixobj_files.specs.Opening.{Dirs}
+use Rattle.gixobj_files.specs.Opening.{Dirs, IsOpened}
 use Rattle.gixobj_files.specs.State.{EditorFiles, State, open_dirs}
 use Rattle.gixobj_files.specs.Tables.{AgreesWithStore}
 use Rattle.gixobj_files.specs.Unopened.{told_entry, unopened_count}
@@ -72,6 +72,7 @@ pub record IsRemoved {S : Type 0} (Ends : EntryView → Type 0) (trees : Trees) 
   pub dirs : (at : Path) → open_dirs new at ≡ removed_dirs path opened at
   pub lookups : new.lookups ≡ raised old.lookups (unopened_count trees (open_dirs old) path)
   pub rest : new ≡ record old { dirs = new.dirs; lookups = new.lookups }
+  pub is_opened : IsOpened (open_dirs new)
   -- the store has each unopened directory above the path
   pub known : (it : ObjectId) → IsUnopenedAbove trees (open_dirs old) path it → (entries : List EntryView) × (trees it ≡ Some entries)
   pub files : (T : Table) (n : ℕ) → AgreesWithStore T trees → SameFiles (EditorFiles T n new) (Removed path (EditorFiles T n old))

@@ -2,16 +2,16 @@
 //!
 //! It edits a tree and the trees below it by paths, and hands out what is to be stored. A directory is opened, that is
 //! looked up in the store, only where an edit needs it.
-ghost use Rattle.std.specs.Prelude.{◌≡◌, Err, IfErr, IfOk, Ok, OnErr, OnOk};
+ghost use Rattle.std.specs.Prelude.{◌≡◌, Err, IfErr, IfOk, IsOk, Ok, OnErr, OnOk, ℕ};
 ghost use Rattle.std.specs.Fn.{CalledAt};
 ghost use Rattle.std.specs.Borrow.{Lends, sem};
 ghost use Rattle.std.specs.Option.{option_copied};
 ghost use Rattle.gixobj_trees.specs.Entries.{IsWellFormed};
 ghost use Rattle.gixobj_trees.specs.Mode.{mode_of_kind};
 ghost use Rattle.gixobj_files.specs.Edits.{IsNoTree, entry_at};
-ghost use Rattle.gixobj_files.specs.Files.{Trees};
+ghost use Rattle.gixobj_files.specs.Files.{Files, SameFiles, Table, Trees};
 ghost use Rattle.gixobj_files.specs.Opening.{IsOpened};
-ghost use Rattle.gixobj_files.specs.State.{open_dirs, root_alone, with_store};
+ghost use Rattle.gixobj_files.specs.State.{EditorFiles, open_dirs, root_alone, with_store};
 ghost use Rattle.gixobj_files.specs.HandingOut.{HandsOut};
 ghost use Rattle.gixobj_directories.specs.Calls.{IsCallableOnTrees, names_of};
 ghost use Rattle.gixobj_directories.specs.Handing.{Stopped};
@@ -32,6 +32,7 @@ use gixobj_directories::open::Open;
 use gixobj_directories::opening::Unasked;
 use gixobj_directories::write::write_all;
 pub use gixobj_directories::write::{WriteError, Written};
+use gixobj_ids::OutOfMemory;
 use gixobj_ids::hash::{self, ObjectId};
 use gixobj_trees::Tree;
 use gixobj_trees::tree::{Entry, EntryKind};
@@ -77,6 +78,8 @@ impl<S> Editor<S> {
         ensures store { result.store ≡ store }
         ensures lookups { result.lookups ≡ 0 }
         ensures object_hash { result.object_hash ≡ object_hash }
+        ensures is_opened { IsOpened (open_dirs result) }
+        ensures files { (T : Table) (n : ℕ) → SameFiles (EditorFiles T n result) (Files T n root) }
     {
         let alloc = *root.entries.allocator();
         Editor {
@@ -108,6 +111,41 @@ impl<S> Editor<S> {
 
 /// Editing
 impl<S: Find> Editor<S> {
+    /// As [`Editor::try_upsert`]; what a refusal leaves, that one says to a caller.
+    pub fn upsert(
+        &mut self,
+        path: &[BString],
+        kind: EntryKind,
+        id: ObjectId,
+    ) -> Result<&mut Editor<S>, Error>
+        ensures same_reference { IfOk result (λ it. it.ghost_name ≡ self.entry.ghost_name) }
+        ensures upserted { IfOk result (λ it. (trees : Trees) → AreTreesOf (S.objects self.old.store) trees → IsUpserted trees self.old (names_of path.now) (mode_of_kind kind) id it.now) }
+        ensures refusal { IfErr result (λ error. (trees : Trees) → AreTreesOf (S.objects self.old.store) trees → RefusesUpsert (S.objects self.old.store) (S.may_fail self.old.store) trees (open_dirs self.old) (names_of path.now) error) }
+    {
+        self.try_upsert(path, kind, id)?;
+        Ok(self)
+    }
+
+    /// As [`Editor::try_remove`]; what a refusal leaves, that one says to a caller.
+    pub fn remove(&mut self, path: &[BString]) -> Result<&mut Editor<S>, Error>
+        ensures same_reference { IfOk result (λ it. it.ghost_name ≡ self.entry.ghost_name) }
+        ensures removed { IfOk result (λ it. (trees : Trees) → AreTreesOf (S.objects self.old.store) trees → IsRemoved IsNoTree trees self.old (names_of path.now) it.now) }
+        ensures refusal { IfErr result (λ error. (trees : Trees) → AreTreesOf (S.objects self.old.store) trees → RefusesRemoval IsNoTree (S.objects self.old.store) (S.may_fail self.old.store) trees (open_dirs self.old) (names_of path.now) error) }
+    {
+        self.try_remove(path)?;
+        Ok(self)
+    }
+
+    /// As [`Editor::try_remove_leaf`]; what a refusal leaves, that one says to a caller.
+    pub fn remove_leaf(&mut self, path: &[BString]) -> Result<&mut Editor<S>, Error>
+        ensures same_reference { IfOk result (λ it. it.ghost_name ≡ self.entry.ghost_name) }
+        ensures removed { IfOk result (λ it. (trees : Trees) → AreTreesOf (S.objects self.old.store) trees → IsLeafRemoved trees self.old (names_of path.now) it.now) }
+        ensures refusal { IfErr result (λ error. (trees : Trees) → AreTreesOf (S.objects self.old.store) trees → RefusesLeafRemoval (S.objects self.old.store) (S.may_fail self.old.store) trees (open_dirs self.old) (names_of path.now) error) }
+    {
+        self.try_remove_leaf(path)?;
+        Ok(self)
+    }
+
     /// Puts an entry of this kind and id at the path, in place of any entry of its name and of all that is
     /// below it. Each strict beginning of the path becomes a directory: one that isn't open is looked up,
     /// one that is missing is made, and an entry that is no tree is replaced. Without names nothing changes.
@@ -127,11 +165,11 @@ impl<S: Find> Editor<S> {
         ensures refusal { IfErr result (λ error. (trees : Trees) → AreTreesOf (S.objects self.old.store) trees → RefusesUpsert (S.objects self.old.store) (S.may_fail self.old.store) trees (open_dirs self.old) (names_of path.now) error) }
         ensures unasked { IfErr result (λ error. IsForAName error → self.new ≡ self.old) }
     {
+        let alloc = self.root.alloc();
         check_names(path)?;
         let Some((_last, directory)) = path.split_last() else {
             return Ok(());
         };
-        let alloc = self.root.alloc();
         let null = ObjectId::null(self.object_hash);
         self.root.open_along(
             alloc,
@@ -190,18 +228,56 @@ impl<S: Find> Editor<S> {
         self.root.take(path);
         Ok(())
     }
+}
 
+/// Lookup
+impl<S> Editor<S> {
     /// The entry at the path, by open directories alone, or none. The id of an open directory may be out of
-    /// date. It looks nothing up and takes no memory.
-    pub fn get(&self, path: &[BString]) -> Option<&Entry>
-        ensures { option_copied result ≡ entry_at (names_of path.now) (open_dirs self.now) }
+    /// date. It looks nothing up, takes no memory, and always succeeds.
+    pub fn get(&self, path: &[BString]) -> Result<Option<&Entry>, OutOfMemory>
+        ensures succeeds { IsOk result }
+        ensures found { IfOk result (λ entry. option_copied entry ≡ entry_at (names_of path.now) (open_dirs self.now)) }
     {
-        self.root.get(path)
+        Ok(self.root.get(path))
+    }
+}
+
+/// Copying
+impl<S: Clone> Editor<S> {
+    /// A copy: with the same open directories and number of lookups, over a clone of the store, which must equal it.
+    ///
+    /// `OutOfMemory` where memory was wanting.
+    pub fn clone(&self) -> Result<Editor<S>, OutOfMemory>
+        requires { (copied : S) → S.is_clone self.now.store copied → copied ≡ self.now.store }
+        ensures { IfOk result (λ it. it ≡ self.now) }
+    {
+        let root = self.root.copy(self.root.alloc())?;
+        let store = self.store.clone()?;
+        Ok(Editor {
+            root,
+            store,
+            object_hash: self.object_hash,
+            lookups: self.lookups,
+        })
     }
 }
 
 /// Writing
 impl<S> Editor<S> {
+    /// As [`Editor::try_write`], with a closure of its own.
+    pub fn write<E, F: FnMut(&Tree) -> Result<ObjectId, E> + Drop>(
+        &mut self,
+        out: F,
+    ) -> Result<Written, WriteError<E>>
+        requires { IsCallableOnTrees F.pre }
+        ensures written { IfOk result (λ it. (last : F) × IsWritten (λ f p g. CalledAt F.FnMut f p.1 (Ok p.0) g) out self.old it.id it.trees.items self.new last) }
+        ensures stopped { IfErr result (λ error. (last : F) × Stopped (λ f p g. CalledAt F.FnMut f p.1 (Ok p.0) g) (λ f t e g. CalledAt F.FnMut f t (Err e) g) (HandsOut (open_dirs self.old)) out last error) }
+        ensures unchanged { OnErr result (self.new ≡ self.old) }
+    {
+        let mut out = out;
+        self.try_write(&mut out)
+    }
+
     /// Hands out the open directories, each behind those in it and in the order of their entries, the root
     /// last and also where it is empty; then the root alone is open, with the tree that was handed out for
     /// it. Entries with null ids are left out, and so are other open directories that are then empty. The

@@ -11,7 +11,7 @@ use Rattle.gixobj_directories.proofs.Handing.{err_weaker}
 use Rattle.gixobj_directories.proofs.OpeningSteps.{on_err}
 use Rattle.gixobj_editor.specs.Removals.{RefusesDirectoryAt, RefusesLeafRemoval}
 use Rattle.gixobj_editor.proofs.Edited.{same_dirs}
-use Rattle.gixobj_editor.proofs.RemovedAt.{refused_at, removed_at, stopped_at, told_at, unasked_idle}
+use Rattle.gixobj_editor.proofs.RemovedAt.{refused_at, removed_at, still_taken, stopped_at, told_at, unasked_idle}
 use Rattle.gixobj_editor.proofs.editor.Editor.try_remove_leaf.Goals as goal
 
 pub returns-in_err-open_for_removal-clause-refused : goal.returns-in_err-open_for_removal-clause-refused
@@ -20,7 +20,8 @@ returns-in_err-open_for_removal-clause-refused g c =
     let s = c.self.inside in
     let stored = ap (λ (o : State _). o.store) c.self.view_is in
     let bad = (c.in_err-open_for_removal.ensures {u = tt}).refused trees (subst (λ o. AreTreesOf (g.S.Store.objects o) trees) (sym stored) fits) in
-    stopped_at s.store s.object_hash trees unasked_idle s.root c.open_for_removal.new.root s.lookups c.open_for_removal.new.lookups c.args.self.now c.self.view_is (names_of c.args.path.now) bad.0 bad.1 bad.2 bad.3 bad.4 bad.5)
+    stopped_at s.store s.object_hash trees unasked_idle s.root c.open_for_removal.new.root s.lookups c.open_for_removal.new.lookups c.args.self.now c.self.view_is (names_of c.args.path.now) bad.0 bad.1 bad.2 bad.3 bad.4 bad.5
+    (c.open_for_removal.ensures.still_opened c.self.invariant))
 
 pub returns-in_err-open_for_removal-clause-refusal : goal.returns-in_err-open_for_removal-clause-refusal
 returns-in_err-open_for_removal-clause-refusal g c =
@@ -34,9 +35,7 @@ returns-in_err-open_for_removal-clause-refusal g c =
     (subst (λ (o : State _). RefusesLeafRemoval (g.S.Store.objects o.store) (g.S.Store.may_fail o.store) trees (open_dirs o) path c.in_err-open_for_removal.field-0.0) c.self.view_is whole))
 
 pub invariant_of-self-2 : goal.invariant_of-self-2
-invariant_of-self-2 g c =
-    let taken : dirs_of c.take.new.self ≡ removed_dirs (names_of c.args.path.now) (dirs_of c.open_for_removal.new.root) = λ i at. c.take.ensures at i in
-    subst (λ (d : Dirs). IsOpened d) (sym taken) (opened_removed (names_of c.args.path.now) (dirs_of c.open_for_removal.new.root) (c.open_for_removal.ensures.still_opened c.self.invariant))
+invariant_of-self-2 g c = still_taken (names_of c.args.path.now) c.open_for_removal.new.root c.take.new.self (c.open_for_removal.ensures.still_opened c.self.invariant) c.take.ensures
 
 pub returns-in_err-check_leaf-clause-refused : goal.returns-in_err-check_leaf-clause-refused
 returns-in_err-check_leaf-clause-refused g c =
@@ -44,7 +43,7 @@ returns-in_err-check_leaf-clause-refused g c =
     let s = c.self.inside in
     let stored = ap (λ (o : State _). o.store) c.self.view_is in
     let ok = (c.in_ok-open_for_removal.ensures {u = tt}).opened trees (subst (λ o. AreTreesOf (g.S.Store.objects o) trees) (sym stored) fits) in
-    refused_at s.store s.object_hash trees unasked_idle s.root c.open_for_removal.new.root s.lookups c.open_for_removal.new.lookups c.args.self.now c.self.view_is (names_of c.args.path.now) ok.0 (ok.1, ok.3) ok.2)
+    refused_at s.store s.object_hash trees unasked_idle s.root c.open_for_removal.new.root s.lookups c.open_for_removal.new.lookups c.args.self.now c.self.view_is (names_of c.args.path.now) ok.0 (ok.1, ok.3) ok.2 (c.open_for_removal.ensures.still_opened c.self.invariant))
 
 pub returns-in_err-check_leaf-clause-refusal : goal.returns-in_err-check_leaf-clause-refusal
 returns-in_err-check_leaf-clause-refusal g c =
@@ -64,6 +63,7 @@ returns-clause-removed g c = λ trees fits.
     let ok = (c.in_ok-open_for_removal.ensures {u = tt}).opened trees (subst (λ o. AreTreesOf (g.S.Store.objects o) trees) (sym stored) fits) in
     let told = told_at s.store s.object_hash trees unasked_idle s.root c.open_for_removal.new.root s.lookups c.args.self.now c.self.view_is (names_of c.args.path.now) ok.0 (ok.1, ok.3) in
     record {
-      removed = removed_at s.store s.object_hash trees unasked_idle s.root c.open_for_removal.new.root c.take.new.self s.lookups c.open_for_removal.new.lookups c.args.self.now c.self.view_is (names_of c.args.path.now) ok.0 (ok.1, ok.3) ok.2 c.take.ensures;
+      removed = removed_at s.store s.object_hash trees unasked_idle s.root c.open_for_removal.new.root c.take.new.self s.lookups c.open_for_removal.new.lookups c.args.self.now c.self.view_is (names_of c.args.path.now) ok.0 (ok.1, ok.3) ok.2 c.take.ensures
+          (still_taken (names_of c.args.path.now) c.open_for_removal.new.root c.take.new.self (c.open_for_removal.ensures.still_opened c.self.invariant) c.take.ensures);
       leaf = λ e is. (c.in_ok-check_leaf.ensures {u = tt}).accepted e (told ∙ is);
     }

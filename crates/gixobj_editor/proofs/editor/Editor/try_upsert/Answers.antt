@@ -14,7 +14,7 @@ use Rattle.gixobj_directories.specs.Openings.{AreTreesOf, RefusesAt}
 use Rattle.gixobj_directories.proofs.Handing.{err_weaker}
 use Rattle.gixobj_directories.proofs.OpeningSteps.{names_none, on_err}
 use Rattle.gixobj_editor.specs.Edits.{RefusesUpsert}
-use Rattle.gixobj_editor.proofs.Edited.{at_files, halted_so, name_refused, nothing_upserted, opened_so, refuses, upserted_at}
+use Rattle.gixobj_editor.proofs.Edited.{at_files, halted_so, name_refused, nothing_upserted, opened_as, opened_so, refuses, still_put, unchanged_at, upserted_at}
 use Rattle.gixobj_editor.proofs.Paths.{names_last}
 use Rattle.gixobj_editor.proofs.editor.Editor.try_upsert.Goals as goal
 
@@ -23,8 +23,12 @@ returns-in_err-check_names-clause-refusal g c = err_weaker c.from_residual.resul
     subst (RefusesUpsert (g.S.Store.objects c.args.self.now.store) (g.S.Store.may_fail c.args.self.now.store) trees (open_dirs c.args.self.now) (names_of c.args.path.now)) (sym is)
     (name_refused (g.S.Store.objects c.args.self.now.store) (g.S.Store.may_fail c.args.self.now.store) trees (open_dirs c.args.self.now) (names_of c.args.path.now) c.in_err-check_names.field-0.0 (c.in_err-check_names.ensures {u = tt}).refusal))
 
+pub returns-in_err-check_names-clause-refused : goal.returns-in_err-check_names-clause-refused
+returns-in_err-check_names-clause-refused g c =
+    on_err c.from_residual.result _ (λ trees fits. unchanged_at c.self.inside.store c.self.inside.object_hash trees c.self.inside.root c.self.inside.lookups c.args.self.now c.self.view_is (names_of c.args.path.now) c.self.invariant)
+
 pub returns-in_default-clause-upserted : goal.returns-in_default-clause-upserted
-returns-in_default-clause-upserted g c = λ trees fits. nothing_upserted trees c.args.self.now (names_of c.args.path.now) (names_none c.args.path.now c.in_default.ensures.cases) (mode_of_kind c.args.kind) c.args.id
+returns-in_default-clause-upserted g c = λ trees fits. nothing_upserted trees c.args.self.now (names_of c.args.path.now) (names_none c.args.path.now c.in_default.ensures.cases) (mode_of_kind c.args.kind) c.args.id (opened_as c.self.inside.store c.self.inside.object_hash c.self.inside.root c.self.inside.lookups c.args.self.now c.self.view_is c.self.invariant)
 
 pub returns-in_err-open_along-clause-refused : goal.returns-in_err-open_along-clause-refused
 returns-in_err-open_along-clause-refused g c =
@@ -33,7 +37,7 @@ returns-in_err-open_along-clause-refused g c =
     let is = names_last c.args.path.now c.in-Some.directory.now c.in-Some._last.now c.in-Some.ensures.cases.0 in
     let stored = ap (λ (o : State _). o.store) c.self.view_is in
     let bad = (c.in_err-open_along.ensures {u = tt}).halted trees (subst (λ o. AreTreesOf (g.S.Store.objects o) trees) (sym stored) fits) in
-    halted_so s.store s.object_hash trees s.root c.open_along.new.self s.lookups c.open_along.new.lookups c.args.self.now c.self.view_is (names_of c.args.path.now) (names_of c.in-Some.directory.now) (bstring_bytes c.in-Some._last.now) is bad.0 bad.1 bad.2 bad.3)
+    halted_so s.store s.object_hash trees s.root c.open_along.new.self s.lookups c.open_along.new.lookups c.args.self.now c.self.view_is (names_of c.args.path.now) (names_of c.in-Some.directory.now) (bstring_bytes c.in-Some._last.now) is bad.0 bad.1 bad.2 bad.3 (c.open_along.ensures.still_opened c.self.invariant))
 
 pub returns-in_err-open_along-clause-refusal : goal.returns-in_err-open_along-clause-refusal
 returns-in_err-open_along-clause-refusal g c =
@@ -58,13 +62,13 @@ returns-in_err-put-clause-refused g c =
     let ok = (c.in_ok-open_along.ensures {u = tt}).opened trees (subst (λ o. AreTreesOf (g.S.Store.objects o) trees) (sym stored) fits) in
     let same : c.put.new.self ≡ c.open_along.new.self = (c.in_err-put.ensures {u = tt}).unchanged in
     opened_so s.store s.object_hash trees at_files s.root c.put.new.self s.lookups c.open_along.new.lookups c.args.self.now c.self.view_is (names_of c.args.path.now) (names_of c.in-Some.directory.now) (bstring_bytes c.in-Some._last.now) is ok.0
-    (subst (λ (ds : Opened). Opens IsNoTree trees (names_of c.in-Some.directory.now) (dirs_of s.root) (dirs_of ds) ok.0) (sym same) ok.1) ok.2)
+    (subst (λ (ds : Opened). Opens IsNoTree trees (names_of c.in-Some.directory.now) (dirs_of s.root) (dirs_of ds) ok.0) (sym same) ok.1) ok.2 (subst (λ (ds : Opened). IsOpened (dirs_of ds)) (sym same) (c.open_along.ensures.still_opened c.self.invariant)))
 
 pub invariant_of-self-2 : goal.invariant_of-self-2
 invariant_of-self-2 g c =
-    let names = recursion_from_All IsEntryName (names_of c.args.path.now) (c.in_ok-check_names.ensures {u = tt}).accepted in
-    let put : dirs_of c.put.new.self ≡ upserted_dirs (names_of c.args.path.now) (mode_of_kind c.args.kind) c.args.id c.null-null.result (dirs_of c.open_along.new.self) = λ i at. ((c.in_ok-put.ensures {u = tt}).ok at ∙ ap (λ mode. upserted_dirs (names_of c.args.path.now) mode c.args.id c.null-null.result (dirs_of c.open_along.new.self) at) c.into.ensures) i in
-    subst (λ (d : Dirs). IsOpened d) (sym put) (opened_upserted (names_of c.args.path.now) (mode_of_kind c.args.kind) c.args.id c.null-null.result (dirs_of c.open_along.new.self) names (c.open_along.ensures.still_opened c.self.invariant))
+    still_put (names_of c.args.path.now) (mode_of_kind c.args.kind) c.args.id c.null-null.result c.open_along.new.self c.put.new.self (recursion_from_All IsEntryName (names_of c.args.path.now) (c.in_ok-check_names.ensures {u = tt}).accepted)
+    (c.open_along.ensures.still_opened c.self.invariant)
+    (λ at. (c.in_ok-put.ensures {u = tt}).ok at ∙ ap (λ mode. upserted_dirs (names_of c.args.path.now) mode c.args.id c.null-null.result (dirs_of c.open_along.new.self) at) c.into.ensures)
 
 pub returns-clause-upserted : goal.returns-clause-upserted
 returns-clause-upserted g c = λ trees fits.
@@ -76,3 +80,5 @@ returns-clause-upserted g c = λ trees fits.
     (mode_of_kind c.args.kind) c.args.id ok.0 is (c.in_ok-check_names.ensures {u = tt}).accepted ok.1
     (λ at. (c.in_ok-put.ensures {u = tt}).ok at ∙ ap (λ mode. upserted_dirs (names_of c.args.path.now) mode c.args.id c.null-null.result (dirs_of c.open_along.new.self) at) c.into.ensures
     ∙ ap (λ null. upserted_dirs (names_of c.args.path.now) (mode_of_kind c.args.kind) c.args.id null (dirs_of c.open_along.new.self) at) c.null-null.ensures.value) ok.2
+    (still_put (names_of c.args.path.now) (mode_of_kind c.args.kind) c.args.id c.null-null.result c.open_along.new.self c.put.new.self (recursion_from_All IsEntryName (names_of c.args.path.now) (c.in_ok-check_names.ensures {u = tt}).accepted) (c.open_along.ensures.still_opened c.self.invariant)
+    (λ at. (c.in_ok-put.ensures {u = tt}).ok at ∙ ap (λ mode. upserted_dirs (names_of c.args.path.now) mode c.args.id c.null-null.result (dirs_of c.open_along.new.self) at) c.into.ensures))
