@@ -9,7 +9,8 @@ use Rattle.std.proofs.lemmas.List.{drop_all}
 use Rattle.std.proofs.lemmas.List.Elements.{All-from_recursion}
 use Rattle.gixobj_trees.specs.Entries.{ComesBefore, EachLater, EntryView, IsEntryName, IsWellFormed}
 use Rattle.gixobj_ids.specs.declared.hash.object_id.ObjectId.{ObjectId}
-use Rattle.gixobj_directories.specs.Calls.{IsStorable}
+use denote.Ref.{Bor}
+use Rattle.gixobj_directories.specs.Calls.{IsCallableOnTrees, IsStorable}
 use Rattle.gixobj_files.specs.Editing.{same_name}
 use Rattle.gixobj_files.specs.Files.{Path, is_null}
 use Rattle.gixobj_directories.specs.Handing.{Stopped, Visits}
@@ -53,6 +54,10 @@ is_filled_list (x ∷ xs) h q = cc q
 pub FoldsTo-append : {P A : Type 0} (R : P → A → P → Type 0) (p : P) (xs : List A) (q : P) (ys : List A) (r : P) → FoldsTo R p xs q → FoldsTo R q ys r → FoldsTo R p (xs ++ ys) r
 FoldsTo-append R p [] q ys r h k = subst (λ v. FoldsTo R v ys r) (sym h) k
 FoldsTo-append R p (x ∷ xs) q ys r h k = (h.0, h.1, FoldsTo-append R h.0 xs q ys r h.2 k)
+
+-- a closure that may be called may be called after calls
+pub callable_after : {F : Type 0} (pre : F → Bor (List EntryView) → Type 0) (gave : F → Pair → F → Type 0) (old : F) (ps : List Pair) (mid : F) → FoldsTo gave old ps mid → IsCallableOnTrees pre gave old → IsCallableOnTrees pre gave mid
+callable_after pre gave old ps mid calls callable more state further tree storable = callable (ps ++ more) state (FoldsTo-append gave old ps mid more state calls further) tree storable
 
 pub FoldsTo-one : {P A : Type 0} (R : P → A → P → Type 0) (p : P) (x : A) (q : P) → R p x q → FoldsTo R p (x ∷ []) q
 FoldsTo-one R p x q h = (q, h, refl)

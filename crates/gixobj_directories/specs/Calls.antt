@@ -1,10 +1,12 @@
 -- What the calls promise.
 use Rattle.std.specs.Prelude.{List, All, IsFalse, map}
+use Rattle.std.specs.List.{FoldsTo}
 use denote.Ref.{Bor}
 use Rattle.bstr.specs.Owned.{bstring_bytes}
 use Rattle.bstr.specs.declared.bstring.BString.{BString}
 use Rattle.gixobj_trees.specs.Entries.{EntryView, IsEntryName, IsWellFormed}
 use Rattle.gixobj_files.specs.Files.{Path, is_null}
+use Rattle.gixobj_files.specs.Tables.{Pair}
 
 abbrev pub names_of : List BString → Path
 names_of path = map bstring_bytes path
@@ -18,6 +20,6 @@ pub record IsStorable (entries : List EntryView) : Type 0 where
   pub well_formed : IsWellFormed entries
   pub no_nulls : All (λ e. IsFalse (is_null e.id)) entries
 
--- a closure of this condition may be called on each such tree, whatever it was called on before
-abbrev pub IsCallableOnTrees : {F : Type 0} → (F → Bor (List EntryView) → Type 0) → Type 0
-IsCallableOnTrees {F} pre = (state : F) (tree : Bor (List EntryView)) → IsStorable tree.now → pre state tree
+-- the closure may be called on each such tree, as it is and after any calls that it answered with ids
+abbrev pub IsCallableOnTrees : {F : Type 0} → (F → Bor (List EntryView) → Type 0) → (F → Pair → F → Type 0) → F → Type 0
+IsCallableOnTrees {F} pre gave out = (answered : List Pair) (state : F) → FoldsTo gave out answered state → (tree : Bor (List EntryView)) → IsStorable tree.now → pre state tree

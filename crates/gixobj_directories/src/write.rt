@@ -67,7 +67,7 @@ pub(crate) fn leaves<E, F: FnMut(&Tree) -> Result<ObjectId, E>>(
     out: &mut F,
     pairs: &mut Vec<(ObjectId, Tree)>,
 ) -> Result<Tree, WriteError<E>>
-    requires { IsCallableOnTrees F.pre }
+    requires callable { IsCallableOnTrees F.pre (λ f p g. CalledAt F.FnMut f p.1 (Ok p.0) g) out.old }
     ensures ok { IfOk result (λ own. (below : List Pair) × Leaves (dirs_of node.now) below own
         × (pairs.new.items ≡ pairs.old.items ++ below) × FoldsTo (λ f p g. CalledAt F.FnMut f p.1 (Ok p.0) g) out.old below out.new) }
     ensures storable { IfOk result IsStorable }
@@ -90,7 +90,7 @@ fn visit<E, F: FnMut(&Tree) -> Result<ObjectId, E>>(
     pairs: &mut Vec<(ObjectId, Tree)>,
     own: &mut Vec<Entry>,
 ) -> Result<(), WriteError<E>>
-    requires { IsCallableOnTrees F.pre }
+    requires callable { IsCallableOnTrees F.pre (λ f p g. CalledAt F.FnMut f p.1 (Ok p.0) g) out.old }
     ensures ok { OnOk result ((inner : List Pair) × (kept : List EntryView) × Visits (in_part entry.now.name (parts children.now)) entry.now inner kept
         × (own.new.items ≡ own.old.items ++ kept) × (pairs.new.items ≡ pairs.old.items ++ inner)
         × FoldsTo (λ f p g. CalledAt F.FnMut f p.1 (Ok p.0) g) out.old inner out.new) }
@@ -131,7 +131,7 @@ fn hand<E, F: FnMut(&Tree) -> Result<ObjectId, E>>(
     out: &mut F,
     pairs: &mut Vec<(ObjectId, Tree)>,
 ) -> Result<ObjectId, WriteError<E>>
-    requires callable { IsCallableOnTrees F.pre }
+    requires callable { IsCallableOnTrees F.pre (λ f p g. CalledAt F.FnMut f p.1 (Ok p.0) g) out.old }
     requires storable { IsStorable tree }
     ensures ok { IfOk result (λ id. (pairs.new.items ≡ pairs.old.items ++ (id, tree) ∷ []) × CalledAt F.FnMut out.old tree (Ok id) out.new) }
     ensures stopped { IfErr result (Stopped (λ f p g. CalledAt F.FnMut f p.1 (Ok p.0) g) (λ f t e g. CalledAt F.FnMut f t (Err e) g) (λ ps. (id : ObjectId) × (ps ≡ (id, tree) ∷ [])) out.old out.new) }
@@ -180,7 +180,7 @@ pub fn write_all<E, F: FnMut(&Tree) -> Result<ObjectId, E>>(
     node: &mut Open,
     out: &mut F,
 ) -> Result<Written, WriteError<E>>
-    requires { IsCallableOnTrees F.pre }
+    requires { IsCallableOnTrees F.pre (λ f p g. CalledAt F.FnMut f p.1 (Ok p.0) g) out.old }
     ensures ok { IfOk result (λ it. (below : List Pair) × (own : List EntryView) × Leaves (dirs_of node.old) below own × (it.trees.items ≡ below ++ (it.id, own) ∷ [])
         × FoldsTo (λ f p g. CalledAt F.FnMut f p.1 (Ok p.0) g) out.old (below ++ (it.id, own) ∷ []) out.new × IsStorable own × (node.new ≡ opened own [])) }
     ensures stopped { IfErr result (Stopped (λ f p g. CalledAt F.FnMut f p.1 (Ok p.0) g) (λ f t e g. CalledAt F.FnMut f t (Err e) g) (HandsOut (dirs_of node.old)) out.old out.new) }

@@ -269,7 +269,7 @@ impl<S> Editor<S> {
         &mut self,
         out: F,
     ) -> Result<Written, WriteError<E>>
-        requires { IsCallableOnTrees F.pre }
+        requires { IsCallableOnTrees F.pre (λ f p g. CalledAt F.FnMut f p.1 (Ok p.0) g) out }
         ensures written { IfOk result (λ it. (last : F) × IsWritten (λ f p g. CalledAt F.FnMut f p.1 (Ok p.0) g) out self.old it.id it.trees.items self.new last) }
         ensures stopped { IfErr result (λ error. (last : F) × Stopped (λ f p g. CalledAt F.FnMut f p.1 (Ok p.0) g) (λ f t e g. CalledAt F.FnMut f t (Err e) g) (HandsOut (open_dirs self.old)) out last error) }
         ensures unchanged { OnErr result (self.new ≡ self.old) }
@@ -289,7 +289,7 @@ impl<S> Editor<S> {
         &mut self,
         out: &mut F,
     ) -> Result<Written, WriteError<E>>
-        requires { IsCallableOnTrees F.pre }
+        requires { IsCallableOnTrees F.pre (λ f p g. CalledAt F.FnMut f p.1 (Ok p.0) g) out.old }
         ensures written { IfOk result (λ it. IsWritten (λ f p g. CalledAt F.FnMut f p.1 (Ok p.0) g) out.old self.old it.id it.trees.items self.new out.new) }
         ensures stopped { IfErr result (Stopped (λ f p g. CalledAt F.FnMut f p.1 (Ok p.0) g) (λ f t e g. CalledAt F.FnMut f t (Err e) g) (HandsOut (open_dirs self.old)) out.old out.new) }
         ensures unchanged { OnErr result (self.new ≡ self.old) }

@@ -8,13 +8,13 @@ use Rattle.gixobj_files.specs.HandingOut.{Leaves, entry_with, leaves}
 use Rattle.gixobj_files.specs.Tables.{Pair}
 use Rattle.gixobj_directories.specs.Nested.{dirs_of, in_part, parts}
 use Rattle.gixobj_files.specs.Opening.{in_dir}
-use Rattle.gixobj_directories.proofs.Handing.{FoldsTo-append, FoldsTo-one, err_weaker, is_empty_list, is_filled_list, none_inside, some_inside, stopped_after, stopped_here, visit_emptied, visit_open, visit_shut, visit_written, walk_ends, walk_goes, walk_on, walk_step, walk_storable}
+use Rattle.gixobj_directories.proofs.Handing.{FoldsTo-append, FoldsTo-one, callable_after, err_weaker, is_empty_list, is_filled_list, none_inside, some_inside, stopped_after, stopped_here, visit_emptied, visit_open, visit_shut, visit_written, walk_ends, walk_goes, walk_on, walk_step, walk_storable}
 use Rattle.gixobj_directories.proofs.Levels.{level_root}
 use Rattle.gixobj_directories.proofs.Steps.{in_dir_is}
 use Rattle.gixobj_directories.proofs.write.+walk.Goals as goal
 
 pub leaves-loop-entry-init : goal.leaves-loop-entry-init
-leaves-loop-entry-init g t c = record { told = ([], sym (append-nil c.args.pairs.now.items), refl, rw c.new-own.ensures.items (λ qs own walk. walk)) }
+leaves-loop-entry-init g t c = record { told = ([], sym (append-nil c.args.pairs.now.items), refl, rw c.new-own.ensures.items (λ qs own walk. walk)); callable = c.requires.callable }
 
 pub leaves-loop-entry-preserved : goal.leaves-loop-entry-preserved
 leaves-loop-entry-preserved g t c =
@@ -31,6 +31,7 @@ leaves-loop-entry-preserved g t c =
         FoldsTo-append (λ f p h. CalledAt g.F.FnMut f p.1 (Ok p.0) h) c.args.out.now so.0 c.loop-entry.out ok.0 c.visit.new.out so.2 ok.5,
         walk_step dirs inside c.entries_of-entry-items.result.now c.loop-entry.entry-index e so.0 ok.0 c.loop-entry.own.items ok.1 c.loop-entry-test.true c.entry-item.is same ok.2 so.3 c.visit.new.own.items ok.3,
       );
+      callable = callable_after _ (λ f p h. CalledAt g.F.FnMut f p.1 (Ok p.0) h) c.loop-entry.out ok.0 c.visit.new.out ok.5 c.loop-entry.invariant.callable;
     }
 
 pub leaves-returns-in_err-visit-clause-stopped : goal.leaves-returns-in_err-visit-clause-stopped
@@ -158,3 +159,6 @@ visit-returns-clause-ok g t c =
       handed.0 ∙ ap (λ ps. ps ++ (c.in_ok-id.id, tree) ∷ []) ok.2 ∙ append_assoc c.args.pairs.now.items ok.0 ((c.in_ok-id.id, tree) ∷ []),
       FoldsTo-append gave c.args.out.now ok.0 c.leaves.new.out ((c.in_ok-id.id, tree) ∷ []) c.hand.new.out ok.3 (FoldsTo-one gave c.leaves.new.out (c.in_ok-id.id, tree) c.hand.new.out handed.1),
     )
+
+pub visit-hand-requires-clause-callable : goal.visit-hand-requires-clause-callable
+visit-hand-requires-clause-callable g t c = let ok = c.in_ok-tree.ensures.ok in callable_after _ (λ f p h. CalledAt g.F.FnMut f p.1 (Ok p.0) h) c.args.out.now ok.0 c.leaves.new.out ok.3 c.requires.callable

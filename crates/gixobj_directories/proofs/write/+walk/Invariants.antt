@@ -4,6 +4,7 @@ use Rattle.std.specs.List.{FoldsTo}
 use Rattle.gixobj_trees.specs.Entries.{EntryView}
 use Rattle.gixobj_files.specs.HandingOut.{Walks}
 use Rattle.gixobj_files.specs.Tables.{Pair}
+use Rattle.gixobj_directories.specs.Calls.{IsCallableOnTrees}
 use Rattle.gixobj_directories.specs.Nested.{dirs_of}
 use Rattle.gixobj_directories.proofs.write.+walk.Given as goal
 
@@ -12,4 +13,5 @@ abbrev pub invariant-leaves-loop-entry : goal.invariant-leaves-loop-entry
 invariant-leaves-loop-entry g l = record {
   told : (ps : List Pair) × (l.pairs.items ≡ l.fn.pairs.items ++ ps) × FoldsTo (λ f p h. CalledAt g.F.FnMut f p.1 (Ok p.0) h) l.fn.out ps l.out
       × ((qs : List Pair) (own : List EntryView) → Walks (dirs_of l.fn.node) (drop l.entry-index l.entry-items) qs own → Walks (dirs_of l.fn.node) l.entry-items (ps ++ qs) (l.own.items ++ own));
+  callable : IsCallableOnTrees (λ f tree. g.F.FnMut.pre f (tree, tt)) (λ f p h. CalledAt g.F.FnMut f p.1 (Ok p.0) h) l.out;
 }

@@ -9,3 +9,6 @@ pub returns-in_err-reserve-clause-stopped : goal.returns-in_err-reserve-clause-s
 returns-in_err-reserve-clause-stopped g c =
     err_weaker c.from_residual.result _ _ c.from_residual.ensures.1
     (stopped_here (λ f p h. CalledAt g.F.FnMut f p.1 (Ok p.0) h) (λ f tree e h. CalledAt g.F.FnMut f tree (Err e) h) (λ ps. (id : ObjectId) × (ps ≡ (id, c.args.tree) ∷ [])) c.args.out.now c.args.out.now [] ((Sha1 [], c.args.tree) ∷ []) refl (Sha1 [], refl))
+
+pub out-requires : goal.out-requires
+out-requires g c = c.requires.callable [] c.args.out.now refl _ c.requires.storable

@@ -6,7 +6,7 @@ use Rattle.gixobj_directories.specs.Handing.{Stopped}
 use Rattle.gixobj_files.specs.HandingOut.{HandsOut, Leaves}
 use Rattle.gixobj_files.specs.Tables.{Pair}
 use Rattle.gixobj_directories.specs.Nested.{dirs_of, opened}
-use Rattle.gixobj_directories.proofs.Handing.{FoldsTo-append, FoldsTo-one, err_weaker, hands_more, stopped_after, stopped_here}
+use Rattle.gixobj_directories.proofs.Handing.{FoldsTo-append, FoldsTo-one, callable_after, err_weaker, hands_more, stopped_after, stopped_here}
 use Rattle.gixobj_directories.proofs.write.write_all.Goals as goal
 
 pub returns-in_err-own-clause-stopped : goal.returns-in_err-own-clause-stopped
@@ -49,3 +49,6 @@ returns-clause-ok g c =
       (c.in_ok-own.ensures {u = tt}).storable,
       c.new.ensures ∙ ap (λ es. opened es []) (c.in_ok-root.ensures {u = tt}),
     )
+
+pub hand-requires-clause-callable : goal.hand-requires-clause-callable
+hand-requires-clause-callable g c = let ok = (c.in_ok-own.ensures {u = tt}).ok in callable_after _ (λ f p h. CalledAt g.F.FnMut f p.1 (Ok p.0) h) c.args.out.now ok.0 c.leaves.new.out ok.3 c.requires
