@@ -1,11 +1,8 @@
 -- An editor after a removal, from what became of its open directories.
-use Rattle.std.proofs.Common.{◌≡◌, ◌∙◌, ◌⊎◌, ◌≤◌, inl, inr, ℕ, true, List, [], ◌∷◌, ◌++◌, Option, Some, None, refl, sym, ap, subst, length, arith}
-use Rattle.gixobj_trees.specs.Entries.{EntryView, IsEntryName}
-use Rattle.gixobj_trees.specs.Mode.{is_tree_mode}
+use Rattle.std.proofs.Common.{◌≡◌, ◌∙◌, ◌≤◌, inl, inr, ℕ, List, [], ◌∷◌, ◌++◌, Some, refl, sym, ap, subst, length, arith}
+use Rattle.gixobj_trees.specs.Entries.{EntryView}
 use Rattle.gixobj_ids.specs.declared.hash.kind.Kind.{Kind}
 use Rattle.gixobj_ids.specs.declared.hash.object_id.ObjectId.{ObjectId}
-use Rattle.gixobj_data.specs.Stores.{Objects}
-use Rattle.gixobj_directories.specs.Calls.{AreNames}
 use Rattle.gixobj_directories.specs.Nested.{Opened, dirs_of}
 use Rattle.gixobj_files.specs.Edits.{IsUnasked, Opens, arrived, counted, down, entry_at, found, removed_dirs, stops}
 use Rattle.gixobj_files.specs.Files.{Path, Removed, SameFiles, Table, Trees}
@@ -20,7 +17,7 @@ use Rattle.gixobj_files.proofs.RemovedFiles.{IsReached, removed_files}
 use Rattle.gixobj_files.proofs.StillOpenedRemovals.{opened_removed}
 use Rattle.gixobj_files.proofs.UnopenedCounts.{IsIdle, asked_count}
 use Rattle.gixobj_editor.specs.Edits.{IsRefused, directory_of, raised}
-use Rattle.gixobj_editor.specs.Removals.{IsLeafRemoved, IsRemoved, Judges}
+use Rattle.gixobj_editor.specs.Removals.{IsRemoved}
 use Rattle.gixobj_editor.proofs.Edited.{as_map, known_above, map_dirs, none_above, same_dirs, stay, state_of}
 use Rattle.gixobj_editor.proofs.Paths.{counted_raised, directory_is}
 use Rattle.gixobj_editor.proofs.Removing.{IsOpenedFor, path_ends}

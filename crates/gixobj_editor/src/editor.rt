@@ -26,7 +26,7 @@ mod names;
 mod removal;
 
 use bstr::BString;
-use error::Error;
+pub use error::Error;
 use gixobj_data::Find;
 use gixobj_directories::open::Open;
 use gixobj_directories::opening::Unasked;

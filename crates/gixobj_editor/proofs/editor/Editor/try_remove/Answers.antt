@@ -1,11 +1,9 @@
 -- The directories above the path are opened as far as there are any, and then the entry is taken out.
-use Rattle.std.proofs.Common.{◌≡◌, ◌∙◌, sym, ap, subst}
-use Rattle.gixobj_files.specs.Edits.{IsNoTree, removed_dirs}
-use Rattle.gixobj_files.specs.Opening.{Dirs, IsOpened}
+use Rattle.std.proofs.Common.{sym, ap, subst}
+use Rattle.gixobj_files.specs.Edits.{IsNoTree}
+use Rattle.gixobj_files.specs.Opening.{Dirs}
 use Rattle.gixobj_files.specs.State.{State, open_dirs}
-use Rattle.gixobj_files.proofs.StillOpenedRemovals.{opened_removed}
 use Rattle.gixobj_directories.specs.Calls.{names_of}
-use Rattle.gixobj_directories.specs.Nested.{dirs_of}
 use Rattle.gixobj_directories.specs.Openings.{AreTreesOf}
 use Rattle.gixobj_directories.proofs.Handing.{err_weaker}
 use Rattle.gixobj_directories.proofs.OpeningSteps.{on_err}

@@ -5,9 +5,8 @@ use Rattle.bstr.specs.Owned.{bstring_bytes}
 use Rattle.gixobj_trees.specs.Entries.{IsEntryName}
 use Rattle.gixobj_trees.specs.Mode.{mode_of_kind}
 use Rattle.gixobj_files.specs.Edits.{IsNoTree, Opens, upserted_dirs}
-use Rattle.gixobj_files.specs.Opening.{Dirs, IsOpened}
+use Rattle.gixobj_files.specs.Opening.{IsOpened}
 use Rattle.gixobj_files.specs.State.{State, open_dirs}
-use Rattle.gixobj_files.proofs.StillOpened.{opened_upserted}
 use Rattle.gixobj_directories.specs.Calls.{names_of}
 use Rattle.gixobj_directories.specs.Nested.{Opened, dirs_of}
 use Rattle.gixobj_directories.specs.Openings.{AreTreesOf, RefusesAt}

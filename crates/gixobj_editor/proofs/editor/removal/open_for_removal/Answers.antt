@@ -1,5 +1,5 @@
 -- The directories are opened along the names that entries may have; then the next name, if the removal comes to it, is judged.
-use Rattle.std.proofs.Common.{◌≡◌, ◌∙◌, inl, inr, Some, None, sym, subst}
+use Rattle.std.proofs.Common.{◌≡◌, ◌∙◌, Some, None, sym, subst}
 use Rattle.std.proofs.lemmas.Result.{MatchResult-weaker}
 use Rattle.gixobj_directories.specs.Calls.{names_of}
 use Rattle.gixobj_directories.specs.Nested.{dirs_of}
