@@ -1,8 +1,12 @@
-pub mod EditorCalls
 pub use Rattle.gixobj_directories.specs.Calls
+pub use Rattle.gixobj_directories.specs.Openings
+pub use Rattle.gixobj_editor.specs.Upserts
+pub use Rattle.gixobj_editor.specs.Removals
+pub use Rattle.gixobj_editor.specs.Writes
 pub use Rattle.gixobj_files.specs.Editing
 pub use Rattle.gixobj_files.specs.Edits
 pub use Rattle.gixobj_files.specs.Files
+pub use Rattle.gixobj_files.specs.Halting
 pub use Rattle.gixobj_files.specs.HandingOut
 pub use Rattle.gixobj_files.specs.History
 pub use Rattle.gixobj_files.specs.Opening

@@ -1,8 +1,8 @@
 //! Git's objects as plain bytes, and an editor of trees.
 //!
-//! It hands on what `gixobj_base`, `gixobj_text` and `gixobj_codec` have for users: ids, kinds, loose headers, actors
-//! and times, trees, blobs, commits, tags and objects of any kind, how they are read and written, and how they are looked up
-//! in stores. Its own is [`tree::editor`].
+//! It hands on what the crates below have for users: ids, kinds, loose headers, actors and times, trees, blobs,
+//! commits, tags and objects of any kind, how they are read and written, how they are looked up in stores, and the
+//! editor of nested trees in [`tree::editor`].
 #![tactic(auto)]
 
 pub mod tree;

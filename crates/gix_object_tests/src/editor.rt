@@ -1,26 +1,27 @@
-//! The editor of one level. Ids of trees are those that `git mktree` answers.
-ghost use Rattle.std.specs.Prelude.{◌≡◌, ◌≤◌, ℕ, ◌∷◌, [], IfOk, IfSome, length};
+//! The editor at paths of one name. Ids of trees are those that `git mktree` answers.
+ghost use Rattle.std.specs.Prelude.{ℕ, ◌∷◌, [], IfOk, IfSome, Ok};
+ghost use Rattle.std.specs.Fn.{CalledAt};
 ghost use Rattle.gixobj_base.specs.Mode.{mode_of_kind};
 ghost use Rattle.gixobj_base.specs.trees.tree.entry_kind.EntryKind.TheVariants.{Blob};
 ghost use Rattle.gixobj_files.specs.State.{EditorFiles};
 ghost use Rattle.gixobj_directories.specs.Calls.{IsCallableOnTrees, names_of};
-ghost use Rattle.gixobj_files.specs.Files.{NamedFiles, SameFiles, Table};
-ghost use Rattle.gixobj_files.specs.Tables.{AgreesWithPairs};
+ghost use Rattle.gixobj_directories.specs.Openings.{AreTreesOf};
+ghost use Rattle.gixobj_files.specs.Files.{NamedFiles, SameFiles, Table, Trees};
+ghost use Rattle.gixobj_files.specs.Tables.{AgreesWithPairs, AgreesWithStore};
 ghost use Rattle.gixobj_files.specs.History.{History, remove, upsert};
 
 use crate::listing::files_of;
 use bstr::BString;
+use gix_object::find::Never;
 use gix_object::hash::{Kind as HashKind, ObjectId};
 use gix_object::tree::editor::{Editor, Error, WriteError, Written};
 use gix_object::tree::{Entry, EntryKind};
-use gix_object::{Kind, Tree, WriteTo, compute_hash, encode};
+use gix_object::{Find, Kind, Tree, WriteTo, compute_hash, encode};
 use std::alloc::{AllocError, Global};
 use std::test::Fail;
 
 /// The path of one name.
-fn path(alloc: Global, name: &[u8]) -> Result<Vec<BString>, AllocError>
-    ensures { IfOk result (λ path. length path.items ≡ 1) }
-{
+fn path(alloc: Global, name: &[u8]) -> Result<Vec<BString>, AllocError> {
     let mut path = Vec::new(alloc);
     path.push(BString::from_slice(alloc, name)?)?;
     Ok(path)
@@ -37,12 +38,12 @@ fn id_of(alloc: Global, tree: &Tree) -> Result<ObjectId, encode::Error> {
     Ok(compute_hash(HashKind::Sha1, Kind::Tree, &out))
 }
 
-fn empty_editor(alloc: Global) -> Editor<()> {
-    Editor::new(Tree::empty(alloc), (), HashKind::Sha1)
+fn empty_editor(alloc: Global) -> Editor<Never> {
+    Editor::new(Tree::empty(alloc), Never, HashKind::Sha1)
 }
 
 /// An editor after upserts, each of a kind, a name and an id.
-fn editor_with(alloc: Global, rows: &[(EntryKind, &[u8], &[u8])]) -> Result<Editor<()>, Fail> {
+fn editor_with(alloc: Global, rows: &[(EntryKind, &[u8], &[u8])]) -> Result<Editor<Never>, Fail> {
     let mut editor = empty_editor(alloc);
     for (kind, name, named) in rows {
         editor.upsert(&path(alloc, name)?, *kind, id(named)?)?;
@@ -60,7 +61,7 @@ fn names(alloc: Global, tree: &Tree) -> Result<Vec<u8>, AllocError> {
 }
 
 /// The one tree that a write handed out.
-fn written(alloc: Global, editor: &mut Editor<()>) -> Result<Written, Fail> {
+fn written(alloc: Global, editor: &mut Editor<Never>) -> Result<Written, Fail> {
     match editor.write(|tree: &Tree| id_of(alloc, tree)) {
         Ok(written) => Ok(written),
         Err(_) => Err("a refused write")?,
@@ -68,7 +69,7 @@ fn written(alloc: Global, editor: &mut Editor<()>) -> Result<Written, Fail> {
 }
 
 /// The id of the one tree that a write handed out, and the names in it.
-fn one_tree(alloc: Global, editor: &mut Editor<()>) -> Result<(ObjectId, Vec<u8>), Fail> {
+fn one_tree(alloc: Global, editor: &mut Editor<Never>) -> Result<(ObjectId, Vec<u8>), Fail> {
     let written = written(alloc, editor)?;
     let [(_, tree)] = written.trees.as_slice() else {
         return Err("one tree")?;
@@ -82,22 +83,21 @@ fn answer(edit: Result<(), Error>) -> &'static str {
         Ok(()) => "accepted",
         Err(Error::EmptyPathComponent) => "empty",
         Err(Error::SlashInPathComponent) => "slashed",
-        Err(Error::OutOfMemory) => "no memory",
+        Err(_) => "otherwise refused",
     }
 }
 
 /// Two edits and a write: the tree that is named has the files of that history.
-fn edited_and_written<S, E: Drop, F: FnMut(&Tree) -> Result<ObjectId, E> + Drop>(
+fn edited_and_written<S: Find, E: Drop, F: FnMut(&Tree) -> Result<ObjectId, E> + Drop>(
     editor: &mut Editor<S>,
     first: &[BString],
     id: ObjectId,
     second: &[BString],
     out: F,
 ) -> Result<Option<Written>, Error>
-    requires short { (length first.now ≤ 1) × (length second.now ≤ 1) }
-    requires callable { IsCallableOnTrees F.pre }
-    ensures { IfOk result (λ it. IfSome it (λ written. (T : Table) (n : ℕ) → AgreesWithPairs T written.trees.items → SameFiles (NamedFiles T n written.id)
-        (History T n (upsert (names_of first.now) (mode_of_kind Blob) id ∷ remove (names_of second.now) ∷ []) (EditorFiles T n editor.old)))) }
+    requires callable { IsCallableOnTrees F.pre (λ f p g. CalledAt F.FnMut f p.1 (Ok p.0) g) out }
+    ensures { IfOk result (λ it. IfSome it (λ written. (trees : Trees) → AreTreesOf (S.objects editor.old.store) trees → (T : Table) (n : ℕ) → AgreesWithStore T trees → AgreesWithPairs T written.trees.items
+        → SameFiles (NamedFiles T n written.id) (History T n (upsert (names_of first.now) (mode_of_kind Blob) id ∷ remove (names_of second.now) ∷ []) (EditorFiles T n editor.old)))) }
 {
     editor.try_upsert(first, EntryKind::Blob, id)?;
     editor.try_remove(second)?;
@@ -184,7 +184,7 @@ fn null_placeholder(rt: HostRuntime) -> Result<(), Fail> {
     if !root.is_well_formed() {
         return Err("a well-formed root")?;
     }
-    let mut editor = Editor::new(root, (), HashKind::Sha1);
+    let mut editor = Editor::new(root, Never, HashKind::Sha1);
     editor.upsert(
         &path(alloc, b"g")?,
         EntryKind::Blob,

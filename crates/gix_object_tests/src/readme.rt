@@ -1,6 +1,7 @@
 //! The example of the README: a commit is read, a tree is edited and written.
 
 use bstr::BString;
+use gix_object::find::Never;
 use gix_object::hash::{Kind as HashKind, ObjectId};
 use gix_object::tree::EntryKind;
 use gix_object::tree::editor::Editor;
@@ -35,7 +36,7 @@ fn commit_read_and_tree_edited(rt: HostRuntime) -> Result<(), Fail> {
 
     let path = vec![in alloc; BString::from_slice(alloc, b"hello.txt")?]?;
     let blob = ObjectId::from_hex(BLOB).ok_or("an id")?;
-    let mut editor = Editor::new(Tree::empty(alloc), (), HashKind::Sha1);
+    let mut editor = Editor::new(Tree::empty(alloc), Never, HashKind::Sha1);
     editor.upsert(&path, EntryKind::Blob, blob)?;
     let Ok(written) = editor.write(|tree: &Tree| id_of(alloc, tree)) else {
         return Err("a refused write")?;

@@ -27,7 +27,7 @@ use Rattle.gixobj_directories.specs.Nested.{Opened, dirs_of}
 use Rattle.gixobj_directories.specs.Openings.{RefusesAt}
 use Rattle.gixobj_directories.specs.declared.opening.Error as directory
 use Rattle.gixobj_directories.specs.declared.opening.Error.TheVariants as opening
-use Rattle.gixobj_editor.specs.Edits.{IsRefused, IsUpserted, RefusesName, RefusesNames, RefusesUpsert, directory_of, edit_refusal, raised}
+use Rattle.gixobj_editor.specs.Upserts.{IsRefused, IsUpserted, RefusesName, RefusesNames, RefusesUpsert, directory_of, edit_refusal, raised}
 use Rattle.gixobj_editor.specs.declared.editor.error.Error.{Error}
 use Rattle.gixobj_editor.specs.declared.editor.error.Error.TheVariants as error
 use Rattle.gixobj_editor.proofs.Paths.{counted_raised, directory_is, strictly_above}

@@ -7,7 +7,7 @@ use Rattle.gixobj_directories.specs.Calls.{names_of}
 use Rattle.gixobj_files.specs.Edits.{counted}
 use Rattle.gixobj_files.specs.Files.{Path}
 use Rattle.gixobj_ids.specs.declared.hash.object_id.ObjectId.{ObjectId}
-use Rattle.gixobj_editor.specs.Edits.{directory_of, raised}
+use Rattle.gixobj_editor.specs.Upserts.{directory_of, raised}
 
 pub directory_is : (front : Path) (last : List ℕ) → directory_of (front ++ last ∷ []) ≡ front
 directory_is [] last = refl

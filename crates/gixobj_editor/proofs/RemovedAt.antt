@@ -16,7 +16,7 @@ use Rattle.gixobj_files.proofs.OpeningFiles.{opens_files}
 use Rattle.gixobj_files.proofs.RemovedFiles.{IsReached, removed_files}
 use Rattle.gixobj_files.proofs.StillOpenedRemovals.{opened_removed}
 use Rattle.gixobj_files.proofs.UnopenedCounts.{IsIdle, asked_count}
-use Rattle.gixobj_editor.specs.Edits.{IsRefused, directory_of, raised}
+use Rattle.gixobj_editor.specs.Upserts.{IsRefused, directory_of, raised}
 use Rattle.gixobj_editor.specs.Removals.{IsRemoved}
 use Rattle.gixobj_editor.proofs.Edited.{as_map, known_above, map_dirs, none_above, same_dirs, stay, state_of}
 use Rattle.gixobj_editor.proofs.Paths.{counted_raised, directory_is}

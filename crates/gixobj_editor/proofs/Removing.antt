@@ -17,7 +17,7 @@ use Rattle.gixobj_files.specs.Unopened.{unopened_count}
 use Rattle.gixobj_files.proofs.Coming.{comes_open, open_comes, opens_longer}
 use Rattle.gixobj_files.proofs.Halted.{halted_at, halted_count, halted_shut, halts_opens}
 use Rattle.gixobj_files.proofs.UnopenedCounts.{IsIdle, opens_at_most}
-use Rattle.gixobj_editor.specs.Edits.{IsJudged, RefusesName, RefusesNames, directory_of, edit_refusal}
+use Rattle.gixobj_editor.specs.Upserts.{IsJudged, RefusesName, RefusesNames, directory_of, edit_refusal}
 use Rattle.gixobj_editor.specs.Removals.{Judges, RefusesRemoval}
 use Rattle.gixobj_editor.specs.declared.editor.error.Error.{Error}
 use Rattle.gixobj_editor.specs.declared.editor.error.Error.TheVariants as error

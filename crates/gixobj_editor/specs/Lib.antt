@@ -1,5 +1,5 @@
-pub mod Edits
 pub mod Removals
+pub mod Upserts
 pub mod Writes
 pub use Rattle.gixobj_directories.specs.Calls
 pub use Rattle.gixobj_directories.specs.Openings

@@ -17,7 +17,7 @@ use Rattle.gixobj_ids.specs.declared.hash.object_id.ObjectId.{ObjectId}
 use Rattle.gixobj_texts.specs.Bytes.{slash}
 use Rattle.gixobj_trees.specs.Entries.{EntryView, IsEntryName}
 use Rattle.gixobj_trees.specs.Mode.{is_tree_mode}
-use Rattle.gixobj_editor.specs.Edits.{RefusesName, directory_of, raised}
+use Rattle.gixobj_editor.specs.Upserts.{RefusesName, directory_of, raised}
 use Rattle.gixobj_editor.specs.declared.editor.error.Error.{Error}
 use Rattle.gixobj_editor.specs.declared.editor.error.Error.TheVariants as error
 

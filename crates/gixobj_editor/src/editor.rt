@@ -17,7 +17,7 @@ ghost use Rattle.gixobj_directories.specs.Calls.{IsCallableOnTrees, names_of};
 ghost use Rattle.gixobj_directories.specs.Handing.{Stopped};
 ghost use Rattle.gixobj_editor.specs.Writes.{IsWritten};
 ghost use Rattle.gixobj_directories.specs.Openings.{AreTreesOf};
-ghost use Rattle.gixobj_editor.specs.Edits.{IsForAName, IsRefused, IsUpserted, RefusesUpsert};
+ghost use Rattle.gixobj_editor.specs.Upserts.{IsForAName, IsRefused, IsUpserted, RefusesUpsert};
 ghost use Rattle.gixobj_editor.specs.Removals.{IsLeafRemoved, IsRemoved, RefusesLeafRemoval, RefusesRemoval};
 ghost use Rattle.gixobj_editor.specs.contracts.editor.Editor.{the_row};
 

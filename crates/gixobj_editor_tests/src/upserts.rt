@@ -89,9 +89,9 @@ fn has(
     names: &[&[u8]],
     kind: EntryKind,
     id: ObjectId,
-) -> Result<bool, AllocError> {
+) -> Result<bool, Fail> {
     let path = path(alloc, names)?;
-    Ok(match editor.get(&path) {
+    Ok(match editor.get(&path)? {
         Some(entry) => entry.mode.kind() == kind && entry.oid == id,
         None => false,
     })

@@ -43,7 +43,7 @@ impl From<AllocError> for Error {
 
 impl From<opening::Error> for Error {
     ghost use Rattle.std.specs.Prelude.{◌≡◌};
-    ghost use Rattle.gixobj_editor.specs.Edits.{edit_refusal};
+    ghost use Rattle.gixobj_editor.specs.Upserts.{edit_refusal};
 
     ghost from_gives = { λ cause error. error ≡ edit_refusal cause };
 

@@ -3,7 +3,7 @@ ghost use Rattle.std.specs.Prelude.{◌≡◌, ◌≤◌, IfErr, OnOk, drop, len
 ghost use Rattle.bstr.specs.Owned.{bstring_bytes};
 ghost use Rattle.gixobj_trees.specs.Entries.{IsEntryName};
 ghost use Rattle.gixobj_directories.specs.Calls.{AreNames, names_of};
-ghost use Rattle.gixobj_editor.specs.Edits.{IsJudged, RefusesName, RefusesNames, StartsRefused, directory_of};
+ghost use Rattle.gixobj_editor.specs.Upserts.{IsJudged, RefusesName, RefusesNames, StartsRefused, directory_of};
 
 use crate::editor::error::Error;
 use bstr::BString;

@@ -12,7 +12,7 @@ ghost use Rattle.gixobj_ids.specs.declared.hash.object_id.ObjectId.{ObjectId};
 ghost use Rattle.gixobj_texts.specs.Bytes.{slash};
 ghost use Rattle.gixobj_trees.specs.Entries.{EntryView, IsEntryName};
 ghost use Rattle.gixobj_trees.specs.Mode.{is_tree_mode};
-ghost use Rattle.gixobj_editor.specs.Edits.{RefusesNames, directory_of};
+ghost use Rattle.gixobj_editor.specs.Upserts.{RefusesNames, directory_of};
 ghost use Rattle.gixobj_editor.specs.Removals.{Judges, RefusesDirectoryAt, RefusesRemoval};
 
 use crate::editor::error::Error;

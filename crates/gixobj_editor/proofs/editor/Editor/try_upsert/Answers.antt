@@ -12,7 +12,7 @@ use Rattle.gixobj_directories.specs.Nested.{Opened, dirs_of}
 use Rattle.gixobj_directories.specs.Openings.{AreTreesOf, RefusesAt}
 use Rattle.gixobj_directories.proofs.Handing.{err_weaker}
 use Rattle.gixobj_directories.proofs.OpeningSteps.{names_none, on_err}
-use Rattle.gixobj_editor.specs.Edits.{RefusesUpsert}
+use Rattle.gixobj_editor.specs.Upserts.{RefusesUpsert}
 use Rattle.gixobj_editor.proofs.Edited.{at_files, halted_so, name_refused, nothing_upserted, opened_as, opened_so, refuses, still_put, unchanged_at, upserted_at}
 use Rattle.gixobj_editor.proofs.Paths.{names_last}
 use Rattle.gixobj_editor.proofs.editor.Editor.try_upsert.Goals as goal

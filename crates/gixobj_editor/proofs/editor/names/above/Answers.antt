@@ -1,7 +1,7 @@
 use Rattle.std.proofs.Common.{◌∙◌, ap, sym}
 use Rattle.bstr.specs.Owned.{bstring_bytes}
 use Rattle.gixobj_directories.specs.Calls.{names_of}
-use Rattle.gixobj_editor.specs.Edits.{directory_of}
+use Rattle.gixobj_editor.specs.Upserts.{directory_of}
 use Rattle.gixobj_editor.proofs.Paths.{directory_is, names_last}
 use Rattle.gixobj_editor.proofs.editor.names.above.Goals as goal
 

@@ -1,4 +1,4 @@
--- What an edit of an editor promises.
+-- What an upsert of an editor promises, and an edit that was refused.
 use Rattle.std.specs.Prelude.{◌≡◌, ◌≢◌, ◌≤◌, ◌⊎◌, ◌+◌, ◌++◌, ℕ, zero, suc, Bool, List, [], ◌∷◌, Contains, Some, min, ⊤}
 use Rattle.gixobj_data.specs.Stores.{Objects}
 use Rattle.gixobj_directories.specs.Calls.{AreNames}
