@@ -2,6 +2,7 @@
 #![tactic(auto)]
 
 pub mod entries;
+pub mod laws;
 pub mod open;
 pub mod opening;
 pub mod write;

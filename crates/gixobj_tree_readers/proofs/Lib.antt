@@ -1,4 +1,5 @@
 mod Bisecting
+pub mod Deciding
 pub mod EntryRuns
 pub mod OneEntry
 mod Viewed

@@ -1,0 +1,72 @@
+-- Every store has the trees that it names.
+use Rattle.std.proofs.Common.{◌≡◌, ◌≢◌, ⊎_elim, List, Option, Some, None, ap, refl, sym, subst, ◌∙◌}
+use Rattle.gixobj_data.specs.Stores.{Objects, StoredObject, named}
+use Rattle.gixobj_files.specs.Files.{Trees}
+use Rattle.gixobj_ids.specs.declared.hash.object_id.ObjectId.{ObjectId}
+use Rattle.gixobj_ids.specs.declared.kind.Kind.{Kind}
+use Rattle.gixobj_ids.specs.declared.kind.Kind.TheVariants.{Blob, Commit, Tag, Tree}
+use Rattle.gixobj_tree_readers.proofs.Deciding.{tree_or_none}
+use Rattle.gixobj_tree_readers.proofs.EntryRuns.{one_tree}
+use Rattle.gixobj_tree_readers.specs.TreeReading.{IsTreeText}
+use Rattle.gixobj_trees.specs.Entries.{EntryView, IsWellFormed}
+use Rattle.gixobj_directories.proofs.Deciding.{formed_or_not}
+use Rattle.gixobj_directories.specs.Openings.{AreTreesOf, NamesTree}
+
+-- the well-formed tree that the id names, or none
+abbrev IsTreeAt : Objects → ObjectId → Option (List EntryView) → Type 0
+IsTreeAt objects id found = (entries : List EntryView) → (found ≡ Some entries → NamesTree objects id entries) × (NamesTree objects id entries → found ≡ Some entries)
+
+abbrev TreeAt : Objects → ObjectId → Type 0
+TreeAt objects id = (found : Option (List EntryView)) × IsTreeAt objects id found
+
+no_tree_at : (objects : Objects) (id : ObjectId) → ((entries : List EntryView) → NamesTree objects id entries → ⊥) → TreeAt objects id
+no_tree_at objects id none = (None, λ entries. (λ is. cc is, λ names. absurd (none entries names)))
+
+-- of an object that the id names
+module _ (objects : Objects) (id : ObjectId) (kept : StoredObject) (named_so : named objects id ≡ Some kept) where
+  same_object : (other : StoredObject) → named objects id ≡ Some other → other ≡ kept
+  same_object other is = cc (is, named_so)
+
+  no_other_kind : (kind : Kind) → kept.kind ≡ kind → kind ≢ Tree → (entries : List EntryView) → NamesTree objects id entries → ⊥
+  no_other_kind kind is differs entries names =
+      differs (sym is ∙ sym (ap (λ (it : StoredObject). it.kind) (same_object names.0.0 names.0.1)) ∙ names.0.2)
+
+  text_there : (entries : List EntryView) → NamesTree objects id entries → IsTreeText kept.object_hash kept.bytes entries
+  text_there entries names =
+      let P : StoredObject → Type 0 = λ it. IsTreeText it.object_hash it.bytes entries in
+      subst P (same_object names.0.0 names.0.1) names.0.3
+
+  formed_at : kept.kind ≡ Tree → (entries : List EntryView) → IsTreeText kept.object_hash kept.bytes entries → IsWellFormed entries → TreeAt objects id
+  formed_at kind entries text formed = (
+    Some entries,
+    λ others. (
+      λ is. (let same : entries ≡ others = cc is in subst (NamesTree objects id) same ((kept, named_so, kind, text), formed)),
+      λ names. ap Some (one_tree kept.object_hash kept.bytes entries others text (text_there others names)),
+    ),
+  )
+
+  malformed_at : (entries : List EntryView) → IsTreeText kept.object_hash kept.bytes entries → (IsWellFormed entries → ⊥) → TreeAt objects id
+  malformed_at entries text malformed =
+      no_tree_at objects id (λ others names. malformed (subst IsWellFormed (one_tree kept.object_hash kept.bytes others entries (text_there others names) text) names.1))
+
+  text_at : kept.kind ≡ Tree → TreeAt objects id
+  text_at kind =
+      ⊎_elim (λ is. ⊎_elim (formed_at kind is.0 is.1) (malformed_at is.0 is.1) (formed_or_not is.0))
+      (λ none. no_tree_at objects id (λ entries names. none entries (text_there entries names)))
+      (tree_or_none kept.object_hash kept.bytes)
+
+  kind_at : (kind : Kind) → kept.kind ≡ kind → TreeAt objects id
+  kind_at Tree is = text_at is
+  kind_at Blob is = no_tree_at objects id (no_other_kind Blob is (λ same. cc same))
+  kind_at Commit is = no_tree_at objects id (no_other_kind Commit is (λ same. cc same))
+  kind_at Tag is = no_tree_at objects id (no_other_kind Tag is (λ same. cc same))
+
+found_at : (objects : Objects) (id : ObjectId) (found : Option StoredObject) → named objects id ≡ found → TreeAt objects id
+found_at objects id None none = no_tree_at objects id (λ entries names. cc (none, names.0.1))
+found_at objects id (Some kept) some = kind_at objects id kept some kept.kind refl
+
+tree_at : (objects : Objects) (id : ObjectId) → TreeAt objects id
+tree_at objects id = found_at objects id (named objects id) refl
+
+pub trees_of : (objects : Objects) → (trees : Trees) × AreTreesOf objects trees
+trees_of objects = (λ id. (tree_at objects id).0, λ id. (tree_at objects id).1)
