@@ -5,6 +5,7 @@
 //! editor of nested trees in [`tree::editor`].
 #![tactic(auto)]
 
+pub mod laws;
 pub mod tree;
 
 pub use gixobj_base::{
@@ -16,6 +17,5 @@ pub use gixobj_codec::{
     LooseDecodeError, Object, ObjectRef, Store, Tag, TagRef, TagRefIter, TreeRef, TreeRefIter,
     commit, data, tag,
 };
-pub use gixobj_files::laws;
 pub use gixobj_lookups::{FindExt, HeaderExt, Write, find, write};
 pub use gixobj_text::signature;

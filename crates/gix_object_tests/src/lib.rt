@@ -11,3 +11,5 @@ mod listing;
 mod public_paths;
 #[cfg(test)]
 mod readme;
+#[cfg(test)]
+mod scripts;

@@ -68,7 +68,10 @@ mod of_kind {
 }
 
 mod of_laws {
-    pub use gix_object::laws::{a_root_alone_is_opened, every_list_makes_a_table};
+    pub use gix_object::laws::{
+        a_root_alone_is_opened, every_list_makes_a_table, every_store_has_its_own_table,
+        every_store_names_trees, fitting_pairs_have_a_table,
+    };
 }
 
 mod of_signature {

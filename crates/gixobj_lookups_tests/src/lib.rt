@@ -2,6 +2,8 @@
 #![tactic(auto)]
 
 #[cfg(test)]
+mod editing;
+#[cfg(test)]
 mod existing;
 #[cfg(test)]
 mod failing;

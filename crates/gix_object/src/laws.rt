@@ -1,0 +1,7 @@
+//! Laws of the definitions. Each function does nothing: its contract is the law.
+
+pub use gixobj_directories::laws::every_store_names_trees;
+pub use gixobj_files::laws::{
+    a_root_alone_is_opened, every_list_makes_a_table, every_store_has_its_own_table,
+    fitting_pairs_have_a_table,
+};
