@@ -67,7 +67,7 @@ pub fn read_back(alloc: Global, tree: &Tree, kind: Kind) -> Result<Tree, CopyErr
 /// A root with an entry put in at a path, handed out. In each table that agrees with the store and with what
 /// was handed out, the tree that is named has, to every depth, exactly the files that the edit makes of the
 /// root's. `None` where handing out was refused.
-pub fn with_entry<S: Find, E: Drop, F: FnMut(&Tree) -> Result<ObjectId, E> + Drop>(
+pub fn with_entry<S: Find + Drop, E: Drop, F: FnMut(&Tree) -> Result<ObjectId, E> + Drop>(
     root: Tree,
     store: S,
     path: &[BString],
