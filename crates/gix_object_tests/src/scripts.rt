@@ -12,6 +12,7 @@ use std::alloc::{AllocError, Global};
 use std::test::Fail;
 
 /// Numbers that follow from a seed and look random.
+#[derive(Drop)]
 struct Numbers {
     state: u64,
 }
@@ -150,7 +151,9 @@ fn writes(
     let written = written(alloc, editor)?;
     for (id, tree) in written.trees {
         let text = text_of(alloc, &tree)?;
-        editor.store_mut().insert(Kind::Tree, HashKind::Sha1, &text)?;
+        editor
+            .store_mut()
+            .insert(Kind::Tree, HashKind::Sha1, &text)?;
         table.push((id, tree))?;
     }
     let Some((id, root)) = table.last() else {
