@@ -1,3 +1,4 @@
+pub mod AssuredFiles
 pub mod Coming
 pub mod EditedFiles
 pub mod Formed
@@ -12,6 +13,7 @@ pub mod OpeningFiles
 pub mod Placing
 pub mod RemovedFiles
 pub mod StillOpened
+pub mod StillOpenedAssured
 pub mod StillOpenedOpenings
 pub mod StillOpenedRemovals
 pub mod Sublists

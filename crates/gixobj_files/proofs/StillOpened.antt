@@ -21,10 +21,10 @@ AreFormed dirs = (path : Path) (entries : List EntryView) → dirs path ≡ Some
 abbrev pub AreAbove : Dirs → Type 0
 AreAbove dirs = (path : Path) (name : List ℕ) (entries : List EntryView) → dirs (path ++ name ∷ []) ≡ Some entries → (e : EntryView) × HasAt (dirs path) e × (e.name ≡ name) × IsTrue (is_tree_mode e.mode)
 
-some_is : {X : Type 0} (x y : X) → Some x ≡ Some y → x ≡ y
+pub some_is : {X : Type 0} (x y : X) → Some x ≡ Some y → x ≡ y
 some_is x y e = cc e
 
-formed_or_empty : (o : Option (List EntryView)) → ((es : List EntryView) → o ≡ Some es → IsWellFormed es) → IsWellFormed (or_empty o)
+pub formed_or_empty : (o : Option (List EntryView)) → ((es : List EntryView) → o ≡ Some es → IsWellFormed es) → IsWellFormed (or_empty o)
 formed_or_empty None h = record { names = tt; apart = tt; ascending = tt }
 formed_or_empty (Some es) h = h es refl
 

@@ -12,7 +12,7 @@ use Rattle.gixobj_files.proofs.HasTrees.{has_tree_of, tree_there}
 use Rattle.gixobj_files.proofs.OpenedFiles.{elsewhere, from_open, from_shut, into_open, into_shut, name_itself, name_other, no_tree_below, none_open, same_names}
 
 -- where a directory is made, entries of other names stay as they are
-has_directory : (name : List ℕ) (null : ObjectId) (es : List EntryView) (e : EntryView) → e.name ≢ name → Has (with_directory name null es) e → Has es e
+pub has_directory : (name : List ℕ) (null : ObjectId) (es : List EntryView) (e : EntryView) → e.name ≢ name → Has (with_directory name null es) e → Has es e
 has_directory name null es e differ =
     let x : EntryView = record { mode = tree_type; name = name; id = null } in
     elim (has_tree name es) as (λ b. Has (cond b es (with_entry x es)) e → Has es e) [
@@ -26,10 +26,10 @@ directory_has name null es e differ =
     elim (has_tree name es) as (λ b. Has es e → Has (cond b es (with_entry x es)) e) [ true ↦ λ h. h | false ↦ λ h. has_still x es e h differ ]
 
 -- the directory that was made has an entry
-made : (name : List ℕ) (null : ObjectId) (es : List EntryView) → (e : EntryView) × Has (with_directory name null es) e × (e.name ≡ name)
+pub made : (name : List ℕ) (null : ObjectId) (es : List EntryView) → (e : EntryView) × Has (with_directory name null es) e × (e.name ≡ name)
 made name null es = let h = has_tree_of name (with_directory name null es) (tree_there name null es) in (h.0, h.1, h.2)
 
-or_empty_has : (o : Option (List EntryView)) (e : EntryView) → Has (or_empty o) e → HasAt o e
+pub or_empty_has : (o : Option (List EntryView)) (e : EntryView) → Has (or_empty o) e → HasAt o e
 or_empty_has None e h = h
 or_empty_has (Some es) e h = h
 
