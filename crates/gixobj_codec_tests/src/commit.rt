@@ -12,20 +12,25 @@ mod signed;
 mod told;
 mod writers;
 
-use gixobj_base::actor::SignatureRef;
 use gixobj_base::hash::{self, ObjectId};
 use gixobj_base::{Kind, WriteTo, compute_hash, decode, encode};
 use gixobj_codec::commit::ref_iter::Token;
-use gixobj_codec::commit::{CommitRef, CommitRefIter};
+use gixobj_codec::commit::{Commit, CommitRef, CommitRefIter};
+pub(crate) use signed::SIGNED;
 use std::alloc::{AllocError, Global};
-use std::test::Fail;
 
 /// The lines of a first commit of the empty tree.
 const FRONT: &[u8] = b"tree 4b825dc642cb6eb9a060e54bf8d69288fbee4904\n\
     author A <a@b> 0 +0000\n\
     committer A <a@b> 0 +0000\n";
 
-/// The text of that commit, with further lines behind its committer, and the message `hi`.
+/// That commit, with the message `hi`.
+const PLAIN: &[u8] = b"tree 4b825dc642cb6eb9a060e54bf8d69288fbee4904\n\
+    author A <a@b> 0 +0000\n\
+    committer A <a@b> 0 +0000\n\
+    \nhi\n";
+
+/// The text of that commit, with further lines behind its committer.
 fn commit_with(alloc: Global, lines: &[u8]) -> Result<Vec<u8>, AllocError> {
     let mut text = Vec::from_slice(alloc, FRONT)?;
     text.extend_from_slice(lines)?;
@@ -61,43 +66,60 @@ fn written<T: WriteTo>(alloc: Global, commit: &T) -> Result<Vec<u8>, encode::Err
 }
 
 /// Whether a commit is written so, and counted with as many bytes.
-fn is_written<T: WriteTo>(alloc: Global, commit: &T, wanted: &[u8]) -> Result<bool, encode::Error>
+fn is_written<T: WriteTo>(alloc: Global, commit: &T, wanted: &[u8]) -> bool
     requires { T.can_write commit.now }
 {
-    let is_counted = commit.size() == Some(wanted.len() as u64);
-    let is_same = written(alloc, commit)?.as_slice() == wanted;
-    Ok(is_counted && is_same)
+    match written(alloc, commit) {
+        Ok(out) => out.as_slice() == wanted && commit.size() == Some(wanted.len() as u64),
+        Err(_) => false,
+    }
+}
+
+/// The owned form of the commit of a text.
+fn owned_form(alloc: Global, text: &[u8], hash_kind: hash::Kind) -> Result<Commit, decode::Error> {
+    CommitRef::from_bytes(alloc, text, hash_kind)?.into_owned(alloc)
+}
+
+/// Whether the commit of a text is written so as it is read.
+fn is_kept(alloc: Global, text: &[u8], hash_kind: hash::Kind, wanted: &[u8]) -> bool {
+    match CommitRef::from_bytes(alloc, text, hash_kind) {
+        Ok(commit) => is_written(alloc, &commit, wanted),
+        Err(_) => false,
+    }
 }
 
 /// Whether the commit of a text is written so as it is read, and so as it is owned.
-fn are_written(alloc: Global, text: &[u8], borrowed: &[u8], owned: &[u8]) -> Result<bool, Fail> {
-    let commit = CommitRef::from_bytes(alloc, text, hash::Kind::Sha1)?;
-    let is_first = is_written(alloc, &commit, borrowed)?;
-    let is_second = is_written(alloc, &commit.into_owned(alloc)?, owned)?;
-    Ok(is_first && is_second)
+fn are_written(
+    alloc: Global,
+    text: &[u8],
+    hash_kind: hash::Kind,
+    borrowed: &[u8],
+    owned: &[u8],
+) -> bool {
+    match owned_form(alloc, text, hash_kind) {
+        Ok(commit) => {
+            is_written(alloc, &commit, owned) && is_kept(alloc, text, hash_kind, borrowed)
+        }
+        Err(_) => false,
+    }
 }
 
-/// For what a commit is refused, and what is written of it before that.
-fn refusal<T: WriteTo>(alloc: Global, commit: &T) -> (&'static str, Vec<u8>)
-    requires { T.can_write commit.now }
-{
-    let mut out = Vec::new(alloc);
-    let name = match commit.write_to(alloc, &mut out) {
+/// For what a commit is refused.
+fn refusal(outcome: &Result<(), encode::Error>) -> &'static str {
+    match outcome {
         Ok(()) => "nothing",
         Err(encode::Error::EmptyValue) => "an empty value",
         Err(encode::Error::IllegalActor) => "an illegal actor",
         Err(_) => "something else",
-    };
-    (name, out)
+    }
 }
 
-/// The name, the email and the time of an actor.
-fn parts(actor: SignatureRef<'_>) -> [&[u8]; 3] {
-    [
-        actor.name.as_bytes(),
-        actor.email.as_bytes(),
-        actor.time.as_bytes(),
-    ]
+/// Whether a commit is refused for this behind these bytes.
+fn is_refused_for<T: WriteTo>(alloc: Global, commit: &T, fault: &str, before: &[u8]) -> bool
+    requires { T.can_write commit.now }
+{
+    let mut out = Vec::new(alloc);
+    refusal(&commit.write_to(alloc, &mut out)) == fault && out.as_slice() == before
 }
 
 /// What the reader of tokens gives at a call.
@@ -116,15 +138,15 @@ fn name_of(item: &Option<Result<Token<'_>, decode::Error>>) -> &'static str {
     }
 }
 
-/// What the reader of tokens gives at its first calls, of this number.
-fn names_told(alloc: Global, text: &[u8], calls: usize) -> Result<Vec<&'static str>, AllocError> {
-    let mut names = Vec::new(alloc);
+/// Whether the reader of tokens gives this at its first calls.
+fn tells(alloc: Global, text: &[u8], names: &[&str]) -> bool {
     let mut tokens = CommitRefIter::from_bytes(alloc, text, hash::Kind::Sha1);
-    for _ in 0..calls {
-        let item = tokens.next();
-        names.push(name_of(&item))?;
+    for name in names {
+        if name_of(&tokens.next()) != *name {
+            return false;
+        }
     }
-    Ok(names)
+    true
 }
 
 /// Whether this is the id that `git hash-object` gives the text of a commit.

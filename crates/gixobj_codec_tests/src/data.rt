@@ -1,10 +1,10 @@
 //! Objects whose content is not yet read.
 
 use gixobj_base::{Kind, hash};
+use gixobj_codec::Data;
 use gixobj_codec::commit::ref_iter::Token;
-use gixobj_codec::{CommitRefIter, Data};
+use std::alloc::Global;
 use std::hash::{DefaultHasher, Hash, Hasher};
-use std::test::Fail;
 
 fn hash_of<T: Hash>(value: &T) -> u64 {
     let mut state = DefaultHasher::new();
@@ -18,38 +18,36 @@ const COMMIT: &[u8] = b"tree 4b825dc642cb6eb9a060e54bf8d69288fbee4904\n\
     committer A <a@b> 0 +0000\n\
     \nhi\n";
 
-/// Whether the reader tells a tree first.
-fn tells_a_tree(mut tokens: CommitRefIter<'_>) -> bool {
-    matches!(&tokens.next(), Some(Ok(Token::Tree { .. })))
+/// Whether the commit is told as an object of this kind, and whether it tells a tree first.
+fn tells_a_tree(alloc: Global, kind: Kind, hash_kind: hash::Kind) -> Option<bool> {
+    let mut tokens = Data::new(COMMIT, kind, hash_kind).try_into_commit_iter(alloc)?;
+    Some(matches!(&tokens.next(), Some(Ok(Token::Tree { .. }))))
 }
 
 #[test]
-fn only_a_commit_is_told(rt: HostRuntime) -> Result<(), Fail> {
-    let alloc = rt.alloc();
-    let commit = Data::new(COMMIT, Kind::Commit, hash::Kind::Sha1);
-    assert!(rt; tells_a_tree(commit.try_into_commit_iter(alloc).ok_or("a commit")?));
-    let other = Data::new(COMMIT, Kind::Commit, hash::Kind::Sha256);
-    assert!(rt; !tells_a_tree(other.try_into_commit_iter(alloc).ok_or("a commit")?));
+fn only_a_commit_is_told(rt: HostRuntime) {
+    assert!(rt; tells_a_tree(rt.alloc(), Kind::Commit, hash::Kind::Sha1) == Some(true));
+    assert!(rt; tells_a_tree(rt.alloc(), Kind::Commit, hash::Kind::Sha256) == Some(false));
     for kind in [Kind::Tree, Kind::Blob, Kind::Tag] {
-        let data = Data::new(COMMIT, kind, hash::Kind::Sha1);
-        assert!(rt; data.try_into_commit_iter(alloc).is_none(), "{kind}");
+        let is_told = tells_a_tree(rt.alloc(), kind, hash::Kind::Sha1);
+        assert!(rt; is_told.is_none(), "{kind}");
     }
-    Ok(())
 }
+
+/// Contents that come behind `a` of a tree with ids of SHA-1.
+const OTHERS: &[(&[u8], Kind, hash::Kind)] = &[
+    (b"a", Kind::Blob, hash::Kind::Sha1),
+    (b"a", Kind::Tree, hash::Kind::Sha256),
+    (b"ab", Kind::Tree, hash::Kind::Sha1),
+];
 
 #[test]
 fn order_and_hash(rt: HostRuntime) {
     let data = Data::new(b"a", Kind::Tree, hash::Kind::Sha1);
     let same = Data::new(b"a", Kind::Tree, hash::Kind::Sha1);
-    assert!(rt; data == same);
-    assert!(rt; hash_of(&data) == hash_of(&same));
-    let others = [
-        Data::new(b"a", Kind::Blob, hash::Kind::Sha1),
-        Data::new(b"a", Kind::Tree, hash::Kind::Sha256),
-        Data::new(b"ab", Kind::Tree, hash::Kind::Sha1),
-    ];
-    for other in others {
-        assert!(rt; data < other);
-        assert!(rt; hash_of(&data) != hash_of(&other));
+    assert!(rt; data == same && hash_of(&data) == hash_of(&same));
+    for &(bytes, kind, hash_kind) in OTHERS {
+        let other = Data::new(bytes, kind, hash_kind);
+        assert!(rt; data < other && hash_of(&data) != hash_of(&other));
     }
 }

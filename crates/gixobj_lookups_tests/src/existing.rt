@@ -94,104 +94,132 @@ fn store_of(
     Ok((Failing::new(alloc, objects, failing), id))
 }
 
-#[test]
-fn objects_of_each_kind(rt: HostRuntime) -> Result<(), Fail> {
-    for kind in KINDS {
-        let (store, id) = store_of(rt.alloc(), kind, text_of(kind), false)?;
-        for wanted in KINDS {
-            let answer = found(rt.alloc(), &store, wanted, id);
-            let expected = match kind == wanted {
-                true => Answer::Found,
-                false => Answer::OfKind(kind, wanted),
-            };
-            assert!(rt; answer == expected, "{kind:?} {wanted:?}: {answer:?}");
+/// What the lookup of an object of a kind comes to where the store has one of this kind and content.
+fn answer_of(alloc: Global, kind: Kind, text: &[u8], fails: bool, wanted: Kind) -> Option<Answer> {
+    match store_of(alloc, kind, text, fails) {
+        Ok((store, id)) => Some(found(alloc, &store, wanted, id)),
+        Err(_) => None,
+    }
+}
+
+/// What the lookup of a reader comes to there.
+fn reader_answer(
+    alloc: Global,
+    kind: Kind,
+    text: &[u8],
+    fails: bool,
+    wanted: Kind,
+) -> Option<Answer> {
+    match store_of(alloc, kind, text, fails) {
+        Ok((store, id)) => Some(found_reader(alloc, &store, wanted, id)),
+        Err(_) => None,
+    }
+}
+
+/// What a lookup is to come to, where the kind is one that is wanted or isn't.
+fn expected(kind: Kind, wanted: Kind, is_one: bool) -> Answer {
+    match is_one {
+        true => Answer::Found,
+        false => Answer::OfKind(kind, wanted),
+    }
+}
+
+/// Whether an object of this kind is found as one of its kind alone.
+fn is_found_alone(alloc: Global, kind: Kind) -> bool {
+    for wanted in KINDS {
+        let expected = expected(kind, wanted, kind == wanted);
+        if answer_of(alloc, kind, text_of(kind), false, wanted) != Some(expected) {
+            return false;
         }
     }
-    Ok(())
+    true
 }
 
 #[test]
-fn readers_of_each_kind(rt: HostRuntime) -> Result<(), Fail> {
+fn objects_of_each_kind(rt: HostRuntime) {
     for kind in KINDS {
-        let (store, id) = store_of(rt.alloc(), kind, text_of(kind), false)?;
-        for wanted in KINDS {
-            let answer = found_reader(rt.alloc(), &store, wanted, id);
-            let expected = match kind == wanted || wanted == Kind::Blob {
-                true => Answer::Found,
-                false => Answer::OfKind(kind, wanted),
-            };
-            assert!(rt; answer == expected, "{kind:?} {wanted:?}: {answer:?}");
+        assert!(rt; is_found_alone(rt.alloc(), kind), "{kind:?}");
+    }
+}
+
+/// Whether readers of this kind alone are found of an object of this kind, and the object.
+fn is_read_alone(alloc: Global, kind: Kind) -> bool {
+    for wanted in [Kind::Tree, Kind::Commit, Kind::Tag] {
+        let expected = expected(kind, wanted, kind == wanted);
+        if reader_answer(alloc, kind, text_of(kind), false, wanted) != Some(expected) {
+            return false;
         }
     }
-    Ok(())
+    reader_answer(alloc, kind, text_of(kind), false, Kind::Blob) == Some(Answer::Found)
+}
+
+#[test]
+fn readers_of_each_kind(rt: HostRuntime) {
+    for kind in KINDS {
+        assert!(rt; is_read_alone(rt.alloc(), kind), "{kind:?}");
+    }
+}
+
+/// Whether a damaged object of this kind is refused as damaged, whatever is wanted.
+fn is_damaged(alloc: Global, kind: Kind) -> bool {
+    for wanted in KINDS {
+        if answer_of(alloc, kind, b"tree", false, wanted) != Some(Answer::Damaged) {
+            return false;
+        }
+    }
+    true
 }
 
 /// An object is read by its own kind first, so a damaged one is refused as damaged by each lookup; a
 /// reader is given all the same.
 #[test]
-fn damaged_objects(rt: HostRuntime) -> Result<(), Fail> {
+fn damaged_objects(rt: HostRuntime) {
     for kind in [Kind::Tree, Kind::Commit, Kind::Tag] {
-        let (store, id) = store_of(rt.alloc(), kind, b"tree", false)?;
-        for wanted in KINDS {
-            let answer = found(rt.alloc(), &store, wanted, id);
-            assert!(rt;
-                answer == Answer::Damaged,
-                "{kind:?} {wanted:?}: {answer:?}"
-            );
-        }
-        let answer = found_reader(rt.alloc(), &store, kind, id);
-        assert!(rt; answer == Answer::Found, "{kind:?}: {answer:?}");
+        let reader = reader_answer(rt.alloc(), kind, b"tree", false, kind);
+        assert!(rt; is_damaged(rt.alloc(), kind), "{kind:?}");
+        assert!(rt; reader == Some(Answer::Found), "{kind:?}");
     }
-    Ok(())
 }
 
 #[test]
 fn missing_objects(rt: HostRuntime) -> Result<(), Fail> {
     let (store, _) = store_of(rt.alloc(), Kind::Blob, b"", false)?;
+    let missing = id_of_bytes(1);
     for wanted in KINDS {
-        let object = found(rt.alloc(), &store, wanted, id_of_bytes(1));
-        let reader = found_reader(rt.alloc(), &store, wanted, id_of_bytes(1));
-        assert!(rt; object == Answer::Missing, "{wanted:?}: {object:?}");
-        assert!(rt; reader == Answer::Missing, "{wanted:?}: {reader:?}");
+        let object = found(rt.alloc(), &store, wanted, missing);
+        let reader = found_reader(rt.alloc(), &store, wanted, missing);
+        assert!(rt; object == Answer::Missing, "{wanted:?}");
+        assert!(rt; reader == Answer::Missing, "{wanted:?}");
     }
     Ok(())
 }
 
 #[test]
-fn a_store_that_fails(rt: HostRuntime) -> Result<(), Fail> {
+fn a_store_that_fails(rt: HostRuntime) {
     for wanted in KINDS {
-        let (store, id) = store_of(rt.alloc(), wanted, text_of(wanted), true)?;
-        let object = found(rt.alloc(), &store, wanted, id);
-        let (store, id) = store_of(rt.alloc(), wanted, text_of(wanted), true)?;
-        let reader = found_reader(rt.alloc(), &store, wanted, id);
-        assert!(rt; object == Answer::Failed, "{wanted:?}: {object:?}");
-        assert!(rt; reader == Answer::Failed, "{wanted:?}: {reader:?}");
+        let object = answer_of(rt.alloc(), wanted, text_of(wanted), true, wanted);
+        let reader = reader_answer(rt.alloc(), wanted, text_of(wanted), true, wanted);
+        assert!(rt; object == Some(Answer::Failed), "{wanted:?}");
+        assert!(rt; reader == Some(Answer::Failed), "{wanted:?}");
     }
-    Ok(())
 }
 
 /// Whether the tree without entries is found by its id.
-fn finds_the_empty_tree(
-    alloc: Global,
-    store: &Failing,
-    kind: HashKind,
-) -> Result<bool, existing_object::Error> {
+fn finds_the_empty_tree(alloc: Global, store: &Failing, kind: HashKind) -> bool {
     let mut buffer = Vec::new(alloc);
-    let id = ObjectId::empty_tree(kind);
-    let tree = store.find_tree(alloc, id.as_oid(), &mut buffer)?;
-    Ok(tree.entries.is_empty())
+    match store.find_tree(alloc, ObjectId::empty_tree(kind).as_oid(), &mut buffer) {
+        Ok(tree) => tree.entries.is_empty(),
+        Err(_) => false,
+    }
 }
 
 /// Whether the blob without bytes is found by its id.
-fn finds_the_empty_blob(
-    alloc: Global,
-    store: &Failing,
-    kind: HashKind,
-) -> Result<bool, existing_object::Error> {
+fn finds_the_empty_blob(alloc: Global, store: &Failing, kind: HashKind) -> bool {
     let mut buffer = Vec::new(alloc);
-    let id = ObjectId::empty_blob(kind);
-    let blob = store.find_blob(alloc, id.as_oid(), &mut buffer)?;
-    Ok(blob.bytes.is_empty())
+    match store.find_blob(alloc, ObjectId::empty_blob(kind).as_oid(), &mut buffer) {
+        Ok(blob) => blob.bytes.is_empty(),
+        Err(_) => false,
+    }
 }
 
 /// The empty tree and the empty blob are found without the store, which would fail.
@@ -199,62 +227,87 @@ fn finds_the_empty_blob(
 fn empty_objects(rt: HostRuntime) -> Result<(), Fail> {
     let (store, _) = store_of(rt.alloc(), Kind::Blob, b"", true)?;
     for kind in [HashKind::Sha1, HashKind::Sha256] {
-        assert!(rt; finds_the_empty_tree(rt.alloc(), &store, kind)?, "{kind:?}");
-        assert!(rt; finds_the_empty_blob(rt.alloc(), &store, kind)?, "{kind:?}");
+        assert!(rt; finds_the_empty_tree(rt.alloc(), &store, kind), "{kind:?}");
+        assert!(rt; finds_the_empty_blob(rt.alloc(), &store, kind), "{kind:?}");
     }
     assert!(rt; store.lookups() == 0);
     Ok(())
+}
+
+/// Whether an object of any kind isn't found at the id, which the refusal has.
+fn has_none(alloc: Global, store: &Failing, id: ObjectId) -> bool {
+    let mut buffer = Vec::new(alloc);
+    match store.find(id.as_oid(), &mut buffer) {
+        Err(existing::Error::NotFound { oid }) => oid == id,
+        _ => false,
+    }
 }
 
 /// By [`FindExt::find`] the empty tree is found where the store has it alone.
 #[test]
 fn empty_tree_as_any_object(rt: HostRuntime) -> Result<(), Fail> {
     let (store, _) = store_of(rt.alloc(), Kind::Blob, b"", false)?;
-    let mut buffer = Vec::new(rt.alloc());
-    let id = ObjectId::empty_tree(HashKind::Sha1);
-    match store.find(id.as_oid(), &mut buffer) {
-        Err(existing::Error::NotFound { oid }) => assert!(rt; oid == id),
-        _ => assert!(rt; false),
-    }
+    assert!(rt; has_none(rt.alloc(), &store, ObjectId::empty_tree(HashKind::Sha1)));
     Ok(())
 }
 
-#[test]
-fn headers(rt: HostRuntime) -> Result<(), Fail> {
-    for kind in KINDS {
-        let (store, id) = store_of(rt.alloc(), kind, text_of(kind), false)?;
-        let header = store.header(id.as_oid())?;
-        assert!(rt; header.kind == kind, "{kind:?}");
-        assert!(rt; header.size == text_of(kind).len() as u64, "{kind:?}");
+/// Whether the header of an object of this kind has its kind and its size.
+fn has_header(alloc: Global, kind: Kind) -> bool {
+    let Ok((store, id)) = store_of(alloc, kind, text_of(kind), false) else {
+        return false;
+    };
+    match store.header(id.as_oid()) {
+        Ok(header) => header.kind == kind && header.size == text_of(kind).len() as u64,
+        Err(_) => false,
     }
-    Ok(())
+}
+
+#[test]
+fn headers(rt: HostRuntime) {
+    for kind in KINDS {
+        assert!(rt; has_header(rt.alloc(), kind), "{kind:?}");
+    }
+}
+
+/// Whether no header is found at the id, which the refusal has.
+fn has_no_header(store: &Failing, id: ObjectId) -> bool {
+    match store.header(id.as_oid()) {
+        Err(existing::Error::NotFound { oid }) => oid == id,
+        _ => false,
+    }
 }
 
 #[test]
 fn headers_not_found(rt: HostRuntime) -> Result<(), Fail> {
     let (store, id) = store_of(rt.alloc(), Kind::Blob, b"", true)?;
-    let failed = matches!(&store.header(id.as_oid()), Err(existing::Error::Find(_)));
-    assert!(rt; failed);
-    let missing = id_of_bytes(1);
-    match store.header(missing.as_oid()) {
-        Err(existing::Error::NotFound { oid }) => assert!(rt; oid == missing),
-        _ => assert!(rt; false),
-    }
+    assert!(rt; matches!(&store.header(id.as_oid()), Err(existing::Error::Find(_))));
+    assert!(rt; has_no_header(&store, id_of_bytes(1)));
     Ok(())
+}
+
+/// Whether no tree is found at the id, which the refusal has.
+fn has_no_tree(alloc: Global, store: &Failing, id: ObjectId) -> bool {
+    let mut buffer = Vec::new(alloc);
+    match store.find_tree(alloc, id.as_oid(), &mut buffer) {
+        Err(existing_object::Error::ObjectKind { oid, .. }) => oid == id,
+        _ => false,
+    }
+}
+
+/// Whether no reader of a tree is found at the id, which the refusal has.
+fn has_no_reader(alloc: Global, store: &Failing, id: ObjectId) -> bool {
+    let mut buffer = Vec::new(alloc);
+    match store.find_tree_iter(id.as_oid(), &mut buffer) {
+        Err(existing_iter::Error::ObjectKind { oid, .. }) => oid == id,
+        _ => false,
+    }
 }
 
 /// Each error has the id that was asked for.
 #[test]
 fn ids_of_errors(rt: HostRuntime) -> Result<(), Fail> {
     let (store, id) = store_of(rt.alloc(), Kind::Blob, b"x", false)?;
-    let mut buffer = Vec::new(rt.alloc());
-    match store.find_tree(rt.alloc(), id.as_oid(), &mut buffer) {
-        Err(existing_object::Error::ObjectKind { oid, .. }) => assert!(rt; oid == id),
-        _ => assert!(rt; false),
-    }
-    match store.find_tree_iter(id.as_oid(), &mut buffer) {
-        Err(existing_iter::Error::ObjectKind { oid, .. }) => assert!(rt; oid == id),
-        _ => assert!(rt; false),
-    }
+    assert!(rt; has_no_tree(rt.alloc(), &store, id));
+    assert!(rt; has_no_reader(rt.alloc(), &store, id));
     Ok(())
 }

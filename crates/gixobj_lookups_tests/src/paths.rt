@@ -1,7 +1,7 @@
 //! Entries at the end of paths through the trees of a store.
 
 use crate::failing::Failing;
-use crate::samples::{BAK, ROOT, VERSION_1, id, id_of_bytes, names, two_trees};
+use crate::samples::{BAK, ROOT, ROOT_TEXT, VERSION_1, id, id_of_bytes, names, two_trees};
 use gix_object::hash::{Kind as HashKind, ObjectId};
 use gix_object::tree::{Entry, EntryKind};
 use gix_object::{Find, FindExt, Kind, TreeRefIter, find};
@@ -9,79 +9,114 @@ use gixobj_store::Memory;
 use std::alloc::Global;
 use std::test::Fail;
 
-/// The entry at a path from the tree with this id, in a store of that tree and the one below it.
-fn at_path(alloc: Global, root: &[u8], path: &[u8]) -> Result<Option<Entry>, Fail> {
+/// Whether an entry is a file with this id and this name.
+fn is_file(found: &Option<Entry>, id: ObjectId, name: &[u8]) -> bool {
+    match found {
+        Some(entry) => {
+            entry.oid == id
+                && entry.mode.kind() == EntryKind::Blob
+                && entry.filename.as_bytes() == name
+        }
+        None => false,
+    }
+}
+
+/// The entry at a path from the second tree, in a store of both.
+fn at_path(alloc: Global, path: &[u8]) -> Result<Option<Entry>, find::Error> {
     let store = two_trees(alloc)?;
-    let mut tree = Vec::new(alloc);
     let mut buffer = Vec::new(alloc);
-    let reader = store.find_tree_iter(id(root).as_oid(), &mut tree)?;
-    Ok(reader.lookup_entry_by_path(alloc, &store, &mut buffer, path)?)
+    let reader = TreeRefIter::from_bytes(ROOT_TEXT, HashKind::Sha1);
+    reader.lookup_entry_by_path(alloc, &store, &mut buffer, path)
 }
 
 #[test]
 fn a_file_below(rt: HostRuntime) -> Result<(), Fail> {
-    let found = at_path(rt.alloc(), ROOT, b"bak//test.txt")?;
-    match found {
-        Some(entry) => {
-            assert!(rt; entry.oid == id(VERSION_1));
-            assert!(rt; entry.mode.kind() == EntryKind::Blob);
-            assert!(rt; entry.filename.as_bytes() == b"test.txt".as_slice());
-        }
-        None => assert!(rt; false),
-    }
+    let found = at_path(rt.alloc(), b"bak//test.txt")?;
+    assert!(rt; is_file(&found, id(VERSION_1), b"test.txt"));
     Ok(())
 }
 
-#[test]
-fn directories(rt: HostRuntime) -> Result<(), Fail> {
-    for path in [b"bak".as_slice(), b"/bak/", b"//bak"] {
-        let found = at_path(rt.alloc(), ROOT, path)?;
-        let is_bak = matches!(&found, Some(entry) if entry.oid == id(BAK));
-        assert!(rt; is_bak, "{path:?}");
+/// The id of the entry at a path, or none where there is none; nothing where the lookup fails.
+fn id_at(alloc: Global, path: &[u8]) -> Option<Option<ObjectId>> {
+    match at_path(alloc, path) {
+        Ok(Some(entry)) => Some(Some(entry.oid)),
+        Ok(None) => Some(None),
+        Err(_) => None,
     }
-    Ok(())
+}
+
+/// Paths of the directory.
+const DIRECTORIES: &[&[u8]] = &[b"bak", b"/bak/", b"//bak"];
+
+#[test]
+fn directories(rt: HostRuntime) {
+    for &path in DIRECTORIES {
+        assert!(rt; id_at(rt.alloc(), path) == Some(Some(id(BAK))), "{path:?}");
+    }
 }
 
 /// No name; a file that the store lacks, as a directory; a name that isn't there, first and last; `.`,
 /// which is a name.
+const NOTHING: &[&[u8]] = &[
+    b"",
+    b"/",
+    b"new.txt/q",
+    b"none",
+    b"none/test.txt",
+    b"bak/none",
+    b"./bak",
+    b"bak/.",
+];
+
 #[test]
-fn nothing_there(rt: HostRuntime) -> Result<(), Fail> {
-    let paths: &[&[u8]] = &[
-        b"",
-        b"/",
-        b"new.txt/q",
-        b"none",
-        b"none/test.txt",
-        b"bak/none",
-        b"./bak",
-        b"bak/.",
-    ];
-    for &path in paths {
-        let found = at_path(rt.alloc(), ROOT, path)?;
-        assert!(rt; found.is_none(), "{path:?}");
+fn nothing_there(rt: HostRuntime) {
+    for &path in NOTHING {
+        assert!(rt; id_at(rt.alloc(), path) == Some(None), "{path:?}");
     }
-    Ok(())
+}
+
+/// Names of a path, and whether an entry is there.
+const NAMES: &[(&[&str], bool)] = &[
+    (&["bak", "test.txt"], true),
+    (&["bak", "", "test.txt"], false),
+    (&["bak/test.txt"], false),
+    (&[], false),
+];
+
+/// Whether an entry is at these names from the second tree, which is found in a store of both; none where
+/// the lookup fails.
+fn is_there(alloc: Global, path: &[&str]) -> Option<bool> {
+    let store = two_trees(alloc).ok()?;
+    let path = names(alloc, path).ok()?;
+    let mut tree = Vec::new(alloc);
+    let mut buffer = Vec::new(alloc);
+    let reader = store.find_tree_iter(id(ROOT).as_oid(), &mut tree).ok()?;
+    let found = reader.lookup_entry(alloc, &store, &mut buffer, &path).ok()?;
+    Some(found.is_some())
 }
 
 /// The names of a path as they are: one of no byte, or with a slash, is looked up like others.
 #[test]
-fn names_as_they_are(rt: HostRuntime) -> Result<(), Fail> {
-    let store = two_trees(rt.alloc())?;
-    let mut tree = Vec::new(rt.alloc());
-    let mut buffer = Vec::new(rt.alloc());
-    let reader = store.find_tree_iter(id(ROOT).as_oid(), &mut tree)?;
-    let paths: &[(&[&str], bool)] = &[
-        (&["bak", "test.txt"], true),
-        (&["bak", "", "test.txt"], false),
-        (&["bak/test.txt"], false),
-        (&[], false),
-    ];
-    for &(path, is_there) in paths {
-        let path = names(rt.alloc(), path)?;
-        let found = reader.lookup_entry(rt.alloc(), &store, &mut buffer, &path)?;
-        assert!(rt; found.is_some() == is_there, "{path:?}");
+fn names_as_they_are(rt: HostRuntime) {
+    for &(path, wanted) in NAMES {
+        assert!(rt; is_there(rt.alloc(), path) == Some(wanted), "{path:?}");
     }
-    Ok(())
+}
+
+/// A tree of a blob, which is a directory by its mode, and of a file, whose id is that of the first tree.
+const MIXED: &[u8] = b"40000 blob\0\
+    \x7c\x4f\x37\x27\x7f\xed\x15\xcf\x3c\x1f\x1a\x81\x36\xb7\x5a\xbd\x99\x63\x38\xee\
+    100644 file\0\
+    \xd8\x32\x9f\xc1\xcc\x93\x87\x80\xff\xdd\x9f\x94\xe0\xd3\x64\xe0\xea\x74\xf5\x79";
+
+/// Whether an entry is at a path from the tree with these bytes, in a store; none where the lookup fails.
+fn is_there_from<S: Find>(alloc: Global, store: &S, tree: &[u8], path: &[u8]) -> Option<bool> {
+    let mut buffer = Vec::new(alloc);
+    let reader = TreeRefIter::from_bytes(tree, HashKind::Sha1);
+    match reader.lookup_entry_by_path(alloc, store, &mut buffer, path) {
+        Ok(found) => Some(found.is_some()),
+        Err(_) => None,
+    }
 }
 
 /// A path through a blob of the store, and through an entry of a file's mode whose id is a tree's.
@@ -89,67 +124,77 @@ fn names_as_they_are(rt: HostRuntime) -> Result<(), Fail> {
 fn kinds_of_objects_and_not_modes(rt: HostRuntime) -> Result<(), Fail> {
     let mut store = two_trees(rt.alloc())?;
     let blob = store.insert(Kind::Blob, HashKind::Sha1, b"100644 q\0")?;
-    let mut text = Vec::from_slice(rt.alloc(), b"40000 blob\0")?;
-    text.extend_from_slice(blob.as_bytes())?;
-    text.extend_from_slice(b"100644 file\0")?;
-    text.extend_from_slice(id(BAK).as_bytes())?;
-    let reader = TreeRefIter::from_bytes(&text, HashKind::Sha1);
-    let mut buffer = Vec::new(rt.alloc());
-    let in_blob = reader.lookup_entry_by_path(rt.alloc(), &store, &mut buffer, b"blob/q")?;
-    let in_file = reader.lookup_entry_by_path(rt.alloc(), &store, &mut buffer, b"file/test.txt")?;
-    assert!(rt; in_blob.is_none());
-    assert!(rt; in_file.is_some());
+    assert!(rt; blob == id(b"7c4f37277fed15cf3c1f1a8136b75abd996338ee"));
+    assert!(rt; is_there_from(rt.alloc(), &store, MIXED, b"blob/q") == Some(false));
+    assert!(rt; is_there_from(rt.alloc(), &store, MIXED, b"file/test.txt") == Some(true));
     Ok(())
+}
+
+/// Whether a lookup of a path from the second tree fails with the store.
+fn fails<S: Find>(alloc: Global, store: &S, path: &[u8]) -> bool {
+    let mut buffer = Vec::new(alloc);
+    let reader = TreeRefIter::from_bytes(ROOT_TEXT, HashKind::Sha1);
+    matches!(
+        &reader.lookup_entry_by_path(alloc, store, &mut buffer, path),
+        Err(find::Error::Store(_))
+    )
 }
 
 /// What a lookup of `bak/test.txt` in a store that fails at its first lookup comes to, and how often it asked.
 #[test]
 fn a_store_that_fails(rt: HostRuntime) -> Result<(), Fail> {
     let alloc = rt.alloc();
-    let objects = two_trees(alloc)?;
-    let mut tree = Vec::new(alloc);
-    objects.try_find(id(ROOT).as_oid(), &mut tree)?;
-    let reader = TreeRefIter::from_bytes(&tree, HashKind::Sha1);
-    let store = Failing::new(alloc, objects, vec![in alloc; 1]?);
-    let mut buffer = Vec::new(alloc);
-    let first = reader.lookup_entry_by_path(alloc, &store, &mut buffer, b"bak");
-    assert!(rt; first.is_ok() && store.lookups() == 0);
-    let failed = reader.lookup_entry_by_path(alloc, &store, &mut buffer, b"bak/test.txt");
-    assert!(rt; matches!(&failed, Err(find::Error::Store(_))) && store.lookups() == 1);
-    let again = reader.lookup_entry_by_path(alloc, &store, &mut buffer, b"bak/test.txt");
-    assert!(rt; matches!(&again, Ok(Some(_))) && store.lookups() == 2);
+    let store = Failing::new(alloc, two_trees(alloc)?, vec![in alloc; 1]?);
+    assert!(rt; is_there_from(alloc, &store, ROOT_TEXT, b"bak") == Some(true));
+    assert!(rt; store.lookups() == 0);
+    assert!(rt; fails(alloc, &store, b"bak/test.txt") && store.lookups() == 1);
+    assert!(rt; is_there_from(alloc, &store, ROOT_TEXT, b"bak/test.txt") == Some(true));
+    assert!(rt; store.lookups() == 2);
     Ok(())
+}
+
+/// Two entries of one name, and a third behind a damaged one.
+const TWICE: &[u8] =
+    b"100644 a\0aaaaaaaaaaaaaaaaaaaa40000 a\0bbbbbbbbbbbbbbbbbbbb!100644 c\0cccccccccccccccccccc";
+
+/// The id of the entry at a path from the tree with these bytes, in a store.
+fn id_from<S: Find>(
+    alloc: Global,
+    store: &S,
+    tree: &[u8],
+    hash_kind: HashKind,
+    path: &[u8],
+) -> Option<ObjectId> {
+    let mut buffer = Vec::new(alloc);
+    let reader = TreeRefIter::from_bytes(tree, hash_kind);
+    match reader.lookup_entry_by_path(alloc, store, &mut buffer, path) {
+        Ok(Some(entry)) => Some(entry.oid),
+        _ => None,
+    }
 }
 
 /// Of two entries of one name the first counts, and none behind a damaged one.
 #[test]
-fn first_and_undamaged(rt: HostRuntime) -> Result<(), Fail> {
+fn first_and_undamaged(rt: HostRuntime) {
     let store = Memory::new(rt.alloc());
-    let text =
-        b"100644 a\0aaaaaaaaaaaaaaaaaaaa40000 a\0bbbbbbbbbbbbbbbbbbbb!100644 c\0cccccccccccccccccccc";
-    let reader = TreeRefIter::from_bytes(text, HashKind::Sha1);
-    let mut buffer = Vec::new(rt.alloc());
-    let first = reader.lookup_entry_by_path(rt.alloc(), &store, &mut buffer, b"a")?;
-    let is_first = matches!(&first, Some(entry) if entry.oid == id_of_bytes(b'a'));
-    assert!(rt; is_first);
-    let behind = reader.lookup_entry_by_path(rt.alloc(), &store, &mut buffer, b"c")?;
-    assert!(rt; behind.is_none());
-    Ok(())
+    let first = id_from(rt.alloc(), &store, TWICE, HashKind::Sha1, b"a");
+    assert!(rt; first == Some(id_of_bytes(b'a')));
+    assert!(rt; is_there_from(rt.alloc(), &store, TWICE, b"c") == Some(false));
 }
+
+/// A tree of one file, whose id has 32 bytes.
+const FILE_OF_SHA256: &[u8] = b"100644 b\0\
+    \x07\x07\x07\x07\x07\x07\x07\x07\x07\x07\x07\x07\x07\x07\x07\x07\
+    \x07\x07\x07\x07\x07\x07\x07\x07\x07\x07\x07\x07\x07\x07\x07\x07";
 
 /// Ids of SHA-256.
 #[test]
 fn by_sha256(rt: HostRuntime) -> Result<(), Fail> {
     let mut store = Memory::new(rt.alloc());
-    let mut below = Vec::from_slice(rt.alloc(), b"100644 b\0")?;
-    below.extend_from_slice(&[7; 32])?;
-    let below = store.insert(Kind::Tree, HashKind::Sha256, &below)?;
+    let below = store.insert(Kind::Tree, HashKind::Sha256, FILE_OF_SHA256)?;
     let mut text = Vec::from_slice(rt.alloc(), b"40000 a\0")?;
     text.extend_from_slice(below.as_bytes())?;
-    let reader = TreeRefIter::from_bytes(&text, HashKind::Sha256);
-    let mut buffer = Vec::new(rt.alloc());
-    let found = reader.lookup_entry_by_path(rt.alloc(), &store, &mut buffer, b"a/b")?;
-    let is_it = matches!(&found, Some(entry) if entry.oid == ObjectId::Sha256([7; 32]));
-    assert!(rt; is_it);
+    let found = id_from(rt.alloc(), &store, &text, HashKind::Sha256, b"a/b");
+    assert!(rt; found == Some(ObjectId::Sha256([7; 32])));
     Ok(())
 }

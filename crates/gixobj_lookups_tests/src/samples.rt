@@ -2,7 +2,7 @@
 
 use bstr::BString;
 use gix_object::hash::{Kind as HashKind, ObjectId};
-use gix_object::{Kind, OutOfMemory};
+use gix_object::{Kind, OutOfMemory, write};
 use gixobj_store::Memory;
 use std::alloc::{AllocError, Global};
 
@@ -13,12 +13,8 @@ pub(crate) const KINDS: [Kind; 4] = [Kind::Tree, Kind::Blob, Kind::Commit, Kind:
 pub(crate) const BAK: &[u8] = b"d8329fc1cc938780ffdd9f94e0d364e0ea74f579";
 /// The id of a tree with that tree as `bak`, and the files `new.txt` and `test.txt`.
 pub(crate) const ROOT: &[u8] = b"3c4e9cd789d88d8d89c1073707c3585e41b0e614";
-/// The id of the file in the first tree, and those of `new.txt` and `test.txt` in the second.
+/// The id of the file in the first tree.
 pub(crate) const VERSION_1: &[u8] = b"83baae61804e65cc73a7201a7252750c76066a30";
-
-pub(crate) const NEW: &[u8] = b"fa49b077972391ad58037050f2a75f74e3671e92";
-
-pub(crate) const VERSION_2: &[u8] = b"1f7a7a472abf3dd9643fd615f6da379c4acb3e3a";
 
 /// The text of an object of this kind.
 pub(crate) fn text_of(kind: Kind) -> &'static [u8] {
@@ -49,19 +45,31 @@ pub(crate) fn id_of_bytes(byte: u8) -> ObjectId {
     ObjectId::Sha1([byte; 20])
 }
 
+/// Whether a store's answer is this id.
+pub(crate) fn is_id(answer: Result<ObjectId, write::Error>, wanted: ObjectId) -> bool {
+    match answer {
+        Ok(id) => id == wanted,
+        Err(_) => false,
+    }
+}
+
+/// The first tree.
+const BAK_TEXT: &[u8] = b"100644 test.txt\0\
+    \x83\xba\xae\x61\x80\x4e\x65\xcc\x73\xa7\x20\x1a\x72\x52\x75\x0c\x76\x06\x6a\x30";
+
+/// The second one.
+pub(crate) const ROOT_TEXT: &[u8] = b"40000 bak\0\
+    \xd8\x32\x9f\xc1\xcc\x93\x87\x80\xff\xdd\x9f\x94\xe0\xd3\x64\xe0\xea\x74\xf5\x79\
+    100644 new.txt\0\
+    \xfa\x49\xb0\x77\x97\x23\x91\xad\x58\x03\x70\x50\xf2\xa7\x5f\x74\xe3\x67\x1e\x92\
+    100644 test.txt\0\
+    \x1f\x7a\x7a\x47\x2a\xbf\x3d\xd9\x64\x3f\xd6\x15\xf6\xda\x37\x9c\x4a\xcb\x3e\x3a";
+
 /// A store with the two trees, in which neither file is.
 pub(crate) fn two_trees(alloc: Global) -> Result<Memory, OutOfMemory> {
     let mut store = Memory::new(alloc);
-    let mut bak = Vec::from_slice(alloc, b"100644 test.txt\0")?;
-    bak.extend_from_slice(id(VERSION_1).as_bytes())?;
-    store.insert(Kind::Tree, HashKind::Sha1, &bak)?;
-    let mut root = Vec::from_slice(alloc, b"40000 bak\0")?;
-    root.extend_from_slice(id(BAK).as_bytes())?;
-    root.extend_from_slice(b"100644 new.txt\0")?;
-    root.extend_from_slice(id(NEW).as_bytes())?;
-    root.extend_from_slice(b"100644 test.txt\0")?;
-    root.extend_from_slice(id(VERSION_2).as_bytes())?;
-    store.insert(Kind::Tree, HashKind::Sha1, &root)?;
+    store.insert(Kind::Tree, HashKind::Sha1, BAK_TEXT)?;
+    store.insert(Kind::Tree, HashKind::Sha1, ROOT_TEXT)?;
     Ok(store)
 }
 

@@ -1,4 +1,4 @@
-//! Tests of tags: read, told, written, and their names.
+//! Tests of tags: read, told, written, their names, and the formats and places of signatures.
 #![tactic(auto)]
 
 #[cfg(test)]
@@ -15,6 +15,8 @@ mod git;
 mod names;
 #[cfg(test)]
 mod orders;
+#[cfg(test)]
+mod signature;
 #[cfg(test)]
 mod tags;
 #[cfg(test)]

@@ -1,9 +1,6 @@
 //! Entries sought by their name and by whether it is a directory's.
 
-use crate::git::Shape;
-use crate::git::odd::ODD;
-use crate::git::plain::PLAIN;
-use crate::git::sha256::SHA256;
+use crate::git::{Shape, odd, plain, sha256};
 use crate::trees::tree_text;
 use bstr::BStr;
 use gixobj_base::hash::Kind;
@@ -20,31 +17,42 @@ fn is_found(tree: &TreeRef<'_>, entry: EntryRef<'_>) -> bool {
     found == Some(entry) && tree.bisect_entry(entry.filename, !is_tree).is_none()
 }
 
-/// Whether each entry of a shape is found.
-fn are_found(alloc: Global, shape: &Shape) -> Result<bool, Fail> {
-    let text = shape.text(alloc)?;
-    let tree = TreeRef::from_bytes(alloc, &text, shape.hash)?;
-    let mut are_found = true;
+/// Whether each entry of a tree is found.
+pub(crate) fn are_found(tree: &TreeRef<'_>) -> bool {
     for entry in &tree.entries {
-        are_found = are_found && is_found(&tree, *entry);
+        if !is_found(tree, *entry) {
+            return false;
+        }
     }
-    Ok(are_found)
+    true
+}
+
+/// Whether each entry of a shape is found.
+fn are_found_in(alloc: Global, shape: &Shape) -> bool {
+    match TreeRef::from_bytes(alloc, shape.bytes, shape.hash) {
+        Ok(tree) => are_found(&tree),
+        Err(_) => false,
+    }
+}
+
+/// The first of these with an entry that isn't found, by its name.
+fn first_that_misses(alloc: Global, shapes: &[Shape]) -> Option<&'static str> {
+    for shape in shapes {
+        if !are_found_in(alloc, shape) {
+            return Some(shape.name);
+        }
+    }
+    None
 }
 
 #[test]
-fn each_entry(rt: HostRuntime) -> Result<(), Fail> {
-    for shape in PLAIN {
-        assert!(rt; are_found(rt.alloc(), shape)?, "{}", shape.name);
-    }
-    Ok(())
+fn each_entry(rt: HostRuntime) {
+    assert!(rt; first_that_misses(rt.alloc(), plain::shapes()).is_none());
 }
 
 #[test]
-fn each_entry_with_sha256(rt: HostRuntime) -> Result<(), Fail> {
-    for shape in SHA256 {
-        assert!(rt; are_found(rt.alloc(), shape)?, "{}", shape.name);
-    }
-    Ok(())
+fn each_entry_with_sha256(rt: HostRuntime) {
+    assert!(rt; first_that_misses(rt.alloc(), sha256::shapes()).is_none());
 }
 
 /// Near names, in order: of files, and `a` of a directory.
@@ -77,17 +85,25 @@ const MISSING: &[(&str, bool)] = &[
     ("\u{ff}", false),
 ];
 
+/// The first of these names that a tree has.
+fn first_there<'a>(tree: &TreeRef<'_>, names: &[(&'a str, bool)]) -> Option<&'a str> {
+    for &(name, is_dir) in names {
+        if tree
+            .bisect_entry(BStr::new(name.as_bytes()), is_dir)
+            .is_some()
+        {
+            return Some(name);
+        }
+    }
+    None
+}
+
 #[test]
 fn missing_names(rt: HostRuntime) -> Result<(), Fail> {
-    let alloc = rt.alloc();
-    let text = tree_text(alloc, NEAR)?;
-    let tree = TreeRef::from_bytes(alloc, &text, Kind::Sha1)?;
-    for &(name, is_dir) in MISSING {
-        let found = tree.bisect_entry(BStr::new(name.as_bytes()), is_dir);
-        assert!(rt; found.is_none(), "{name} {is_dir}");
-    }
-    let entries = tree.entries.iter();
-    assert!(rt; entries.copied().all(|entry| is_found(&tree, entry)));
+    let text = tree_text(rt.alloc(), NEAR)?;
+    let tree = TreeRef::from_bytes(rt.alloc(), &text, Kind::Sha1)?;
+    assert!(rt; first_there(&tree, MISSING).is_none());
+    assert!(rt; are_found(&tree));
     Ok(())
 }
 
@@ -104,36 +120,53 @@ fn is_equal_if_found(tree: &TreeRef<'_>, name: &str, is_dir: bool) -> bool {
     name_order(entry.filename.as_bytes(), is_tree, name, is_dir).is_eq()
 }
 
+/// Whether that is so of each of these names, as a file's and as a directory's.
+fn are_equal_if_found(tree: &TreeRef<'_>, names: &[&str]) -> bool {
+    for &name in names {
+        if !is_equal_if_found(tree, name, false) || !is_equal_if_found(tree, name, true) {
+            return false;
+        }
+    }
+    true
+}
+
 #[test]
 fn names_with_a_slash(rt: HostRuntime) -> Result<(), Fail> {
-    let alloc = rt.alloc();
-    let text = tree_text(alloc, NEAR)?;
-    let tree = TreeRef::from_bytes(alloc, &text, Kind::Sha1)?;
-    for &name in SLASHED {
-        assert!(rt; is_equal_if_found(&tree, name, false), "{name}");
-        assert!(rt; is_equal_if_found(&tree, name, true), "{name}");
-    }
+    let text = tree_text(rt.alloc(), NEAR)?;
+    let tree = TreeRef::from_bytes(rt.alloc(), &text, Kind::Sha1)?;
+    assert!(rt; are_equal_if_found(&tree, SLASHED));
     Ok(())
+}
+
+/// Whether that is so of these names in a shape.
+fn are_equal_if_found_in(alloc: Global, shape: &Shape, names: &[&str]) -> bool {
+    match TreeRef::from_bytes(alloc, shape.bytes, shape.hash) {
+        Ok(tree) => are_equal_if_found(&tree, names),
+        Err(_) => false,
+    }
+}
+
+/// Names that trees may have which are not in order.
+const NAMES: &[&str] = &["a", "b", "a/b", "c/", "/", " "];
+
+/// The first of these of which that isn't so, by its name.
+fn first_otherwise(alloc: Global, shapes: &[Shape], names: &[&str]) -> Option<&'static str> {
+    for shape in shapes {
+        if !are_equal_if_found_in(alloc, shape, names) {
+            return Some(shape.name);
+        }
+    }
+    None
 }
 
 /// Where a tree is not well-formed, what is found has the name.
 #[test]
-fn trees_not_in_order(rt: HostRuntime) -> Result<(), Fail> {
-    let alloc = rt.alloc();
-    for shape in ODD {
-        let text = shape.text(alloc)?;
-        let tree = TreeRef::from_bytes(alloc, &text, shape.hash)?;
-        for name in ["a", "b", "a/b", "c/", "/", " "] {
-            assert!(rt; is_equal_if_found(&tree, name, false), "{name}");
-            assert!(rt; is_equal_if_found(&tree, name, true), "{name}");
-        }
-    }
-    Ok(())
+fn trees_not_in_order(rt: HostRuntime) {
+    assert!(rt; first_otherwise(rt.alloc(), odd::shapes(), NAMES).is_none());
 }
 
 #[test]
 fn no_entries(rt: HostRuntime) {
     let empty = TreeRef::empty(rt.alloc());
-    assert!(rt; empty.bisect_entry(BStr::new(b""), false).is_none());
-    assert!(rt; empty.bisect_entry(BStr::new(b"a"), true).is_none());
+    assert!(rt; first_there(&empty, &[("", false), ("a", true)]).is_none());
 }

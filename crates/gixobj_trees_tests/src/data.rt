@@ -1,36 +1,27 @@
 //! Trees that are not yet read.
 
-use crate::trees::entry_text;
+use crate::trees::{ENTRY, LONGER_ENTRY};
 use gixobj_base::{Kind, hash};
-use gixobj_codec::{Data, TreeRefIter};
-use std::test::Fail;
+use gixobj_codec::Data;
 
-/// Whether the reader tells an entry first.
-fn tells_an_entry(mut told: TreeRefIter<'_>) -> bool {
-    matches!(&told.next(), Some(Ok(_)))
+/// Whether a text of an object of this kind is told as a tree, and whether its first entry is told.
+fn tells_an_entry(text: &[u8], kind: Kind, hash_kind: hash::Kind) -> Option<bool> {
+    let mut told = Data::new(text, kind, hash_kind).try_into_tree_iter()?;
+    Some(matches!(&told.next(), Some(Ok(_))))
 }
 
 #[test]
-fn only_a_tree_is_told(rt: HostRuntime) -> Result<(), Fail> {
-    let text = entry_text(rt.alloc(), "100644 a\0")?;
-    let tree = Data::new(&text, Kind::Tree, hash::Kind::Sha1);
-    assert!(rt; tells_an_entry(tree.try_into_tree_iter().ok_or("a tree")?));
+fn only_a_tree_is_told(rt: HostRuntime) {
+    assert!(rt; tells_an_entry(ENTRY, Kind::Tree, hash::Kind::Sha1) == Some(true));
     for kind in [Kind::Blob, Kind::Commit, Kind::Tag] {
-        let data = Data::new(&text, kind, hash::Kind::Sha1);
-        assert!(rt; data.try_into_tree_iter().is_none(), "{kind}");
+        let is_told = tells_an_entry(ENTRY, kind, hash::Kind::Sha1);
+        assert!(rt; is_told.is_none(), "{kind}");
     }
-    Ok(())
 }
 
 /// The reader has the kind of ids that the object has.
 #[test]
-fn kinds_of_ids(rt: HostRuntime) -> Result<(), Fail> {
-    let text = entry_text(rt.alloc(), "100644 a\0")?;
-    let other = Data::new(&text, Kind::Tree, hash::Kind::Sha256);
-    assert!(rt; !tells_an_entry(other.try_into_tree_iter().ok_or("a tree")?));
-    let mut longer = entry_text(rt.alloc(), "100644 a\0")?;
-    longer.extend_from_slice(&[2; 12])?;
-    let tree = Data::new(&longer, Kind::Tree, hash::Kind::Sha256);
-    assert!(rt; tells_an_entry(tree.try_into_tree_iter().ok_or("a tree")?));
-    Ok(())
+fn kinds_of_ids(rt: HostRuntime) {
+    assert!(rt; tells_an_entry(ENTRY, Kind::Tree, hash::Kind::Sha256) == Some(false));
+    assert!(rt; tells_an_entry(LONGER_ENTRY, Kind::Tree, hash::Kind::Sha256) == Some(true));
 }

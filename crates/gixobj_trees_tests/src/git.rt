@@ -4,20 +4,19 @@ pub(crate) mod odd;
 pub(crate) mod plain;
 pub(crate) mod sha256;
 
-use crate::trees::is_written;
+use crate::trees::are_written;
 use gixobj_base::hash::{Kind, ObjectId};
 use gixobj_base::tree::{EntryKind, EntryMode};
 use gixobj_base::{Tree, WriteTo, compute_hash};
 use gixobj_codec::TreeRef;
 use gixobj_codec::tree::EntryRef;
 use odd::{
-    LEADING_ZERO, NO_TYPE, ODD, ONE_BEFORE_A_FILE, SIX_DIGITS, THREE_DIGITS, TREE_WITH_PERMISSIONS,
+    LEADING_ZERO, NO_TYPE, ONE_BEFORE_A_FILE, SIX_DIGITS, THREE_DIGITS, TREE_WITH_PERMISSIONS,
     ZERO_BEFORE_A_FILE, ZERO_BEFORE_PERMISSIONS, ZEROS, ZEROS_BEFORE_A_TREE,
 };
-use plain::{ONE_FILE, PLAIN};
-use sha256::{LEADING_ZERO_SHA256, SHA256, ZEROS_BEFORE_A_TREE_SHA256};
+use plain::ONE_FILE;
+use sha256::{LEADING_ZERO_SHA256, ZEROS_BEFORE_A_TREE_SHA256};
 use std::alloc::{AllocError, Global};
-use std::test::Fail;
 
 /// A tree, and what `git` says of it.
 #[derive(Clone, Copy)]
@@ -30,17 +29,10 @@ pub(crate) struct Shape {
     id: &'static str,
     /// `git cat-file -s`.
     size: u64,
-    /// `git cat-file tree`, in hex.
-    bytes: &'static str,
+    /// `git cat-file tree`.
+    pub(crate) bytes: &'static [u8],
     /// `git ls-tree -z`: mode, word, id and name of each entry.
     listed: &'static [u8],
-}
-
-impl Shape {
-    /// The text of the tree.
-    pub(crate) fn text(&self, alloc: Global) -> Result<Vec<u8>, Fail> {
-        Ok(hex::decode(alloc, self.bytes.as_bytes())?)
-    }
 }
 
 /// The word that git has for a mode.
@@ -74,124 +66,153 @@ fn listed(alloc: Global, entries: &[EntryRef<'_>]) -> Result<Vec<u8>, AllocError
     Ok(lines)
 }
 
+/// Whether git lists these entries so.
+fn are_listed(alloc: Global, entries: &[EntryRef<'_>], wanted: &[u8]) -> bool {
+    match listed(alloc, entries) {
+        Ok(lines) => lines.as_slice() == wanted,
+        Err(_) => false,
+    }
+}
+
 /// Whether a shape is read whole as git lists it.
-fn is_listed(alloc: Global, shape: &Shape) -> Result<bool, Fail> {
-    let text = shape.text(alloc)?;
-    let tree = TreeRef::from_bytes(alloc, &text, shape.hash)?;
-    Ok(listed(alloc, &tree.entries)?.as_slice() == shape.listed)
+fn is_listed(alloc: Global, shape: &Shape) -> bool {
+    match TreeRef::from_bytes(alloc, shape.bytes, shape.hash) {
+        Ok(tree) => are_listed(alloc, &tree.entries, shape.listed),
+        Err(_) => false,
+    }
 }
 
 /// Whether an owned tree has these entries.
 fn has_entries(tree: &Tree, entries: &[EntryRef<'_>]) -> bool {
-    let mut are_same = tree.entries.len() == entries.len();
-    for (owned, entry) in tree.entries.iter().zip(entries.iter()) {
-        are_same = are_same && EntryRef::from(owned) == *entry;
+    for (owned, entry) in tree.entries.iter().zip(entries) {
+        if EntryRef::from(owned) != *entry {
+            return false;
+        }
     }
-    are_same
+    tree.entries.len() == entries.len()
 }
 
-/// Whether the owned forms of a shape have the entries that are read.
-fn is_owned(alloc: Global, shape: &Shape) -> Result<bool, Fail> {
-    let text = shape.text(alloc)?;
-    let tree = TreeRef::from_bytes(alloc, &text, shape.hash)?;
-    let copy = tree.to_owned(alloc)?;
-    let has_same = has_entries(&copy, &tree.entries);
-    Ok(has_same && tree.into_owned(alloc)? == copy)
-}
-
-/// Whether a shape is read and made owned as git says.
-fn is_read(alloc: Global, shape: &Shape) -> Result<bool, Fail> {
-    Ok(is_listed(alloc, shape)? && is_owned(alloc, shape)?)
-}
-
-/// Whether a shape is written so, as it is read and as it is owned.
-fn is_written_as(alloc: Global, shape: &Shape, wanted: &Shape) -> Result<bool, Fail> {
-    let text = shape.text(alloc)?;
-    let wanted = wanted.text(alloc)?;
-    let tree = TreeRef::from_bytes(alloc, &text, shape.hash)?;
-    let is_first = is_written(alloc, &tree, &wanted)?;
-    Ok(is_first && is_written(alloc, &tree.into_owned(alloc)?, &wanted)?)
+/// Whether both owned forms of a shape have the entries that are read.
+fn is_owned(alloc: Global, shape: &Shape) -> bool {
+    let Ok(tree) = TreeRef::from_bytes(alloc, shape.bytes, shape.hash) else {
+        return false;
+    };
+    let Ok(copy) = tree.to_owned(alloc) else {
+        return false;
+    };
+    if !has_entries(&copy, &tree.entries) {
+        return false;
+    }
+    match tree.into_owned(alloc) {
+        Ok(tree) => tree == copy,
+        Err(_) => false,
+    }
 }
 
 /// Whether the text of a shape has git's id.
-fn has_its_id(alloc: Global, shape: &Shape) -> Result<bool, Fail> {
-    let text = shape.text(alloc)?;
-    let id = compute_hash(shape.hash, gixobj_base::Kind::Tree, &text);
-    Ok(Some(id) == ObjectId::from_hex(shape.id.as_bytes()))
+fn has_its_id(shape: &Shape) -> bool {
+    let id = compute_hash(shape.hash, gixobj_base::Kind::Tree, shape.bytes);
+    Some(id) == ObjectId::from_hex(shape.id.as_bytes())
+}
+
+/// The loose header of a tree of this size.
+fn header(alloc: Global, size: u64) -> Result<String, AllocError> {
+    format!(in alloc; "tree {size}\0")
 }
 
 /// Whether a shape has git's size and the loose header of that.
-fn is_counted(alloc: Global, shape: &Shape) -> Result<bool, Fail> {
-    let text = shape.text(alloc)?;
-    let tree = TreeRef::from_bytes(alloc, &text, shape.hash)?;
-    let header = tree.loose_header(alloc).ok_or("a size")?;
-    let wanted = format!(in alloc; "tree {}\0", shape.size)?;
-    Ok(tree.size() == Some(shape.size) && header.as_slice() == wanted.as_bytes())
+fn is_counted(alloc: Global, shape: &Shape) -> bool {
+    let Ok(tree) = TreeRef::from_bytes(alloc, shape.bytes, shape.hash) else {
+        return false;
+    };
+    match (tree.loose_header(alloc), header(alloc, shape.size)) {
+        (Some(header), Ok(wanted)) => {
+            header.as_slice() == wanted.as_bytes() && tree.size() == Some(shape.size)
+        }
+        _ => false,
+    }
+}
+
+/// Whether a shape is read as git says, and written as another one, borrowed and owned.
+fn becomes(alloc: Global, shape: &Shape, wanted: &Shape) -> bool {
+    is_listed(alloc, shape)
+        && is_owned(alloc, shape)
+        && are_written(alloc, shape.bytes, shape.hash, wanted.bytes)
+        && has_its_id(shape)
 }
 
 /// Whether a shape is read as git says, and written back.
-fn agrees(alloc: Global, shape: &Shape) -> Result<bool, Fail> {
-    let is_written_back = is_written_as(alloc, shape, shape)?;
-    let is_counted = is_counted(alloc, shape)?;
-    Ok(is_read(alloc, shape)? && is_written_back && is_counted && has_its_id(alloc, shape)?)
+fn agrees(alloc: Global, shape: &Shape) -> bool {
+    becomes(alloc, shape, shape) && is_counted(alloc, shape)
+}
+
+/// The first of these that git answers otherwise, by its name.
+fn first_that_differs(alloc: Global, shapes: &[Shape]) -> Option<&'static str> {
+    for shape in shapes {
+        if !agrees(alloc, shape) {
+            return Some(shape.name);
+        }
+    }
+    None
 }
 
 #[test]
-fn as_git_writes_them(rt: HostRuntime) -> Result<(), Fail> {
-    for shape in PLAIN {
-        assert!(rt; agrees(rt.alloc(), shape)?, "{}", shape.name);
-    }
-    Ok(())
+fn as_git_writes_them(rt: HostRuntime) {
+    assert!(rt; first_that_differs(rt.alloc(), plain::shapes()).is_none());
 }
 
-/// Whether each mode of a shape is the one of its kind.
-fn has_own_modes(alloc: Global, shape: &Shape) -> Result<bool, Fail> {
-    let text = shape.text(alloc)?;
-    let tree = TreeRef::from_bytes(alloc, &text, shape.hash)?;
-    let mut are_own = true;
-    for entry in &tree.entries {
-        are_own = are_own && entry.mode == EntryMode::from(entry.mode.kind());
+/// Whether each mode is the one of its kind.
+fn are_modes_of_git(entries: &[EntryRef<'_>]) -> bool {
+    for entry in entries {
+        if entry.mode != EntryMode::from(entry.mode.kind()) {
+            return false;
+        }
     }
-    Ok(are_own)
+    true
+}
+
+/// Whether a shape has the modes that git lists, and is well-formed.
+fn is_plain(alloc: Global, shape: &Shape) -> bool {
+    let Ok(tree) = TreeRef::from_bytes(alloc, shape.bytes, shape.hash) else {
+        return false;
+    };
+    if !are_modes_of_git(&tree.entries) {
+        return false;
+    }
+    match tree.into_owned(alloc) {
+        Ok(tree) => tree.is_well_formed(),
+        Err(_) => false,
+    }
+}
+
+/// The first of these of which that isn't so, by its name.
+fn first_odd_one(alloc: Global, shapes: &[Shape]) -> Option<&'static str> {
+    for shape in shapes {
+        if !is_plain(alloc, shape) {
+            return Some(shape.name);
+        }
+    }
+    None
 }
 
 /// They have the modes that git lists, and are well-formed.
 #[test]
-fn modes_of_git(rt: HostRuntime) -> Result<(), Fail> {
-    let alloc = rt.alloc();
-    for shape in PLAIN {
-        assert!(rt; has_own_modes(alloc, shape)?, "{}", shape.name);
-        let text = shape.text(alloc)?;
-        let tree = TreeRef::from_bytes(alloc, &text, shape.hash)?.into_owned(alloc)?;
-        assert!(rt; tree.is_well_formed(), "{}", shape.name);
-    }
-    Ok(())
+fn modes_of_git(rt: HostRuntime) {
+    assert!(rt; first_odd_one(rt.alloc(), plain::shapes()).is_none());
 }
 
 #[test]
-fn of_odd_parts(rt: HostRuntime) -> Result<(), Fail> {
-    for shape in ODD {
-        assert!(rt; agrees(rt.alloc(), shape)?, "{}", shape.name);
-    }
-    Ok(())
+fn of_odd_parts(rt: HostRuntime) {
+    assert!(rt; first_that_differs(rt.alloc(), odd::shapes()).is_none());
 }
 
 #[test]
-fn with_sha256(rt: HostRuntime) -> Result<(), Fail> {
-    for shape in SHA256 {
-        assert!(rt; agrees(rt.alloc(), shape)?, "{}", shape.name);
-    }
-    Ok(())
-}
-
-/// Whether a shape is read as git says, and written as another one.
-fn becomes(alloc: Global, shape: &Shape, wanted: &Shape) -> Result<bool, Fail> {
-    let is_rewritten = is_written_as(alloc, shape, wanted)?;
-    Ok(is_read(alloc, shape)? && is_rewritten && has_its_id(alloc, shape)?)
+fn with_sha256(rt: HostRuntime) {
+    assert!(rt; first_that_differs(rt.alloc(), sha256::shapes()).is_none());
 }
 
 /// Trees whose mode has other digits than those that are written, and the trees that have these.
-pub(crate) const REWRITTEN: &[(&Shape, &Shape)] = &[
+const REWRITTEN: &[(&Shape, &Shape)] = &[
     (&ZEROS_BEFORE_A_TREE, &LEADING_ZERO),
     (&ZERO_BEFORE_A_FILE, &ONE_FILE),
     (&ONE_BEFORE_A_FILE, &ONE_FILE),
@@ -201,11 +222,22 @@ pub(crate) const REWRITTEN: &[(&Shape, &Shape)] = &[
     (&ZEROS_BEFORE_A_TREE_SHA256, &LEADING_ZERO_SHA256),
 ];
 
-#[test]
-fn rewritten(rt: HostRuntime) -> Result<(), Fail> {
-    for &(shape, wanted) in REWRITTEN {
-        assert!(rt; becomes(rt.alloc(), shape, wanted)?, "{}", shape.name);
-        assert!(rt; agrees(rt.alloc(), wanted)?, "{}", wanted.name);
+/// These pairs.
+pub(crate) fn pairs() -> &'static [(&'static Shape, &'static Shape)] {
+    REWRITTEN
+}
+
+/// The first of these that isn't written as the other one, by its name.
+fn first_kept(alloc: Global, pairs: &[(&'static Shape, &'static Shape)]) -> Option<&'static str> {
+    for (shape, wanted) in pairs {
+        if !becomes(alloc, shape, wanted) || !agrees(alloc, wanted) {
+            return Some(shape.name);
+        }
     }
-    Ok(())
+    None
+}
+
+#[test]
+fn rewritten(rt: HostRuntime) {
+    assert!(rt; first_kept(rt.alloc(), pairs()).is_none());
 }

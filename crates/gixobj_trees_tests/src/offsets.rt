@@ -1,11 +1,12 @@
 //! How far the reader of entries is.
 
-use crate::git::plain::PLAIN;
-use crate::told::told;
-use crate::trees::{entry_text, tree_text};
+use crate::git::plain::EXAMPLE;
+use crate::told::tells;
+use crate::trees::{ENTRY, tree_text};
 use gixobj_base::hash::Kind;
-use gixobj_codec::TreeRefIter;
 use gixobj_codec::laws::bytes_left_end_the_text;
+use gixobj_codec::tree::EntryRef;
+use gixobj_codec::{TreeRef, TreeRefIter};
 use std::alloc::{AllocError, Global};
 use std::test::Fail;
 
@@ -21,48 +22,64 @@ fn offsets(alloc: Global, text: &[u8]) -> Result<Vec<usize>, AllocError> {
     Ok(offsets)
 }
 
+/// Whether the next entries of a text begin there.
+fn begin_at(alloc: Global, text: &[u8], wanted: &[usize]) -> bool {
+    match offsets(alloc, text) {
+        Ok(offsets) => offsets.as_slice() == wanted,
+        Err(_) => false,
+    }
+}
+
 /// Where the entries of the tree of the folder `examples` begin, and where the last one ends.
-const EXAMPLE: &[usize] = &[0, 36, 67, 104, 136, 170, 204];
+const PLACES: &[usize] = &[0, 36, 67, 104, 136, 170, 204];
 
 #[test]
-fn behind_each_entry(rt: HostRuntime) -> Result<(), Fail> {
-    let text = PLAIN[0].text(rt.alloc())?;
-    assert!(rt; offsets(rt.alloc(), &text)?.as_slice() == EXAMPLE);
-    assert!(rt; offsets(rt.alloc(), b"")?.as_slice() == [0].as_slice());
-    Ok(())
+fn behind_each_entry(rt: HostRuntime) {
+    assert!(rt; begin_at(rt.alloc(), EXAMPLE.bytes, PLACES));
+    assert!(rt; begin_at(rt.alloc(), b"", &[0]));
 }
 
 /// Behind an error nothing is left.
 #[test]
 fn behind_an_error(rt: HostRuntime) -> Result<(), Fail> {
     let text = tree_text(rt.alloc(), &["100644 a\0", "100648 b\0", "100644 c\0"])?;
-    let wanted = [0, 29, 87];
-    assert!(rt; offsets(rt.alloc(), &text)?.as_slice() == wanted.as_slice());
+    assert!(rt; begin_at(rt.alloc(), &text, &[0, 29, 87]));
     Ok(())
+}
+
+/// Whether a reader of what stands there tells these entries.
+fn goes_on(text: &[u8], offset: usize, entries: Option<&[EntryRef<'_>]>) -> bool {
+    match (text.get(offset..), entries) {
+        (Some(rest), Some(entries)) => tells(TreeRefIter::from_bytes(rest, Kind::Sha1), entries),
+        _ => false,
+    }
+}
+
+/// Whether a reader goes on with the next entry at each of these places.
+fn goes_on_at(text: &[u8], offsets: &[usize], entries: &[EntryRef<'_>]) -> bool {
+    for (at, offset) in offsets.iter().enumerate() {
+        if !goes_on(text, *offset, entries.get(at..)) {
+            return false;
+        }
+    }
+    true
 }
 
 /// A reader of what stands there goes on with the next entry.
 #[test]
 fn resumed(rt: HostRuntime) -> Result<(), Fail> {
-    let alloc = rt.alloc();
-    let text = PLAIN[0].text(alloc)?;
-    let entries = told(alloc, &text, Kind::Sha1)?;
-    for (at, offset) in EXAMPLE.iter().enumerate() {
-        let rest = text.get(*offset..).ok_or("a rest")?;
-        let resumed = told(alloc, rest, Kind::Sha1)?;
-        assert!(rt; Some(resumed.as_slice()) == entries.get(at..), "{offset}");
-    }
+    let text = EXAMPLE.bytes;
+    let tree = TreeRef::from_bytes(rt.alloc(), text, Kind::Sha1)?;
+    assert!(rt; goes_on_at(text, PLACES, &tree.entries));
     Ok(())
 }
 
 /// A reader is copied with its place.
 #[test]
-fn copies(rt: HostRuntime) -> Result<(), Fail> {
-    let text = entry_text(rt.alloc(), "100644 a\0")?;
-    let mut told = TreeRefIter::from_bytes(&text, Kind::Sha1);
+fn copies(rt: HostRuntime) {
+    let mut told = TreeRefIter::from_bytes(ENTRY, Kind::Sha1);
     let copy = told;
     assert!(rt; told.next().is_some());
-    assert_eq!(rt; copy.count(), 1);
-    assert_eq!(rt; told.count(), 0);
-    Ok(())
+    assert!(rt; copy.count() == 1);
+    assert!(rt; told.count() == 0);
 }

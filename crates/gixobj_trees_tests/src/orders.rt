@@ -2,7 +2,6 @@
 
 use crate::trees::tree_text;
 use bstr::BString;
-use gixobj_base::Tree;
 use gixobj_base::hash::{Kind, ObjectId};
 use gixobj_base::tree::{Entry, EntryKind};
 use gixobj_codec::TreeRef;
@@ -47,47 +46,73 @@ fn ascending(alloc: Global) -> Result<Vec<Entry>, AllocError> {
 fn are_ordered(first: &Entry, second: &Entry, wanted: Ordering) -> bool {
     let left = EntryRef::from(first);
     let right = EntryRef::from(second);
-    let is_partial = left.partial_cmp(&right) == Some(wanted);
-    is_partial && left.cmp(&right) == wanted && first.cmp(second) == wanted
+    left.partial_cmp(&right) == Some(wanted)
+        && left.cmp(&right) == wanted
+        && first.cmp(second) == wanted
+}
+
+/// Whether the entry at this place stands behind those before it, and before those behind it.
+fn is_at(entries: &[Entry], at: usize, entry: &Entry) -> bool {
+    for (other_at, other) in entries.iter().enumerate() {
+        if !are_ordered(entry, other, at.cmp(&other_at)) {
+            return false;
+        }
+    }
+    true
 }
 
 #[test]
 fn entries_in_order(rt: HostRuntime) -> Result<(), Fail> {
     let entries = ascending(rt.alloc())?;
-    for (at, first) in entries.iter().enumerate() {
-        for (other_at, second) in entries.iter().enumerate() {
-            let wanted = at.cmp(&other_at);
-            assert!(rt; are_ordered(first, second, wanted), "{at} {other_at}");
-        }
+    for (at, entry) in entries.iter().enumerate() {
+        assert!(rt; is_at(&entries, at, entry), "{at}");
     }
     Ok(())
+}
+
+/// Whether two borrowed entries are equal and have one hash, or neither, as is wanted.
+fn are_alike(first: &Entry, second: &Entry, wanted: bool) -> bool {
+    let left = EntryRef::from(first);
+    let right = EntryRef::from(second);
+    (left == right) == wanted && (hash_of(&left) == hash_of(&right)) == wanted
+}
+
+/// Whether the entry at this place is like itself alone.
+fn is_like_itself(entries: &[Entry], at: usize, entry: &Entry) -> bool {
+    for (other_at, other) in entries.iter().enumerate() {
+        if !are_alike(entry, other, at == other_at) {
+            return false;
+        }
+    }
+    true
 }
 
 #[test]
 fn entries_are_like_themselves_alone(rt: HostRuntime) -> Result<(), Fail> {
     let entries = ascending(rt.alloc())?;
-    for (at, first) in entries.iter().enumerate() {
-        for (other_at, second) in entries.iter().enumerate() {
-            let left = EntryRef::from(first);
-            let right = EntryRef::from(second);
-            assert!(rt; (left == right) == (at == other_at), "{at} {other_at}");
-            let hashes = hash_of(&left) == hash_of(&right);
-            assert!(rt; hashes == (at == other_at), "{at} {other_at}");
-        }
+    for (at, entry) in entries.iter().enumerate() {
+        assert!(rt; is_like_itself(&entries, at, entry), "{at}");
     }
     Ok(())
 }
 
-/// A borrowed entry has the hash of the owned one, and becomes it.
+/// Whether a borrowed entry has the hash of the owned one, and becomes it.
+fn becomes_itself(alloc: Global, entry: &Entry) -> bool {
+    let borrowed = EntryRef::from(entry);
+    if hash_of(&borrowed) != hash_of(entry) {
+        return false;
+    }
+    match borrowed.into_owned(alloc) {
+        Ok(owned) => owned == *entry && EntryRef::from(&owned) == borrowed,
+        Err(_) => false,
+    }
+}
+
 #[test]
 fn borrowed_and_owned(rt: HostRuntime) -> Result<(), Fail> {
     let entries = ascending(rt.alloc())?;
-    for (at, entry) in entries.iter().enumerate() {
-        let borrowed = EntryRef::from(entry);
-        assert!(rt; hash_of(&borrowed) == hash_of(entry), "{at}");
-        let owned = borrowed.into_owned(rt.alloc())?;
-        assert!(rt; owned == *entry, "{at}");
-        assert!(rt; EntryRef::from(&owned) == borrowed, "{at}");
+    for entry in &entries {
+        assert!(rt; becomes_itself(rt.alloc(), entry));
     }
     Ok(())
 }
@@ -102,54 +127,91 @@ const TREES: &[&[&str]] = &[
     &["100644 b\0"],
 ];
 
-/// Whether two trees are so in order, borrowed as owned.
-fn are_trees_ordered(
+/// Whether the owned forms of two trees are so in order.
+fn are_owned_ordered(
     alloc: Global,
-    first: &[u8],
-    second: &[u8],
+    left: &TreeRef<'_>,
+    right: &TreeRef<'_>,
     wanted: Ordering,
-) -> Result<bool, Fail> {
-    let left = TreeRef::from_bytes(alloc, first, Kind::Sha1)?;
-    let right = TreeRef::from_bytes(alloc, second, Kind::Sha1)?;
-    let is_borrowed = left.cmp(&right) == wanted && left.partial_cmp(&right) == Some(wanted);
-    let is_same = (left == right) == wanted.is_eq();
-    let owned = left.to_owned(alloc)?;
-    Ok(is_borrowed && is_same && owned.cmp(&right.to_owned(alloc)?) == wanted)
+) -> bool {
+    match (left.to_owned(alloc), right.to_owned(alloc)) {
+        (Ok(left), Ok(right)) => left.cmp(&right) == wanted,
+        _ => false,
+    }
+}
+
+/// Whether two trees are so in order, borrowed as owned.
+fn are_trees_ordered(alloc: Global, first: &[u8], second: &[u8], wanted: Ordering) -> bool {
+    let Ok(left) = TreeRef::from_bytes(alloc, first, Kind::Sha1) else {
+        return false;
+    };
+    match TreeRef::from_bytes(alloc, second, Kind::Sha1) {
+        Ok(right) => {
+            left.cmp(&right) == wanted
+                && left.partial_cmp(&right) == Some(wanted)
+                && (left == right) == wanted.is_eq()
+                && are_owned_ordered(alloc, &left, &right, wanted)
+        }
+        Err(_) => false,
+    }
+}
+
+/// Whether the trees of these fronts are so in order.
+fn are_fronts_ordered(alloc: Global, first: &[&str], second: &[&str], wanted: Ordering) -> bool {
+    match (tree_text(alloc, first), tree_text(alloc, second)) {
+        (Ok(first), Ok(second)) => are_trees_ordered(alloc, &first, &second, wanted),
+        _ => false,
+    }
+}
+
+/// Whether the tree at this place stands behind those before it, and before those behind it.
+fn is_tree_at(alloc: Global, at: usize, fronts: &[&str]) -> bool {
+    for (other_at, other) in TREES.iter().enumerate() {
+        if !are_fronts_ordered(alloc, fronts, other, at.cmp(&other_at)) {
+            return false;
+        }
+    }
+    true
 }
 
 #[test]
-fn trees_in_order(rt: HostRuntime) -> Result<(), Fail> {
-    let alloc = rt.alloc();
-    for (at, first) in TREES.iter().enumerate() {
-        for (other_at, second) in TREES.iter().enumerate() {
-            let first = tree_text(alloc, first)?;
-            let second = tree_text(alloc, second)?;
-            let wanted = at.cmp(&other_at);
-            assert!(rt;
-                are_trees_ordered(alloc, &first, &second, wanted)?,
-                "{at} {other_at}"
-            );
-        }
+fn trees_in_order(rt: HostRuntime) {
+    for (at, fronts) in TREES.iter().enumerate() {
+        assert!(rt; is_tree_at(rt.alloc(), at, fronts), "{at}");
     }
-    Ok(())
+}
+
+/// Whether the owned form of a tree has this hash.
+fn has_hash(alloc: Global, tree: TreeRef<'_>, hash: u64) -> bool {
+    match tree.into_owned(alloc) {
+        Ok(tree) => hash_of(&tree) == hash,
+        Err(_) => false,
+    }
 }
 
 /// Whether a tree has the hash of its owned form and of its copy.
-fn hashes_alike(alloc: Global, text: &[u8]) -> Result<bool, Fail> {
-    let tree = TreeRef::from_bytes(alloc, text, Kind::Sha1)?;
-    let copy = tree.clone()?;
+fn hashes_alike(alloc: Global, text: &[u8]) -> bool {
+    let Ok(tree) = TreeRef::from_bytes(alloc, text, Kind::Sha1) else {
+        return false;
+    };
     let hash = hash_of(&tree);
-    let is_same = copy == tree && hash_of(&copy) == hash;
-    let owned: Tree = tree.into_owned(alloc)?;
-    Ok(is_same && hash_of(&owned) == hash)
+    match tree.clone() {
+        Ok(copy) => copy == tree && hash_of(&copy) == hash && has_hash(alloc, tree, hash),
+        Err(_) => false,
+    }
+}
+
+/// Whether that is so of the tree of these fronts.
+fn fronts_hash_alike(alloc: Global, fronts: &[&str]) -> bool {
+    match tree_text(alloc, fronts) {
+        Ok(text) => hashes_alike(alloc, &text),
+        Err(_) => false,
+    }
 }
 
 #[test]
-fn hashes_of_trees(rt: HostRuntime) -> Result<(), Fail> {
-    let alloc = rt.alloc();
+fn hashes_of_trees(rt: HostRuntime) {
     for (at, fronts) in TREES.iter().enumerate() {
-        let text = tree_text(alloc, fronts)?;
-        assert!(rt; hashes_alike(alloc, &text)?, "{at}");
+        assert!(rt; fronts_hash_alike(rt.alloc(), fronts), "{at}");
     }
-    Ok(())
 }

@@ -8,6 +8,15 @@ use std::alloc::{AllocError, Global};
 /// The bytes of an id.
 pub(crate) const ONES: [u8; 20] = [1; 20];
 
+/// The text of one file with the id of ones, of 29 bytes.
+pub(crate) const ENTRY: &[u8] = b"100644 a\0\
+    \x01\x01\x01\x01\x01\x01\x01\x01\x01\x01\x01\x01\x01\x01\x01\x01\x01\x01\x01\x01";
+
+/// The same with twelve bytes more, as many as an id of SHA-256 has.
+pub(crate) const LONGER_ENTRY: &[u8] = b"100644 a\0\
+    \x01\x01\x01\x01\x01\x01\x01\x01\x01\x01\x01\x01\x01\x01\x01\x01\x01\x01\x01\x01\
+    \x02\x02\x02\x02\x02\x02\x02\x02\x02\x02\x02\x02";
+
 /// The text of an entry with this mode, space, name and zero byte, and the id of ones.
 pub(crate) fn entry_text(alloc: Global, front: &str) -> Result<Vec<u8>, AllocError> {
     let mut text = Vec::from_slice(alloc, front.as_bytes())?;
@@ -25,13 +34,17 @@ pub(crate) fn tree_text(alloc: Global, fronts: &[&str]) -> Result<Vec<u8>, Alloc
     Ok(text)
 }
 
+/// Whether the whole reader reads the text.
+pub(crate) fn is_whole(alloc: Global, text: &[u8]) -> bool {
+    TreeRef::from_bytes(alloc, text, Kind::Sha1).is_ok()
+}
+
 /// Whether the whole reader refuses the text.
-pub(crate) fn is_refused(alloc: Global, text: &[u8]) -> Result<bool, decode::Error> {
-    match TreeRef::from_bytes(alloc, text, Kind::Sha1) {
-        Ok(_) => Ok(false),
-        Err(decode::Error::Malformed) => Ok(true),
-        Err(error) => Err(error),
-    }
+pub(crate) fn is_refused(alloc: Global, text: &[u8]) -> bool {
+    matches!(
+        &TreeRef::from_bytes(alloc, text, Kind::Sha1),
+        Err(decode::Error::Malformed)
+    )
 }
 
 /// What is written of a tree, borrowed or owned.
@@ -44,14 +57,25 @@ pub(crate) fn written<T: WriteTo>(alloc: Global, tree: &T) -> Result<Vec<u8>, en
 }
 
 /// Whether a tree is written so, and counted with as many bytes.
-pub(crate) fn is_written<T: WriteTo>(
-    alloc: Global,
-    tree: &T,
-    wanted: &[u8],
-) -> Result<bool, encode::Error>
+pub(crate) fn is_written<T: WriteTo>(alloc: Global, tree: &T, wanted: &[u8]) -> bool
     requires { T.can_write tree.now }
 {
-    let is_counted = tree.size() == Some(wanted.len() as u64);
-    let is_same = written(alloc, tree)?.as_slice() == wanted;
-    Ok(is_counted && is_same)
+    match written(alloc, tree) {
+        Ok(out) => out.as_slice() == wanted && tree.size() == Some(wanted.len() as u64),
+        Err(_) => false,
+    }
+}
+
+/// Whether the tree of a text is written so, as it is read and as it is owned.
+pub(crate) fn are_written(alloc: Global, text: &[u8], hash_kind: Kind, wanted: &[u8]) -> bool {
+    let Ok(tree) = TreeRef::from_bytes(alloc, text, hash_kind) else {
+        return false;
+    };
+    if !is_written(alloc, &tree, wanted) {
+        return false;
+    }
+    match tree.into_owned(alloc) {
+        Ok(tree) => is_written(alloc, &tree, wanted),
+        Err(_) => false,
+    }
 }

@@ -1,7 +1,7 @@
 //! What is refused of borrowed trees, and writers that fail.
 
-use crate::git::plain::PLAIN;
-use crate::trees::{ONES, entry_text};
+use crate::git::plain::EXAMPLE;
+use crate::trees::{ENTRY, ONES, written};
 use bstr::BStr;
 use gixobj_base::WriteTo;
 use gixobj_base::encode::Error;
@@ -31,65 +31,86 @@ fn with_a_zero_byte<'a>(alloc: Global, id: &'a ObjectId) -> Result<TreeRef<'a>, 
     Ok(TreeRef { entries })
 }
 
+/// What is written before the second entry is refused: the first one, and its own mode and space.
+const BEFORE: &[u8] = b"before100644 a\0\
+    \x01\x01\x01\x01\x01\x01\x01\x01\x01\x01\x01\x01\x01\x01\x01\x01\x01\x01\x01\x01\
+    120000\x20";
+
+/// Whether this name of an entry is refused behind these bytes.
+fn is_refused_for(alloc: Global, tree: &TreeRef<'_>, name: &[u8], before: &[u8]) -> bool {
+    let Ok(mut out) = Vec::from_slice(alloc, b"before") else {
+        return false;
+    };
+    match tree.write_to(alloc, &mut out) {
+        Err(Error::NullbyteInFilename { name: refused }) => {
+            refused.as_slice() == name && out.as_slice() == before
+        }
+        _ => false,
+    }
+}
+
 /// A refused name leaves the entry before it, and its own mode and space.
 #[test]
 fn names_with_a_zero_byte(rt: HostRuntime) -> Result<(), Fail> {
-    let alloc = rt.alloc();
     let id = ObjectId::Sha1(ONES);
-    let tree = with_a_zero_byte(alloc, &id)?;
-    let mut out = Vec::from_slice(alloc, b"before")?;
-    match tree.write_to(alloc, &mut out) {
-        Err(Error::NullbyteInFilename { name }) => {
-            assert_eq!(rt; name.as_slice(), b"b\0c".as_slice());
-        }
-        Err(error) => return Err(error)?,
-        Ok(()) => return Err("a zero byte")?,
-    }
-    let mut wanted = Vec::from_slice(alloc, b"before")?;
-    wanted.extend_from_slice(&entry_text(alloc, "100644 a\0")?)?;
-    wanted.extend_from_slice(b"120000 ")?;
-    assert!(rt; out == wanted);
+    let tree = with_a_zero_byte(rt.alloc(), &id)?;
+    assert!(rt; is_refused_for(rt.alloc(), &tree, b"b\0c", BEFORE));
     assert!(rt; tree.size() == Some(29 + 31 + 30));
     Ok(())
 }
 
 /// Whether a writer that takes so many bytes and then fails holds exactly those.
-fn stops_at<T: WriteTo>(alloc: Global, tree: &T, text: &[u8], room: usize) -> Result<bool, Fail>
+fn stops_at<T: WriteTo>(alloc: Global, tree: &T, text: &[u8], room: usize) -> bool
     requires { T.can_write tree.now }
 {
-    let held = Vec::with_capacity(alloc, text.len())?;
+    let Ok(held) = Vec::with_capacity(alloc, text.len()) else {
+        return false;
+    };
     let mut writer = Limited { held, room };
-    let outcome = tree.write_to(alloc, &mut writer);
-    let failed = matches!(&outcome, Err(Error::Writer(_)));
-    Ok(failed && Some(writer.held.as_slice()) == text.get(..room))
+    match tree.write_to(alloc, &mut writer) {
+        Err(Error::Writer(_)) => Some(writer.held.as_slice()) == text.get(..room),
+        _ => false,
+    }
+}
+
+/// Whether each writer with less room than the text stops.
+fn stops<T: WriteTo>(alloc: Global, tree: &T, text: &[u8]) -> bool
+    requires { T.can_write tree.now }
+{
+    for room in 0..text.len() {
+        if !stops_at(alloc, tree, text, room) {
+            return false;
+        }
+    }
+    true
 }
 
 #[test]
 fn writers_that_fail(rt: HostRuntime) -> Result<(), Fail> {
-    let alloc = rt.alloc();
-    let text = PLAIN[0].text(alloc)?;
-    let tree = TreeRef::from_bytes(alloc, &text, Kind::Sha1)?;
-    for room in 0..text.len() {
-        assert!(rt; stops_at(alloc, &tree, &text, room)?, "{room}");
-    }
+    let text = EXAMPLE.bytes;
+    let tree = TreeRef::from_bytes(rt.alloc(), text, Kind::Sha1)?;
+    assert!(rt; stops(rt.alloc(), &tree, text));
     Ok(())
+}
+
+/// Whether so many bytes are counted and written of a tree.
+fn has_size(alloc: Global, tree: &TreeRef<'_>, len: usize) -> bool {
+    match written(alloc, tree) {
+        Ok(out) => out.len() == len && tree.size() == Some(len as u64),
+        Err(_) => false,
+    }
 }
 
 /// Ids of both kinds are counted and written with their own length.
 #[test]
 fn ids_of_both_kinds(rt: HostRuntime) -> Result<(), Fail> {
-    let alloc = rt.alloc();
     let id = ObjectId::null(Kind::Sha256);
-    let text = entry_text(alloc, "100644 a\0")?;
-    let mut tree = TreeRef::from_bytes(alloc, &text, Kind::Sha1)?;
+    let mut tree = TreeRef::from_bytes(rt.alloc(), ENTRY, Kind::Sha1)?;
     tree.entries.push(EntryRef {
         mode: EntryKind::Tree.into(),
         filename: BStr::new(b"b"),
         oid: id.as_oid(),
     })?;
-    assert!(rt; tree.size() == Some(29 + 40));
-    let mut out = Vec::new(alloc);
-    tree.write_to(alloc, &mut out)?;
-    assert_eq!(rt; out.len(), 69);
+    assert!(rt; has_size(rt.alloc(), &tree, 29 + 40));
     Ok(())
 }

@@ -1,10 +1,10 @@
 //! Authors and committers of commits.
 
-use super::{are_written, commit_by, commit_of, commit_with, refusal, written};
+use super::{are_written, commit_by, commit_of, is_kept, is_refused_for, owned_form};
+use gixobj_base::date::Time;
 use gixobj_base::hash::Kind;
 use gixobj_codec::CommitRef;
 use std::alloc::Global;
-use std::test::Fail;
 
 /// Lines of authors, the seconds and the offset of their times, and the lines of the owned authors.
 const TIMES: [(&str, Option<(i64, i32)>, &str); 2] = [
@@ -16,25 +16,49 @@ const TIMES: [(&str, Option<(i64, i32)>, &str); 2] = [
     ("A <a@b> 9223372036854775808 +0000", None, "A <a@b> 0 +0000"),
 ];
 
-/// The seconds and the offset of the author's time.
-fn time_of_author(alloc: Global, text: &[u8]) -> Result<Option<(i64, i32)>, Fail> {
-    let commit = CommitRef::from_bytes(alloc, text, Kind::Sha1)?;
-    match commit.author()?.time() {
-        Some(time) => Ok(Some((time.seconds, time.offset))),
-        None => Ok(None),
+/// The seconds and the offset of a time.
+fn parts_of(time: Option<Time>) -> Option<(i64, i32)> {
+    match time {
+        Some(time) => Some((time.seconds, time.offset)),
+        None => None,
+    }
+}
+
+/// Whether these are the seconds and the offset of the author's time.
+fn has_time(commit: &CommitRef<'_>, wanted: Option<(i64, i32)>) -> bool {
+    match commit.author() {
+        Ok(author) => parts_of(author.time()) == wanted,
+        Err(_) => false,
+    }
+}
+
+/// Whether they are those of the author of a text.
+fn is_time_of_author(alloc: Global, text: &[u8], wanted: Option<(i64, i32)>) -> bool {
+    match CommitRef::from_bytes(alloc, text, Kind::Sha1) {
+        Ok(commit) => has_time(&commit, wanted),
+        Err(_) => false,
+    }
+}
+
+/// Whether a commit by an author with this line has this time, and is written with that line once it is owned.
+fn is_author_of(alloc: Global, line: &str, time: Option<(i64, i32)>, owned: &str) -> bool {
+    match (
+        commit_by(alloc, line.as_bytes()),
+        commit_by(alloc, owned.as_bytes()),
+    ) {
+        (Ok(text), Ok(wanted)) => {
+            is_time_of_author(alloc, &text, time)
+                && are_written(alloc, &text, Kind::Sha1, &text, &wanted)
+        }
+        _ => false,
     }
 }
 
 #[test]
-fn extreme_times(rt: HostRuntime) -> Result<(), Fail> {
-    let alloc = rt.alloc();
+fn extreme_times(rt: HostRuntime) {
     for (line, time, owned) in TIMES {
-        let text = commit_by(alloc, line.as_bytes())?;
-        let wanted = commit_by(alloc, owned.as_bytes())?;
-        assert!(rt; time_of_author(alloc, &text)? == time, "{line}");
-        assert!(rt; are_written(alloc, &text, &text, &wanted)?, "{line}");
+        assert!(rt; is_author_of(rt.alloc(), line, time, owned), "{line}");
     }
-    Ok(())
 }
 
 /// Lines of committers, and when their commits were made: in 1970 where the text is that of no time, as
@@ -47,62 +71,98 @@ const MADE: &[(&str, (i64, i32))] = &[
 ];
 
 /// When the commit of a text was made: the seconds and the offset.
-fn made(alloc: Global, text: &[u8]) -> Result<(i64, i32), Fail> {
-    let time = CommitRef::from_bytes(alloc, text, Kind::Sha1)?.time()?;
-    Ok((time.seconds, time.offset))
+fn made(alloc: Global, text: &[u8]) -> Option<(i64, i32)> {
+    match CommitRef::from_bytes(alloc, text, Kind::Sha1) {
+        Ok(commit) => parts_of(commit.time().ok()),
+        Err(_) => None,
+    }
+}
+
+/// Whether a commit by a committer with this line was made then.
+fn is_made(alloc: Global, line: &str, time: (i64, i32)) -> bool {
+    match commit_of(alloc, b"B <b@b> 7 +0000", line.as_bytes()) {
+        Ok(text) => made(alloc, &text) == Some(time),
+        Err(_) => false,
+    }
 }
 
 #[test]
-fn times_of_commits(rt: HostRuntime) -> Result<(), Fail> {
-    let alloc = rt.alloc();
+fn times_of_commits(rt: HostRuntime) {
     for &(line, time) in MADE {
-        let text = commit_of(alloc, b"B <b@b> 7 +0000", line.as_bytes())?;
-        assert!(rt; made(alloc, &text)? == time, "{line}");
+        assert!(rt; is_made(rt.alloc(), line, time), "{line}");
     }
-    Ok(())
 }
 
-/// The name of the author of a text, trimmed, and the line that it stands in.
-fn name_and_line(alloc: Global, text: &[u8]) -> Result<(&[u8], &[u8]), Fail> {
-    let commit = CommitRef::from_bytes(alloc, text, Kind::Sha1)?;
-    Ok((commit.author()?.name.as_bytes(), commit.author.as_bytes()))
+/// Whether an author has this name, trimmed, and this line.
+fn is_author(commit: &CommitRef<'_>, name: &[u8], line: &[u8]) -> bool {
+    match commit.author() {
+        Ok(author) => author.name.as_bytes() == name && commit.author.as_bytes() == line,
+        Err(_) => false,
+    }
 }
+
+/// Whether that is so of the author of a text.
+fn has_author(alloc: Global, text: &[u8], name: &[u8], line: &[u8]) -> bool {
+    match CommitRef::from_bytes(alloc, text, Kind::Sha1) {
+        Ok(commit) => is_author(&commit, name, line),
+        Err(_) => false,
+    }
+}
+
+/// Whether an author with this line has no name, and is written with that line once it is owned.
+fn has_no_name(alloc: Global, line: &[u8], owned: &[u8]) -> bool {
+    match (commit_by(alloc, line), commit_by(alloc, owned)) {
+        (Ok(text), Ok(wanted)) => {
+            has_author(alloc, &text, b"", line)
+                && are_written(alloc, &text, Kind::Sha1, &text, &wanted)
+                && Some(wanted.len()) == text.len().checked_add(1)
+        }
+        _ => false,
+    }
+}
+
+/// Lines of authors without a name, and those of the owned authors.
+const NO_NAMES: &[(&[u8], &[u8])] = &[(b"<a@b> 0 +0000", b" <a@b> 0 +0000")];
 
 /// A name is empty where no byte stands before the email, and is then written with its space.
 #[test]
-fn author_without_a_name(rt: HostRuntime) -> Result<(), Fail> {
-    let alloc = rt.alloc();
-    let line = b"<a@b> 0 +0000".as_slice();
-    let text = commit_by(alloc, line)?;
-    assert!(rt; name_and_line(alloc, &text)? == (b"".as_slice(), line));
-    let wanted = commit_by(alloc, b" <a@b> 0 +0000")?;
-    assert!(rt; are_written(alloc, &text, &text, &wanted)?);
-    assert_eq!(rt; wanted.len(), text.len() + 1);
-    Ok(())
+fn author_without_a_name(rt: HostRuntime) {
+    for &(line, owned) in NO_NAMES {
+        assert!(rt; has_no_name(rt.alloc(), line, owned));
+    }
 }
 
-/// What is written of the commit of a text.
-fn written_again(alloc: Global, text: &[u8]) -> Result<Vec<u8>, Fail> {
-    let commit = CommitRef::from_bytes(alloc, text, Kind::Sha1)?;
-    Ok(written(alloc, &commit)?)
+/// Whether a commit is written as it was, and its owned form refused for an actor behind so many bytes.
+fn is_actor_refused(alloc: Global, text: &[u8], before: usize) -> bool {
+    let Some(before) = text.get(..before) else {
+        return false;
+    };
+    match owned_form(alloc, text, Kind::Sha1) {
+        Ok(commit) => {
+            is_refused_for(alloc, &commit, "an illegal actor", before)
+                && is_kept(alloc, text, Kind::Sha1, text)
+        }
+        Err(_) => false,
+    }
 }
 
-/// The name of the refusal of the owned commit of a text, and what was written before.
-fn owned_refusal(alloc: Global, text: &[u8]) -> Result<(&'static str, Vec<u8>), Fail> {
-    let commit = CommitRef::from_bytes(alloc, text, Kind::Sha1)?;
-    Ok(refusal(alloc, &commit.into_owned(alloc)?))
+/// Whether an author with this line has this name, and its owned form is refused behind so many bytes.
+fn is_author_refused(alloc: Global, line: &[u8], name: &[u8], before: usize) -> bool {
+    match commit_by(alloc, line) {
+        Ok(text) => {
+            has_author(alloc, &text, name, line) && is_actor_refused(alloc, &text, before)
+        }
+        Err(_) => false,
+    }
 }
+
+/// Lines of authors that can't be written, their names, and how many bytes come before them.
+const REFUSED: &[(&[u8], &[u8], usize)] = &[(b"A> <b> 0 +0000", b"A>", 53)];
 
 /// An author's name with a `>` is read, and written as it stands; an owned author is refused.
 #[test]
-fn author_that_cannot_be_written(rt: HostRuntime) -> Result<(), Fail> {
-    let alloc = rt.alloc();
-    let line = b"A> <b> 0 +0000".as_slice();
-    let text = commit_by(alloc, line)?;
-    assert!(rt; name_and_line(alloc, &text)? == (b"A>".as_slice(), line));
-    assert!(rt; written_again(alloc, &text)? == text);
-    let (name, out) = owned_refusal(alloc, &text)?;
-    assert!(rt; name == "an illegal actor");
-    assert!(rt; text.get(..53) == Some(out.as_slice()));
-    Ok(())
+fn author_that_cannot_be_written(rt: HostRuntime) {
+    for &(line, name, before) in REFUSED {
+        assert!(rt; is_author_refused(rt.alloc(), line, name, before));
+    }
 }

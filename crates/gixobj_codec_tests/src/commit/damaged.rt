@@ -1,11 +1,10 @@
 //! Commits that are cut off or damaged.
 
-use super::{FRONT, commit_with};
+use super::{FRONT, PLAIN};
 use gixobj_base::decode;
 use gixobj_base::hash::Kind;
 use gixobj_codec::{CommitRef, CommitRefIter};
 use std::alloc::Global;
-use std::test::Fail;
 
 /// Whether the whole reader refuses the text.
 fn is_refused(alloc: Global, text: &[u8]) -> bool {
@@ -26,18 +25,30 @@ fn told_behind_an_error(alloc: Global, text: &[u8]) -> Option<usize> {
     None
 }
 
-#[test]
-fn every_prefix(rt: HostRuntime) -> Result<(), Fail> {
-    let alloc = rt.alloc();
-    let text = commit_with(alloc, b"")?;
-    for len in 0..=text.len() {
-        let prefix = text.get(..len).ok_or("a prefix")?;
-        assert!(rt; is_refused(alloc, prefix) == (len < 96), "{len}");
-        let is_told = matches!(len, 0 | 46 | 69 | 95..=99);
-        let wanted = if is_told { None } else { Some(0) };
-        assert!(rt; told_behind_an_error(alloc, prefix) == wanted, "{len}");
+/// Whether a beginning is refused unless it is whole, and so much is told behind its first error.
+fn is_cut(alloc: Global, beginning: &[u8], is_whole: bool, wanted: Option<usize>) -> bool {
+    is_refused(alloc, beginning) != is_whole && told_behind_an_error(alloc, beginning) == wanted
+}
+
+/// Where the lines of the plain commit end, and its message may.
+const ENDS: &[usize] = &[0, 46, 69, 95, 96, 97, 98, 99];
+
+/// Whether the beginning of the plain commit of this length is a commit from its empty line on, and told
+/// without an error to the end of a line.
+fn is_prefix(alloc: Global, len: usize) -> bool {
+    let wanted = if ENDS.contains(&len) { None } else { Some(0) };
+    match PLAIN.get(..len) {
+        Some(beginning) => is_cut(alloc, beginning, len >= 96, wanted),
+        None => false,
     }
-    Ok(())
+}
+
+#[test]
+fn every_prefix(rt: HostRuntime) {
+    for len in 0..=99usize {
+        assert!(rt; is_prefix(rt.alloc(), len), "{len}");
+    }
+    assert!(rt; PLAIN.len() == 99);
 }
 
 /// Lines behind the committer that are no headers.
@@ -51,16 +62,27 @@ const NO_HEADERS: &[&str] = &[
     "encoding A\n B\n",
 ];
 
-#[test]
-fn ends_in_no_header(rt: HostRuntime) -> Result<(), Fail> {
-    let alloc = rt.alloc();
-    for &lines in NO_HEADERS {
-        let mut text = Vec::from_slice(alloc, FRONT)?;
-        text.extend_from_slice(lines.as_bytes())?;
-        assert!(rt; is_refused(alloc, &text), "{lines}");
-        assert!(rt; told_behind_an_error(alloc, &text) == Some(0), "{lines}");
+/// Whether a text is refused, and nothing told behind an error.
+fn is_damaged(alloc: Global, text: &[u8]) -> bool {
+    is_cut(alloc, text, false, Some(0))
+}
+
+/// Whether that is so of these lines behind the committer.
+fn are_no_headers(alloc: Global, lines: &str) -> bool {
+    let Ok(mut text) = Vec::from_slice(alloc, FRONT) else {
+        return false;
+    };
+    match text.extend_from_slice(lines.as_bytes()) {
+        Ok(()) => is_damaged(alloc, &text),
+        Err(_) => false,
     }
-    Ok(())
+}
+
+#[test]
+fn ends_in_no_header(rt: HostRuntime) {
+    for &lines in NO_HEADERS {
+        assert!(rt; are_no_headers(rt.alloc(), lines), "{lines}");
+    }
 }
 
 /// Commits of which a line is wrong, wanting or at the wrong place.
@@ -119,14 +141,8 @@ const DAMAGED: &[&str] = &[
 ];
 
 #[test]
-fn damaged_lines(rt: HostRuntime) -> Result<(), Fail> {
-    let alloc = rt.alloc();
+fn damaged_lines(rt: HostRuntime) {
     for &text in DAMAGED {
-        assert!(rt; is_refused(alloc, text.as_bytes()), "{text}");
-        assert!(rt;
-            told_behind_an_error(alloc, text.as_bytes()) == Some(0),
-            "{text}"
-        );
+        assert!(rt; is_damaged(rt.alloc(), text.as_bytes()), "{text}");
     }
-    Ok(())
 }

@@ -1,120 +1,199 @@
 //! Commits that `git` made, read, told and written, compared with what `git` answers.
+ghost use Rattle.gixobj_codec.specs.CommitViews.{commit_lines};
+ghost use Rattle.gixobj_codec.specs.CommitWriting.{HasIds};
 
-use super::headers::{SHA256, WITH_HEADERS};
-use super::is_written;
-use super::shapes::{LOWER_CASE, NO_OFFSET, PLAIN, Shape, UPPER_CASE, ZERO_OFFSET};
+use super::shapes::{LOWER_CASE, NO_OFFSET, Shape, UPPER_CASE, ZERO_OFFSET};
+use super::{are_written, headers, shapes};
 use bstr::BStr;
 use gixobj_base::actor::SignatureRef;
 use gixobj_base::hash::ObjectId;
-use gixobj_base::{Kind, compute_hash};
-use gixobj_codec::commit::ref_iter::Token;
+use gixobj_base::{Kind, compute_hash, decode};
+use gixobj_codec::commit::ref_iter::{ParentIds, Token};
 use gixobj_codec::{CommitRef, CommitRefIter};
 use std::alloc::Global;
 use std::borrow::CowSlice;
-use std::test::Fail;
 
-/// What `git show` tells of a commit.
-#[derive(Drop)]
-struct Fields<'a> {
-    tree: ObjectId,
-    parents: Vec<ObjectId>,
-    author: SignatureRef<'a>,
-    committer: SignatureRef<'a>,
+/// Puts the lines that `git show` makes of the ids.
+fn put_ids(commit: &CommitRef<'_>, out: &mut Vec<u8>) -> Option<()>
+    requires { HasIds (commit_lines commit.now) }
+{
+    commit.tree().write_hex_to(out).ok()?;
+    let mut before = b"\n";
+    for id in commit.parents() {
+        out.extend_from_slice(before).ok()?;
+        id.write_hex_to(out).ok()?;
+        before = b" ";
+    }
+    if commit.parents.is_empty() {
+        out.extend_from_slice(b"\n").ok()?;
+    }
+    Some(())
+}
+
+/// Puts a line of an actor.
+fn put_actor(alloc: Global, actor: &SignatureRef<'_>, out: &mut Vec<u8>) -> Option<()> {
+    out.extend_from_slice(b"\n").ok()?;
+    actor.to_owned(alloc).ok()?.write_to(out).ok()
+}
+
+/// Puts the lines that it makes of the actors, of the encoding and of the message.
+fn put_others(alloc: Global, commit: &CommitRef<'_>, out: &mut Vec<u8>) -> Option<()> {
+    put_actor(alloc, &commit.author().ok()?, out)?;
+    put_actor(alloc, &commit.committer().ok()?, out)?;
+    let encoding = commit.encoding.unwrap_or(BStr::new(b""));
+    out.extend_from_slice(b"\n").ok()?;
+    out.extend_from_slice(encoding.as_bytes()).ok()?;
+    out.extend_from_slice(b"\n").ok()?;
+    out.extend_from_slice(commit.message.as_bytes()).ok()
+}
+
+/// What `git show` makes of a commit.
+fn shown(alloc: Global, commit: &CommitRef<'_>) -> Option<Vec<u8>>
+    requires { HasIds (commit_lines commit.now) }
+{
+    let mut out = Vec::new(alloc);
+    put_ids(commit, &mut out)?;
+    put_others(alloc, commit, &mut out)?;
+    Some(out)
+}
+
+/// Whether a commit is shown so.
+fn is_shown(alloc: Global, commit: &CommitRef<'_>, wanted: &[u8]) -> bool
+    requires { HasIds (commit_lines commit.now) }
+{
+    match shown(alloc, commit) {
+        Some(out) => out.as_slice() == wanted,
+        None => false,
+    }
+}
+
+/// What a reader tells of a commit, its parents and its further headers aside.
+#[derive(Clone, Copy)]
+struct Told<'a> {
+    tree: Option<ObjectId>,
+    author: Option<SignatureRef<'a>>,
+    committer: Option<SignatureRef<'a>>,
     encoding: Option<BStr<'a>>,
     message: BStr<'a>,
 }
 
-impl<'a> Fields<'a> {
-    /// The fields of a commit that is read whole.
-    fn of_commit(alloc: Global, shape: &'a Shape) -> Result<Fields<'a>, Fail> {
-        let commit = CommitRef::from_bytes(alloc, shape.bytes, shape.hash)?;
-        let mut parents = Vec::new(alloc);
-        for id in commit.parents() {
-            parents.push(id)?;
-        }
-        Ok(Fields {
-            tree: commit.tree(),
-            parents,
-            author: commit.author()?,
-            committer: commit.committer()?,
-            encoding: commit.encoding,
-            message: commit.message,
-        })
-    }
-
-    /// The fields of a commit that is told token by token.
-    fn of_tokens(alloc: Global, shape: &'a Shape) -> Result<Fields<'a>, Fail> {
-        let nobody = SignatureRef {
-            name: BStr::new(b""),
-            email: BStr::new(b""),
-            time: BStr::new(b""),
-        };
-        let mut fields = Fields {
-            tree: ObjectId::null(shape.hash),
-            parents: Vec::new(alloc),
-            author: nobody,
-            committer: nobody,
+impl<'a> Told<'a> {
+    /// What is told of a shape. The actors are trimmed.
+    fn of(alloc: Global, shape: &'a Shape) -> Result<Told<'a>, decode::Error> {
+        let mut told = Told {
+            tree: None,
+            author: None,
+            committer: None,
             encoding: None,
             message: BStr::new(b""),
         };
         for token in CommitRefIter::from_bytes(alloc, shape.bytes, shape.hash) {
             match token? {
-                Token::Tree { id } => fields.tree = id,
-                Token::Parent { id } => fields.parents.push(id)?,
-                Token::Author { signature } => fields.author = signature.trim(),
-                Token::Committer { signature } => fields.committer = signature.trim(),
-                Token::Encoding(encoding) => fields.encoding = Some(encoding),
-                Token::ExtraHeader(_) => {}
-                Token::Message(message) => fields.message = message,
+                Token::Tree { id } => told.tree = Some(id),
+                Token::Author { signature } => told.author = Some(signature.trim()),
+                Token::Committer { signature } => told.committer = Some(signature.trim()),
+                Token::Encoding(encoding) => told.encoding = Some(encoding),
+                Token::Parent { .. } | Token::ExtraHeader(_) => {}
+                Token::Message(message) => told.message = message,
             }
         }
-        Ok(fields)
+        Ok(told)
     }
 
-    /// The lines that `git show` makes of the ids.
-    fn shown_ids(&self, alloc: Global) -> Result<Vec<u8>, Fail> {
-        let mut out = Vec::new(alloc);
-        self.tree.write_hex_to(&mut out)?;
-        let mut before = b"\n";
-        for id in self.parents.iter() {
-            out.extend_from_slice(before)?;
-            id.write_hex_to(&mut out)?;
-            before = b" ";
-        }
-        if self.parents.is_empty() {
-            out.push(b'\n')?;
-        }
-        Ok(out)
-    }
-
-    /// The text that `git show` makes of them.
-    fn shown(&self, alloc: Global) -> Result<Vec<u8>, Fail> {
-        let mut out = self.shown_ids(alloc)?;
-        put_actor(alloc, &self.author, &mut out)?;
-        put_actor(alloc, &self.committer, &mut out)?;
-        out.push(b'\n')?;
-        let encoding = self.encoding.unwrap_or(BStr::new(b""));
-        out.extend_from_slice(encoding.as_bytes())?;
-        out.push(b'\n')?;
-        out.extend_from_slice(self.message.as_bytes())?;
-        Ok(out)
+    /// Whether this is what is read of a commit.
+    fn is_read_in(&self, commit: &CommitRef<'_>) -> bool
+        requires { HasIds (commit_lines commit.now) }
+    {
+        let same_tree = self.tree == Some(commit.tree());
+        let same_author = self.author == commit.author().ok();
+        let same_committer = self.committer == commit.committer().ok();
+        let same_encoding = self.encoding == commit.encoding;
+        let same_message = self.message == commit.message;
+        same_tree && same_author && same_committer && same_encoding && same_message
     }
 }
 
-/// Puts a line of an actor.
-fn put_actor(alloc: Global, actor: &SignatureRef<'_>, out: &mut Vec<u8>) -> Result<(), Fail> {
-    out.push(b'\n')?;
-    actor.to_owned(alloc)?.write_to(out)?;
-    Ok(())
+/// Whether these are the parents of a commit.
+fn are_parents(mut told: ParentIds<'_>, commit: &CommitRef<'_>) -> bool
+    requires { HasIds (commit_lines commit.now) }
+{
+    for id in commit.parents() {
+        if told.next() != Some(id) {
+            return false;
+        }
+    }
+    told.next().is_none()
+}
+
+/// Whether a header has this name and this value.
+fn is_header(header: &(BStr<'_>, CowSlice<'_, u8>), wanted: &(&[u8], &[u8])) -> bool {
+    header.0.as_bytes() == wanted.0 && header.1.as_slice() == wanted.1
 }
 
 /// Whether these are the headers of a shape.
-fn are_headers(headers: &[(BStr<'_>, CowSlice<'_, u8>)], shape: &Shape) -> bool {
-    let mut pairs = headers.iter().zip(shape.headers);
-    let same = pairs.all(|(header, wanted)| {
-        header.0.as_bytes() == wanted.0 && header.1.as_slice() == wanted.1
-    });
-    same && headers.len() == shape.headers.len()
+pub(super) fn are_headers(
+    headers: &[(BStr<'_>, CowSlice<'_, u8>)],
+    wanted: &[(&[u8], &[u8])],
+) -> bool {
+    for (header, row) in headers.iter().zip(wanted) {
+        if !is_header(header, row) {
+            return false;
+        }
+    }
+    headers.len() == wanted.len()
+}
+
+/// Whether a header is this one, where there is one.
+fn is_wanted(header: &(BStr<'_>, CowSlice<'_, u8>), wanted: Option<&(&[u8], &[u8])>) -> bool {
+    match wanted {
+        Some(row) => is_header(header, row),
+        None => false,
+    }
+}
+
+/// Whether a reader tells these headers, and no more.
+fn tells_headers(tokens: CommitRefIter<'_>, wanted: &[(&[u8], &[u8])]) -> bool {
+    let mut count = 0usize;
+    for token in tokens {
+        match &token {
+            Ok(Token::ExtraHeader(header)) => {
+                if !is_wanted(header, wanted.get(count)) {
+                    return false;
+                }
+                count = count.saturating_add(1);
+            }
+            Ok(_) => {}
+            Err(_) => return false,
+        }
+    }
+    count == wanted.len()
+}
+
+/// Whether the same is told of a shape as is read whole.
+fn is_told(alloc: Global, shape: &Shape, commit: &CommitRef<'_>) -> bool
+    requires { HasIds (commit_lines commit.now) }
+{
+    let tokens = CommitRefIter::from_bytes(alloc, shape.bytes, shape.hash);
+    match Told::of(alloc, shape) {
+        Ok(told) => {
+            told.is_read_in(commit)
+                && are_parents(tokens.parent_ids(), commit)
+                && tells_headers(tokens, shape.headers)
+        }
+        Err(_) => false,
+    }
+}
+
+/// Whether a shape is read and told as git says.
+fn is_read(alloc: Global, shape: &Shape) -> bool {
+    match CommitRef::from_bytes(alloc, shape.bytes, shape.hash) {
+        Ok(commit) => {
+            is_shown(alloc, &commit, shape.shown)
+                && is_told(alloc, shape, &commit)
+                && are_headers(&commit.extra_headers, shape.headers)
+        }
+        Err(_) => false,
+    }
 }
 
 /// Whether git's id of a shape is that of its text.
@@ -123,106 +202,48 @@ fn has_its_id(shape: &Shape) -> bool {
     Some(id) == ObjectId::from_hex(shape.id.as_bytes())
 }
 
-/// Whether the fields of a shape are shown as git shows them, read whole and told.
-fn is_shown(alloc: Global, shape: &Shape) -> Result<bool, Fail> {
-    let whole = Fields::of_commit(alloc, shape)?.shown(alloc)?;
-    let told = Fields::of_tokens(alloc, shape)?.shown(alloc)?;
-    Ok(whole.as_slice() == shape.shown && told == whole)
+/// Whether a shape is read and told as git says, and written so as it is read, and so as it is owned, each
+/// with git's id and as long as it is.
+fn becomes(alloc: Global, shape: &Shape, borrowed: &Shape, owned: &Shape) -> bool {
+    is_read(alloc, shape)
+        && are_written(alloc, shape.bytes, shape.hash, borrowed.bytes, owned.bytes)
+        && has_its_id(borrowed)
+        && has_its_id(owned)
 }
 
-/// Whether the headers of a shape that is read whole are git's.
-fn has_its_headers(alloc: Global, shape: &Shape) -> Result<bool, Fail> {
-    let commit = CommitRef::from_bytes(alloc, shape.bytes, shape.hash)?;
-    Ok(are_headers(&commit.extra_headers, shape))
-}
-
-/// Whether the headers of a shape that is told are git's.
-fn tells_its_headers(alloc: Global, shape: &Shape) -> Result<bool, Fail> {
-    let mut headers = Vec::new(alloc);
-    for token in CommitRefIter::from_bytes(alloc, shape.bytes, shape.hash) {
-        if let Token::ExtraHeader(header) = token? {
-            headers.push(header)?;
+/// The first of these that git answers otherwise, by its name.
+fn first_that_differs(alloc: Global, shapes: &[Shape]) -> Option<&'static str> {
+    for shape in shapes {
+        if !becomes(alloc, shape, shape, shape) {
+            return Some(shape.name);
         }
     }
-    Ok(are_headers(&headers, shape))
-}
-
-/// Whether a shape is read and told as git says.
-fn is_read(alloc: Global, shape: &Shape) -> Result<bool, Fail> {
-    let is_shown = is_shown(alloc, shape)?;
-    let is_whole = has_its_headers(alloc, shape)?;
-    let is_told = tells_its_headers(alloc, shape)?;
-    Ok(is_shown && is_whole && is_told)
-}
-
-/// Whether a shape is written so as it is read, and so as it is owned, each with git's id and as long
-/// as it is.
-fn is_written_as(
-    alloc: Global,
-    shape: &Shape,
-    borrowed: &Shape,
-    owned: &Shape,
-) -> Result<bool, Fail> {
-    let commit = CommitRef::from_bytes(alloc, shape.bytes, shape.hash)?;
-    let is_first = is_written(alloc, &commit, borrowed.bytes)?;
-    let is_second = is_written(alloc, &commit.into_owned(alloc)?, owned.bytes)?;
-    Ok(is_first && is_second && has_its_id(borrowed) && has_its_id(owned))
+    None
 }
 
 #[test]
-fn without_headers(rt: HostRuntime) -> Result<(), Fail> {
-    for shape in PLAIN {
-        assert!(rt; is_read(rt.alloc(), shape)?, "{}", shape.name);
-        assert!(rt;
-            is_written_as(rt.alloc(), shape, shape, shape)?,
-            "{}",
-            shape.name
-        );
-    }
-    Ok(())
+fn without_headers(rt: HostRuntime) {
+    assert!(rt; first_that_differs(rt.alloc(), shapes::plain()).is_none());
 }
 
 #[test]
-fn with_headers(rt: HostRuntime) -> Result<(), Fail> {
-    for shape in WITH_HEADERS {
-        assert!(rt; is_read(rt.alloc(), shape)?, "{}", shape.name);
-        assert!(rt;
-            is_written_as(rt.alloc(), shape, shape, shape)?,
-            "{}",
-            shape.name
-        );
-    }
-    Ok(())
+fn with_headers(rt: HostRuntime) {
+    assert!(rt; first_that_differs(rt.alloc(), headers::with_headers()).is_none());
 }
 
 #[test]
-fn with_sha256(rt: HostRuntime) -> Result<(), Fail> {
-    for shape in SHA256 {
-        assert!(rt; is_read(rt.alloc(), shape)?, "{}", shape.name);
-        assert!(rt;
-            is_written_as(rt.alloc(), shape, shape, shape)?,
-            "{}",
-            shape.name
-        );
-    }
-    Ok(())
+fn with_sha256(rt: HostRuntime) {
+    assert!(rt; first_that_differs(rt.alloc(), headers::with_sha256()).is_none());
 }
 
 /// Ids are read in either case, and written in lower case.
 #[test]
-fn upper_case(rt: HostRuntime) -> Result<(), Fail> {
-    let alloc = rt.alloc();
-    assert!(rt; is_read(alloc, &UPPER_CASE)?);
-    assert!(rt; is_written_as(alloc, &UPPER_CASE, &LOWER_CASE, &LOWER_CASE)?);
-    Ok(())
+fn upper_case(rt: HostRuntime) {
+    assert!(rt; becomes(rt.alloc(), &UPPER_CASE, &LOWER_CASE, &LOWER_CASE));
 }
 
 /// A sign before no offset is kept by what is read, and is `+` in what is owned.
 #[test]
-fn no_offset(rt: HostRuntime) -> Result<(), Fail> {
-    let alloc = rt.alloc();
-    let fields = Fields::of_commit(alloc, &NO_OFFSET)?;
-    assert!(rt; fields.shown(alloc)?.as_slice() == NO_OFFSET.shown);
-    assert!(rt; is_written_as(alloc, &NO_OFFSET, &NO_OFFSET, &ZERO_OFFSET)?);
-    Ok(())
+fn no_offset(rt: HostRuntime) {
+    assert!(rt; becomes(rt.alloc(), &NO_OFFSET, &NO_OFFSET, &ZERO_OFFSET));
 }

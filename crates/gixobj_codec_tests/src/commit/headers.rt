@@ -5,7 +5,7 @@ use super::shapes::Shape;
 use gixobj_base::hash::Kind;
 
 /// With further headers.
-pub(super) const WITH_HEADERS: &[Shape] = &[
+const WITH_HEADERS: &[Shape] = &[
     Shape {
         name: "signed",
         hash: Kind::Sha1,
@@ -288,8 +288,13 @@ pub(super) const WITH_HEADERS: &[Shape] = &[
     },
 ];
 
+/// These commits.
+pub(super) fn with_headers() -> &'static [Shape] {
+    WITH_HEADERS
+}
+
 /// In a repository made with `--object-format=sha256`.
-pub(super) const SHA256: &[Shape] = &[
+const SHA256: &[Shape] = &[
     Shape {
         name: "example",
         hash: Kind::Sha256,
@@ -432,3 +437,8 @@ pub(super) const SHA256: &[Shape] = &[
         )],
     },
 ];
+
+/// These commits.
+pub(super) fn with_sha256() -> &'static [Shape] {
+    SHA256
+}

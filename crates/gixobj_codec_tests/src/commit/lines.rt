@@ -1,172 +1,276 @@
 //! Lines between the committer and the message.
+ghost use Rattle.gixobj_codec.specs.CommitViews.{commit_lines};
+ghost use Rattle.gixobj_codec.specs.CommitWriting.{HasIds};
 
-use super::{FRONT, are_written, commit_with, has_id, names_told, refusal, written};
+use super::git::are_headers;
+use super::{
+    FRONT, are_written, commit_with, has_id, is_refused_for, is_written, owned_form, tells,
+};
 use bstr::BStr;
 use gixobj_base::hash::Kind;
 use gixobj_base::{WriteTo, decode};
-use gixobj_codec::CommitRef;
 use gixobj_codec::commit::ref_iter::Token;
-use gixobj_codec::commit::{CommitRefIter, ExtraHeaders};
+use gixobj_codec::commit::{BorrowedHeaders, CommitRefIter, ExtraHeaders, FindAll, OwnedHeaders};
+use gixobj_codec::{Commit, CommitRef};
 use std::alloc::Global;
 use std::test::Fail;
 
+/// What lines behind the committer are read as: the encoding and the headers.
+const LINES: &[(&str, Option<&str>, &[(&[u8], &[u8])])] = &[
+    ("encoding UTF-8\n", Some("UTF-8"), &[]),
+    ("encoding \n", Some(""), &[]),
+    // a second `encoding` is a header like any other
+    (
+        "encoding A\nencoding B\n C\n",
+        Some("A"),
+        &[(b"encoding", b"B\nC\n")],
+    ),
+    // so is one behind another header
+    (
+        "x y\nencoding A\n",
+        None,
+        &[(b"x", b"y"), (b"encoding", b"A")],
+    ),
+];
+
+/// Whether a text is read with this encoding and these headers.
+fn is_read(alloc: Global, text: &[u8], encoding: Option<&str>, headers: &[(&[u8], &[u8])]) -> bool {
+    match CommitRef::from_bytes(alloc, text, Kind::Sha1) {
+        Ok(commit) => {
+            commit.encoding == encoding.map(|text| BStr::new(text.as_bytes()))
+                && are_headers(&commit.extra_headers, headers)
+        }
+        Err(_) => false,
+    }
+}
+
+/// Whether these lines are read so.
+fn are_read(
+    alloc: Global,
+    lines: &str,
+    encoding: Option<&str>,
+    headers: &[(&[u8], &[u8])],
+) -> bool {
+    match commit_with(alloc, lines.as_bytes()) {
+        Ok(text) => is_read(alloc, &text, encoding, headers),
+        Err(_) => false,
+    }
+}
+
 #[test]
-fn encoding(rt: HostRuntime) -> Result<(), Fail> {
-    let alloc = rt.alloc();
-    let text = commit_with(alloc, b"encoding UTF-8\n")?;
-    assert!(rt; has_id(&text, b"fc4b109ce827506506ceace1201f8f1cc5c6cafc"));
-    let commit = CommitRef::from_bytes(alloc, &text, Kind::Sha1)?;
-    assert!(rt; commit.encoding == Some(BStr::new(b"UTF-8")));
-    assert!(rt; commit.extra_headers.is_empty());
-    assert!(rt; commit.size() == Some(114));
-    assert!(rt; written(alloc, &commit)? == text);
-    Ok(())
+fn encodings_and_headers(rt: HostRuntime) {
+    for &(lines, encoding, headers) in LINES {
+        assert!(rt; are_read(rt.alloc(), lines, encoding, headers), "{lines}");
+    }
+}
+
+/// Lines behind the committer, the size of their commit, and the id that git gives what is written of it.
+///
+/// The value of one empty line takes no byte, and is counted with its newline.
+const WRITTEN: &[(&str, u64, &[u8])] = &[
+    (
+        "encoding UTF-8\n",
+        114,
+        b"fc4b109ce827506506ceace1201f8f1cc5c6cafc",
+    ),
+    ("x \n", 102, b"56436fff13db21e35c0c27ff0612dedb5ef14c00"),
+];
+
+/// Whether a text is counted so, has this id and is written back.
+fn is_counted(alloc: Global, text: &[u8], size: u64, id: &[u8]) -> bool {
+    match CommitRef::from_bytes(alloc, text, Kind::Sha1) {
+        Ok(commit) => {
+            commit.size() == Some(size) && has_id(text, id) && is_written(alloc, &commit, text)
+        }
+        Err(_) => false,
+    }
+}
+
+/// Whether these lines are counted and written so.
+fn are_counted(alloc: Global, lines: &str, size: u64, id: &[u8]) -> bool {
+    match commit_with(alloc, lines.as_bytes()) {
+        Ok(text) => is_counted(alloc, &text, size, id),
+        Err(_) => false,
+    }
+}
+
+#[test]
+fn sizes_and_ids(rt: HostRuntime) {
+    for &(lines, size, id) in WRITTEN {
+        assert!(rt; are_counted(rt.alloc(), lines, size, id), "{lines}");
+    }
+}
+
+/// Whether a commit is refused behind its first lines, for an empty value.
+fn is_refused_as_empty<T: WriteTo>(alloc: Global, commit: &T) -> bool
+    requires { T.can_write commit.now }
+{
+    is_refused_for(alloc, commit, "an empty value", FRONT)
 }
 
 #[test]
 fn empty_encoding(rt: HostRuntime) -> Result<(), Fail> {
-    let alloc = rt.alloc();
-    let text = commit_with(alloc, b"encoding \n")?;
-    let commit = CommitRef::from_bytes(alloc, &text, Kind::Sha1)?;
-    assert!(rt; commit.encoding == Some(BStr::new(b"")));
-    let (name, out) = refusal(alloc, &commit);
-    assert!(rt; name == "an empty value");
-    assert!(rt; out.as_slice() == FRONT);
+    let text = commit_with(rt.alloc(), b"encoding \n")?;
+    let commit = CommitRef::from_bytes(rt.alloc(), &text, Kind::Sha1)?;
+    assert!(rt; is_refused_as_empty(rt.alloc(), &commit));
     Ok(())
 }
 
 #[test]
 fn empty_encoding_owned(rt: HostRuntime) -> Result<(), Fail> {
-    let alloc = rt.alloc();
-    let text = commit_with(alloc, b"encoding \n")?;
-    let owned = CommitRef::from_bytes(alloc, &text, Kind::Sha1)?.into_owned(alloc)?;
-    let (name, out) = refusal(alloc, &owned);
-    assert!(rt; name == "an empty value");
-    assert!(rt; out.as_slice() == FRONT);
+    let text = commit_with(rt.alloc(), b"encoding \n")?;
+    let commit = owned_form(rt.alloc(), &text, Kind::Sha1)?;
+    assert!(rt; is_refused_as_empty(rt.alloc(), &commit));
     Ok(())
 }
 
-/// The encoding that the reader of tokens tells fourth.
-fn fourth_as_encoding(alloc: Global, text: &[u8]) -> Option<BStr<'_>> {
+/// Whether the reader of tokens tells this encoding fourth.
+fn tells_encoding(alloc: Global, text: &[u8], wanted: &[u8]) -> bool {
     match CommitRefIter::from_bytes(alloc, text, Kind::Sha1).nth(3) {
-        Some(Ok(Token::Encoding(encoding))) => Some(encoding),
-        _ => None,
+        Some(Ok(Token::Encoding(encoding))) => encoding.as_bytes() == wanted,
+        _ => false,
     }
 }
+
+/// What is told of a commit whose encoding has a second line.
+const FOLDED: &[&str] = &[
+    "tree",
+    "author",
+    "committer",
+    "encoding",
+    "malformed",
+    "end",
+    "end",
+];
 
 /// An encoding has one line. What follows it is no header either.
 #[test]
 fn folded_encoding(rt: HostRuntime) -> Result<(), Fail> {
-    let alloc = rt.alloc();
-    let text = commit_with(alloc, b"encoding A\n B\n")?;
-    let whole = CommitRef::from_bytes(alloc, &text, Kind::Sha1);
+    let text = commit_with(rt.alloc(), b"encoding A\n B\n")?;
+    let whole = CommitRef::from_bytes(rt.alloc(), &text, Kind::Sha1);
     assert!(rt; matches!(&whole, Err(decode::Error::Malformed)));
-    let told = [
-        "tree",
-        "author",
-        "committer",
-        "encoding",
-        "malformed",
-        "end",
-        "end",
-    ];
-    assert!(rt; names_told(alloc, &text, 7)?.as_slice() == told.as_slice());
-    assert!(rt; fourth_as_encoding(alloc, &text) == Some(BStr::new(b"A")));
+    assert!(rt; tells(rt.alloc(), &text, FOLDED));
+    assert!(rt; tells_encoding(rt.alloc(), &text, b"A"));
     Ok(())
 }
 
-/// Lines behind the committer, and the value of the first header `x` in them.
-const HEADERS: &[(&str, &str)] = &[
-    ("x A\n", "A"),
-    ("x A\n B\n", "A\nB\n"),
-    ("x \n", ""),
-    ("x \n \n", "\n\n"),
-    ("x  A\n  B\n", " A\n B\n"),
-    ("X 1\nx 2\n", "2"),
-    ("xy 1\nx 2\nx 3\n", "2"),
+/// Lines behind the committer, the name of a header, its first place, and all its values in order.
+const HEADERS: &[(&str, &str, Option<usize>, &[&str])] = &[
+    ("x A\n", "x", Some(0), &["A"]),
+    ("x A\n B\n", "x", Some(0), &["A\nB\n"]),
+    ("x \n", "x", Some(0), &[""]),
+    ("x \n \n", "x", Some(0), &["\n\n"]),
+    ("x  A\n  B\n", "x", Some(0), &[" A\n B\n"]),
+    ("X 1\nx 2\n", "x", Some(1), &["2"]),
+    ("xy 1\nx 2\nx 3\n", "x", Some(1), &["2", "3"]),
+    ("x 1\ny 2\n 3\nx 4\n", "y", Some(1), &["2\n3\n"]),
+    ("x 1\ny 2\n 3\nx 4\n", "x", Some(0), &["1", "4"]),
+    (
+        "encoding A\nencoding B\n C\n",
+        "encoding",
+        Some(0),
+        &["B\nC\n"],
+    ),
+    ("gpgsig A\n B\n", "gpgsig", Some(0), &["A\nB\n"]),
+    ("gpgsig A\n B\n", "x", None, &[]),
+    ("", "x", None, &[]),
 ];
 
-/// Whether the first header `x` of a text has this value.
-fn has_value(alloc: Global, text: &[u8], value: &str) -> Result<bool, Fail> {
-    let commit = CommitRef::from_bytes(alloc, text, Kind::Sha1)?;
-    let found = commit.extra_headers().find("x");
-    Ok(found == Some(BStr::new(value.as_bytes())))
-}
-
-#[test]
-fn headers(rt: HostRuntime) -> Result<(), Fail> {
-    let alloc = rt.alloc();
-    for &(lines, value) in HEADERS {
-        let text = commit_with(alloc, lines.as_bytes())?;
-        assert!(rt; has_value(alloc, &text, value)?, "{lines}");
-        assert!(rt; are_written(alloc, &text, &text, &text)?, "{lines}");
+/// Whether a value is the one that is wanted, or none where none is.
+fn is_value(found: Option<BStr<'_>>, wanted: Option<&&str>) -> bool {
+    match (found, wanted) {
+        (Some(value), Some(wanted)) => value.as_bytes() == wanted.as_bytes(),
+        (None, None) => true,
+        _ => false,
     }
-    Ok(())
 }
 
-/// The value of one empty line takes no byte, and is counted with its newline.
-#[test]
-fn empty_header(rt: HostRuntime) -> Result<(), Fail> {
-    let alloc = rt.alloc();
-    let text = commit_with(alloc, b"x \n")?;
-    let commit = CommitRef::from_bytes(alloc, &text, Kind::Sha1)?;
-    assert!(rt; commit.size() == Some(102));
-    let out = written(alloc, &commit)?;
-    assert!(rt; has_id(&out, b"56436fff13db21e35c0c27ff0612dedb5ef14c00"));
-    Ok(())
+/// Whether these values are found, two at most, and no more.
+fn are_values<'a>(mut found: FindAll<'a, BorrowedHeaders<'a, 'a>>, wanted: &[&str]) -> bool {
+    is_value(found.next(), wanted.first())
+        && is_value(found.next(), wanted.get(1))
+        && found.next().is_none()
 }
 
-/// Lines of three headers, of which the second has two lines.
-const THREE_HEADERS: &[u8] = b"x 1\ny 2\n 3\nx 4\n";
+/// The same in an owned commit.
+fn are_owned_values<'a>(mut found: FindAll<'a, OwnedHeaders<'a>>, wanted: &[&str]) -> bool {
+    is_value(found.next(), wanted.first())
+        && is_value(found.next(), wanted.get(1))
+        && found.next().is_none()
+}
 
-/// All headers of a name are found in the order in which they stand.
-#[test]
-fn headers_of_a_name(rt: HostRuntime) -> Result<(), Fail> {
-    let alloc = rt.alloc();
-    let text = commit_with(alloc, THREE_HEADERS)?;
-    let commit = CommitRef::from_bytes(alloc, &text, Kind::Sha1)?;
-    assert!(rt; commit.extra_headers().find_pos("y") == Some(1));
-    let mut values = commit.extra_headers().find_all("x");
-    assert!(rt; values.next() == Some(BStr::new(b"1")));
-    assert!(rt; values.next() == Some(BStr::new(b"4")));
-    assert!(rt; values.next().is_none());
-    Ok(())
+/// Whether the headers of a name are found so in a commit.
+fn finds(commit: &CommitRef<'_>, name: &str, place: Option<usize>, values: &[&str]) -> bool
+    requires { HasIds (commit_lines commit.now) }
+{
+    is_value(commit.extra_headers().find(name), values.first())
+        && commit.extra_headers().find_pos(name) == place
+        && are_values(commit.extra_headers().find_all(name), values)
+}
+
+/// Whether they are found so in an owned commit.
+fn owned_finds(commit: &Commit, name: &str, place: Option<usize>, values: &[&str]) -> bool {
+    is_value(commit.extra_headers().find(name), values.first())
+        && commit.extra_headers().find_pos(name) == place
+        && are_owned_values(commit.extra_headers().find_all(name), values)
+}
+
+/// Whether they are found so in the owned commit of a text.
+fn are_found_owned(
+    alloc: Global,
+    text: &[u8],
+    hash_kind: Kind,
+    name: &str,
+    place: Option<usize>,
+    values: &[&str],
+) -> bool {
+    match owned_form(alloc, text, hash_kind) {
+        Ok(commit) => owned_finds(&commit, name, place, values),
+        Err(_) => false,
+    }
+}
+
+/// Whether they are found so in the commit of a text, borrowed and owned.
+pub(super) fn are_found(
+    alloc: Global,
+    text: &[u8],
+    hash_kind: Kind,
+    name: &str,
+    place: Option<usize>,
+    values: &[&str],
+) -> bool {
+    match CommitRef::from_bytes(alloc, text, hash_kind) {
+        Ok(commit) => {
+            finds(&commit, name, place, values)
+                && are_found_owned(alloc, text, hash_kind, name, place, values)
+        }
+        Err(_) => false,
+    }
+}
+
+/// Whether they are found so in these lines, which are written back.
+fn have_header(
+    alloc: Global,
+    lines: &str,
+    name: &str,
+    place: Option<usize>,
+    values: &[&str],
+) -> bool {
+    match commit_with(alloc, lines.as_bytes()) {
+        Ok(text) => {
+            are_found(alloc, &text, Kind::Sha1, name, place, values)
+                && are_written(alloc, &text, Kind::Sha1, &text, &text)
+        }
+        Err(_) => false,
+    }
 }
 
 #[test]
-fn owned_headers_of_a_name(rt: HostRuntime) -> Result<(), Fail> {
-    let alloc = rt.alloc();
-    let text = commit_with(alloc, THREE_HEADERS)?;
-    let owned = CommitRef::from_bytes(alloc, &text, Kind::Sha1)?.into_owned(alloc)?;
-    assert!(rt; owned.extra_headers().find_pos("y") == Some(1));
-    let mut values = owned.extra_headers().find_all("x");
-    assert!(rt; values.next() == Some(BStr::new(b"1")));
-    assert!(rt; values.next() == Some(BStr::new(b"4")));
-    assert!(rt; values.next().is_none());
-    Ok(())
-}
-
-/// A second `encoding` is a header like any other.
-#[test]
-fn second_encoding(rt: HostRuntime) -> Result<(), Fail> {
-    let alloc = rt.alloc();
-    let text = commit_with(alloc, b"encoding A\nencoding B\n C\n")?;
-    let commit = CommitRef::from_bytes(alloc, &text, Kind::Sha1)?;
-    let found = commit.extra_headers().find("encoding");
-    assert!(rt; found == Some(BStr::new(b"B\nC\n")));
-    assert!(rt; written(alloc, &commit)? == text);
-    Ok(())
-}
-
-/// So is one behind another header.
-#[test]
-fn late_encoding(rt: HostRuntime) -> Result<(), Fail> {
-    let alloc = rt.alloc();
-    let text = commit_with(alloc, b"x y\nencoding A\n")?;
-    let commit = CommitRef::from_bytes(alloc, &text, Kind::Sha1)?;
-    assert!(rt; commit.encoding.is_none());
-    assert_eq!(rt; commit.extra_headers.len(), 2);
-    Ok(())
+fn headers(rt: HostRuntime) {
+    for &(lines, name, place, values) in HEADERS {
+        let is_so = have_header(rt.alloc(), lines, name, place, values);
+        assert!(rt; is_so, "{lines}");
+    }
 }
 
 /// Any iterator of names and values will do.

@@ -1,107 +1,119 @@
 //! A first commit of the empty tree, and its beginning.
+ghost use Rattle.gixobj_codec.specs.CommitViews.{commit_lines};
+ghost use Rattle.gixobj_codec.specs.CommitWriting.{HasIds};
 
-use super::{FRONT, commit_with, has_id, is_written, names_told, parts, written};
+use super::{FRONT, PLAIN, are_written, commit_with, has_id, owned_form, tells};
+use gixobj_base::actor::SignatureRef;
 use gixobj_base::date::Time;
 use gixobj_base::hash::{self, ObjectId};
 use gixobj_base::{Kind, WriteTo, decode};
-use gixobj_codec::CommitRef;
+use gixobj_codec::{Commit, CommitRef};
+use std::alloc::Global;
 use std::test::Fail;
 
-/// The name, the email and the time of its author and its committer.
-const NOBODY: [&[u8]; 3] = [b"A", b"a@b", b"0 +0000"];
+/// Whether it has its parts.
+fn has_its_parts(commit: &CommitRef<'_>) -> bool
+    requires { HasIds (commit_lines commit.now) }
+{
+    commit.tree() == ObjectId::empty_tree(hash::Kind::Sha1)
+        && commit.parents().next().is_none()
+        && commit.encoding.is_none()
+        && commit.extra_headers.is_empty()
+        && commit.message.as_bytes() == b"hi\n".as_slice()
+}
 
 #[test]
 fn plain_commit(rt: HostRuntime) -> Result<(), Fail> {
-    let alloc = rt.alloc();
-    let text = commit_with(alloc, b"")?;
-    assert_eq!(rt; text.len(), 99);
-    let commit = CommitRef::from_bytes(alloc, &text, hash::Kind::Sha1)?;
-    assert!(rt; commit.tree() == ObjectId::empty_tree(hash::Kind::Sha1));
-    assert!(rt; commit.parents().next().is_none());
-    assert!(rt; commit.encoding.is_none());
-    assert!(rt; commit.extra_headers.is_empty());
-    assert!(rt; commit.message.as_bytes() == b"hi\n".as_slice());
+    let commit = CommitRef::from_bytes(rt.alloc(), PLAIN, hash::Kind::Sha1)?;
+    assert!(rt; PLAIN.len() == 99);
+    assert!(rt; has_its_parts(&commit));
     Ok(())
+}
+
+/// Whether an actor has its name, its email and its time.
+fn is_its_actor(actor: &Result<SignatureRef<'_>, decode::Error>) -> bool {
+    match actor {
+        Ok(actor) => {
+            actor.name.as_bytes() == b"A".as_slice()
+                && actor.email.as_bytes() == b"a@b".as_slice()
+                && actor.time.as_bytes() == b"0 +0000".as_slice()
+        }
+        Err(_) => false,
+    }
 }
 
 #[test]
 fn plain_actors(rt: HostRuntime) -> Result<(), Fail> {
-    let alloc = rt.alloc();
-    let text = commit_with(alloc, b"")?;
-    let commit = CommitRef::from_bytes(alloc, &text, hash::Kind::Sha1)?;
-    assert!(rt; parts(commit.author()?) == NOBODY);
-    assert!(rt; parts(commit.committer()?) == NOBODY);
-    assert!(rt; commit.time()? == Time::default());
+    let commit = CommitRef::from_bytes(rt.alloc(), PLAIN, hash::Kind::Sha1)?;
+    assert!(rt; is_its_actor(&commit.author()));
+    assert!(rt; is_its_actor(&commit.committer()));
+    assert!(rt; commit.time().ok() == Some(Time::default()));
     Ok(())
+}
+
+/// Whether a commit has its kind, its size and its loose header.
+fn is_counted<T: WriteTo>(alloc: Global, commit: &T) -> bool
+    requires { T.can_write commit.now }
+{
+    if commit.kind() != Kind::Commit || commit.size() != Some(99) {
+        return false;
+    }
+    match commit.loose_header(alloc) {
+        Some(header) => header.as_slice() == b"commit 99\0".as_slice(),
+        None => false,
+    }
+}
+
+/// Whether its owned form is counted so.
+fn is_owned_form_counted(alloc: Global) -> bool {
+    match owned_form(alloc, PLAIN, hash::Kind::Sha1) {
+        Ok(commit) => is_counted(alloc, &commit),
+        Err(_) => false,
+    }
+}
+
+/// Whether it is counted so.
+fn is_plain_counted(alloc: Global) -> bool {
+    match CommitRef::from_bytes(alloc, PLAIN, hash::Kind::Sha1) {
+        Ok(commit) => is_counted(alloc, &commit),
+        Err(_) => false,
+    }
 }
 
 #[test]
-fn plain_commit_written(rt: HostRuntime) -> Result<(), Fail> {
-    let alloc = rt.alloc();
-    let text = commit_with(alloc, b"")?;
-    assert!(rt; has_id(&text, b"cefd86e1aa1b558d030fd8abbc32dbe09841cfaf"));
-    let commit = CommitRef::from_bytes(alloc, &text, hash::Kind::Sha1)?;
-    assert!(rt; commit.kind() == Kind::Commit);
-    assert!(rt; commit.size() == Some(99));
-    assert!(rt; written(alloc, &commit)? == text);
-    Ok(())
+fn plain_commit_written(rt: HostRuntime) {
+    assert!(rt; has_id(PLAIN, b"cefd86e1aa1b558d030fd8abbc32dbe09841cfaf"));
+    assert!(rt; is_plain_counted(rt.alloc()));
+    assert!(rt; is_owned_form_counted(rt.alloc()));
+    assert!(rt; are_written(rt.alloc(), PLAIN, hash::Kind::Sha1, PLAIN, PLAIN));
 }
 
-#[test]
-fn plain_commit_header(rt: HostRuntime) -> Result<(), Fail> {
-    let alloc = rt.alloc();
-    let text = commit_with(alloc, b"")?;
-    let commit = CommitRef::from_bytes(alloc, &text, hash::Kind::Sha1)?;
-    let header = commit.loose_header(alloc).ok_or("a header")?;
-    assert!(rt; header.as_slice() == b"commit 99\0".as_slice());
-    let owned = commit.into_owned(alloc)?;
-    let header = owned.loose_header(alloc).ok_or("a header")?;
-    assert!(rt; header.as_slice() == b"commit 99\0".as_slice());
-    Ok(())
+/// Its owned form, by the other name of the call.
+fn owned_again(alloc: Global) -> Result<Commit, decode::Error> {
+    CommitRef::from_bytes(alloc, PLAIN, hash::Kind::Sha1)?.to_owned(alloc)
 }
 
-#[test]
-fn plain_commit_owned(rt: HostRuntime) -> Result<(), Fail> {
-    let alloc = rt.alloc();
-    let text = commit_with(alloc, b"")?;
-    let commit = CommitRef::from_bytes(alloc, &text, hash::Kind::Sha1)?;
-    let owned = commit.to_owned(alloc)?;
-    assert!(rt; owned.extra_headers().find("x").is_none());
-    assert!(rt; owned.kind() == Kind::Commit);
-    assert!(rt; owned.size() == Some(99));
-    assert!(rt; is_written(alloc, &owned, &text)?);
-    Ok(())
-}
-
-/// Both names of the same call.
 #[test]
 fn plain_commit_owned_twice(rt: HostRuntime) -> Result<(), Fail> {
-    let alloc = rt.alloc();
-    let text = commit_with(alloc, b"")?;
-    let first = CommitRef::from_bytes(alloc, &text, hash::Kind::Sha1)?.into_owned(alloc)?;
-    let second = CommitRef::from_bytes(alloc, &text, hash::Kind::Sha1)?.to_owned(alloc)?;
-    assert!(rt; first == second);
+    let first = owned_form(rt.alloc(), PLAIN, hash::Kind::Sha1)?;
+    assert!(rt; owned_again(rt.alloc())? == first);
     Ok(())
 }
 
 /// The beginning of the plain commit, up to the end of the committer's line.
 #[test]
-fn cut_commit(rt: HostRuntime) -> Result<(), Fail> {
-    let alloc = rt.alloc();
-    assert_eq!(rt; FRONT.len(), 95);
-    let whole = CommitRef::from_bytes(alloc, FRONT, hash::Kind::Sha1);
+fn cut_commit(rt: HostRuntime) {
+    assert!(rt; FRONT.len() == 95);
+    let whole = CommitRef::from_bytes(rt.alloc(), FRONT, hash::Kind::Sha1);
     assert!(rt; matches!(&whole, Err(decode::Error::Malformed)));
-    let told = ["tree", "author", "committer", "end"];
-    assert!(rt; names_told(alloc, FRONT, 4)?.as_slice() == told.as_slice());
-    Ok(())
+    assert!(rt; tells(rt.alloc(), FRONT, &["tree", "author", "committer", "end"]));
 }
 
 /// What looks like an encoding is part of the message behind an empty line.
 #[test]
 fn message_of_an_encoding(rt: HostRuntime) -> Result<(), Fail> {
-    let alloc = rt.alloc();
-    let text = commit_with(alloc, b"\nencoding A\n")?;
-    let commit = CommitRef::from_bytes(alloc, &text, hash::Kind::Sha1)?;
+    let text = commit_with(rt.alloc(), b"\nencoding A\n")?;
+    let commit = CommitRef::from_bytes(rt.alloc(), &text, hash::Kind::Sha1)?;
     assert!(rt; commit.encoding.is_none());
     assert!(rt; commit.message.as_bytes() == b"encoding A\n\nhi\n".as_slice());
     Ok(())

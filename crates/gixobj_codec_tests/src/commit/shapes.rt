@@ -22,7 +22,7 @@ pub(super) struct Shape {
 }
 
 /// Without further headers.
-pub(super) const PLAIN: &[Shape] = &[
+const PLAIN: &[Shape] = &[
     Shape {
         name: "example",
         hash: Kind::Sha1,
@@ -308,6 +308,11 @@ pub(super) const PLAIN: &[Shape] = &[
         headers: &[],
     },
 ];
+
+/// These commits.
+pub(super) fn plain() -> &'static [Shape] {
+    PLAIN
+}
 
 /// With the id of its parent in upper case.
 pub(super) const UPPER_CASE: Shape = Shape {

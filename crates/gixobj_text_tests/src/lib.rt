@@ -1,5 +1,0 @@
-//! Tests of `gixobj_text`.
-#![tactic(auto)]
-
-#[cfg(test)]
-mod signature;
