@@ -2,4 +2,5 @@ mod Edited
 mod Paths
 mod RemovedAt
 mod Removing
+mod RootAlone
 mod WrittenOut

@@ -89,6 +89,21 @@ impl<S> Editor<S> {
             lookups: 0,
         }
     }
+
+    /// Begins anew with this root, which must be well-formed, as [`Tree::is_well_formed`] tells: it alone is open,
+    /// and what was edited before counts no more. The store, the kind of the ids and the number of lookups
+    /// stay. It takes no memory.
+    pub fn set_root(&mut self, root: Tree) -> &mut Editor<S>
+        requires { IsWellFormed root }
+        ensures same_reference { result.ghost_name ≡ self.entry.ghost_name }
+        ensures state { result.now ≡ record self.old { dirs = root_alone root } }
+        ensures is_opened { IsOpened (open_dirs result.now) }
+        ensures files { (T : Table) (n : ℕ) → SameFiles (EditorFiles T n result.now) (Files T n root) }
+    {
+        let alloc = *root.entries.allocator();
+        self.root = Open::new(alloc, root);
+        self
+    }
 }
 
 /// Access

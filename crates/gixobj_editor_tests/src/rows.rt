@@ -405,6 +405,18 @@ fn a_copy_goes_its_own_way(rt: HostRuntime) -> Result<(), Fail> {
     Ok(())
 }
 
+#[test]
+fn a_new_root(rt: HostRuntime) -> Result<(), Fail> {
+    let alloc = rt.alloc();
+    let mut editor = stored_file(alloc, &[b"a", b"b"])?;
+    let rows: &[Row] = &[(Edit::File, b"a c", 0, 1)];
+    assert!(rt; answered(alloc, &mut editor, rows)?);
+    editor.set_root(Tree::empty(alloc));
+    assert!(rt; editor.lookups() == 1);
+    assert!(rt; writes(alloc, &mut editor, 1, EMPTY));
+    Ok(())
+}
+
 /// A path of so many names `d`.
 fn deep_path(alloc: Global, depth: usize) -> Result<Vec<BString>, AllocError> {
     let mut path = Vec::new(alloc);

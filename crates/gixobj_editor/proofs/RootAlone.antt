@@ -1,0 +1,16 @@
+-- An editor whose root alone is open.
+use Rattle.std.proofs.Common.{◌≡◌, ℕ, List, [], sym, subst}
+use Rattle.gixobj_trees.specs.Entries.{EntryView, IsWellFormed}
+use Rattle.gixobj_directories.specs.Nested.{Opened, dirs_of, opened}
+use Rattle.gixobj_directories.proofs.OpeningSteps.{only_is}
+use Rattle.gixobj_files.specs.Files.{Files, SameFiles, Table}
+use Rattle.gixobj_files.specs.Opening.{Dirs, IsOpened, OpenFiles}
+use Rattle.gixobj_files.proofs.EditedFiles.{root_files}
+use Rattle.gixobj_files.proofs.StillOpenedOpenings.{opened_only}
+use Rattle.gixobj_editor.proofs.Edited.{map_dirs}
+
+pub alone_opened : (ds : Opened) (root : List EntryView) → ds ≡ opened root [] → IsWellFormed root → IsOpened (dirs_of ds)
+alone_opened ds root is formed = subst (λ (d : Opened). IsOpened (dirs_of d)) (sym is) (subst (λ (d : Dirs). IsOpened d) (sym (only_is root)) (opened_only root formed))
+
+pub alone_files : (ds : Opened) (root : List EntryView) → ds ≡ opened root [] → (T : Table) (n : ℕ) → SameFiles (OpenFiles T n (map_dirs ds)) (Files T n root)
+alone_files ds root is T n = subst (λ (d : Opened). SameFiles (OpenFiles T n (map_dirs d)) (Files T n root)) (sym is) (root_files T n root)
