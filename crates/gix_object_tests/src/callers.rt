@@ -1,12 +1,16 @@
 //! The proved callers, each once with ample memory.
 
-use bstr::BStr;
-use gix_object::CommitRef;
+use bstr::{BStr, BString};
+use gix_object::find::Never;
 use gix_object::hash::{Kind, ObjectId};
+use gix_object::tree::EntryKind;
+use gix_object::{CommitRef, Tree, WriteTo, compute_hash, encode};
 use gixobj_callers::auditor::{place_of, value_of, values_of};
 use gixobj_callers::importer::owned_copy_of;
+use gixobj_callers::planner::with_entry;
 use gixobj_callers::store::{CopyError, copy_of};
 use gixobj_callers::walker::{ends_behind_errors, message_of, parents_of, tree_of};
+use std::alloc::Global;
 use std::test::Fail;
 
 const TREE: &[u8] = b"4b825dc642cb6eb9a060e54bf8d69288fbee4904";
@@ -47,6 +51,27 @@ fn copied(rt: HostRuntime) -> Result<(), Fail> {
     assert!(rt; owned_copy_of(alloc, MERGE, Kind::Sha1)?.as_slice() == MERGE);
     let refused = copy_of(alloc, b"tree 4b", Kind::Sha1);
     assert!(rt; matches!(&refused, Err(CopyError::Read(_))));
+    Ok(())
+}
+
+fn id_of(alloc: Global, tree: &Tree) -> Result<ObjectId, encode::Error> {
+    let mut bytes = Vec::new(alloc);
+    tree.write_to(alloc, &mut bytes)?;
+    Ok(compute_hash(Kind::Sha1, gix_object::Kind::Tree, &bytes))
+}
+
+/// What `git mktree` answers for the one file `hello.txt` of the first id.
+const PLANNED: &[u8] = b"aaa96ced2d9a1c8e72c56b253a0e2fe78393feb7";
+
+#[test]
+fn planned(rt: HostRuntime) -> Result<(), Fail> {
+    let alloc = rt.alloc();
+    let path = vec![in alloc; BString::from_slice(alloc, b"hello.txt")?]?;
+    let id = ObjectId::from_hex(FIRST).ok_or("an id")?;
+    let out = |tree: &Tree| id_of(alloc, tree);
+    let written = with_entry(Tree::empty(alloc), Never, &path, EntryKind::Blob, id, out)?;
+    let written = written.ok_or("a write")?;
+    assert!(rt; ObjectId::from_hex(PLANNED) == Some(written.id));
     Ok(())
 }
 
