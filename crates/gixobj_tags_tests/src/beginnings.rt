@@ -16,23 +16,26 @@ fn tokens_told(text: &[u8]) -> usize {
     told
 }
 
+/// From which length on a beginning has so many tokens.
+const TOKENS: &[(usize, usize)] = &[(48, 1), (58, 2), (65, 3), (66, 5)];
+
 /// How many tokens the beginning of this length has.
 fn tokens_of(len: usize) -> usize {
-    match len {
-        0..48 => 0,
-        48..58 => 1,
-        58..65 => 2,
-        65 => 3,
-        _ => 5,
+    let mut tokens = 0usize;
+    for &(from, count) in TOKENS {
+        if from <= len {
+            tokens = count;
+        }
     }
+    tokens
 }
+
+/// The lengths of the beginnings that are told without an error.
+const WHOLE: &[usize] = &[0, 48, 58, 65, 66, 67, 68, 69];
 
 /// How many items are told behind the first error of the beginning of this length, or none without one.
 fn told_behind(len: usize) -> Option<usize> {
-    match len {
-        0 | 48 | 58 | 65..=69 => None,
-        _ => Some(0),
-    }
+    if WHOLE.contains(&len) { None } else { Some(0) }
 }
 
 /// Whether the beginning of this length is read and told as far as it goes.

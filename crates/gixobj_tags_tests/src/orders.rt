@@ -3,6 +3,7 @@
 use crate::tags::{BARE, tag_with};
 use bstr::{BStr, BString};
 use gixobj_base::actor::SignatureRef;
+use gixobj_base::decode::Error;
 use gixobj_base::hash::ObjectId;
 use gixobj_base::{Kind, hash};
 use gixobj_codec::tag::ref_iter::Token;
@@ -84,27 +85,6 @@ fn tags_that_are_equal(rt: HostRuntime) -> Result<(), Fail> {
     Ok(())
 }
 
-/// The same, owned, where each but the first has one field that is greater.
-fn owned_tags_in_a_row(alloc: Global, first: Tag) -> Result<Vec<Tag>, Fail> {
-    let mut signed = first.clone()?;
-    signed.signature = Some(BString::from_slice(alloc, b"")?);
-    let mut told = first.clone()?;
-    told.message = BString::from_slice(alloc, b"a")?;
-    let mut tagged = first.clone()?;
-    tagged.tagger = Some(actor().to_owned(alloc)?);
-    let mut named = first.clone()?;
-    named.name = BString::from_slice(alloc, b"v2")?;
-    let mut of_blob = first.clone()?;
-    of_blob.target_kind = Kind::Blob;
-    let mut of_other = first.clone()?;
-    of_other.target = ObjectId::empty_blob(hash::Kind::Sha1);
-    let mut tags = Vec::new(alloc);
-    for tag in [first, signed, told, tagged, named, of_blob, of_other] {
-        tags.push(tag)?;
-    }
-    Ok(tags)
-}
-
 /// An actor of some tag.
 fn actor() -> SignatureRef<'static> {
     SignatureRef {
@@ -122,10 +102,28 @@ fn is_equal_to_its_copy(tag: &Tag) -> bool {
     }
 }
 
-/// The owned form of the bare tag, and greater ones.
-fn owned_tags(alloc: Global) -> Result<Vec<Tag>, Fail> {
-    let first = TagRef::from_bytes(BARE, hash::Kind::Sha1)?.into_owned(alloc)?;
-    owned_tags_in_a_row(alloc, first)
+/// The owned form of the bare tag, or at another place one with one field that is greater.
+fn owned_tag(alloc: Global, at: usize) -> Result<Tag, Error> {
+    let mut tag = TagRef::from_bytes(BARE, hash::Kind::Sha1)?.into_owned(alloc)?;
+    match at {
+        1 => tag.signature = Some(BString::from_slice(alloc, b"")?),
+        2 => tag.message = BString::from_slice(alloc, b"a")?,
+        3 => tag.tagger = Some(actor().to_owned(alloc)?),
+        4 => tag.name = BString::from_slice(alloc, b"v2")?,
+        5 => tag.target_kind = Kind::Blob,
+        6 => tag.target = ObjectId::empty_blob(hash::Kind::Sha1),
+        _ => {}
+    }
+    Ok(tag)
+}
+
+/// The bare tag and the greater ones, owned.
+fn owned_tags(alloc: Global) -> Result<Vec<Tag>, Error> {
+    let mut tags = Vec::new(alloc);
+    for at in 0..7usize {
+        tags.push(owned_tag(alloc, at)?)?;
+    }
+    Ok(tags)
 }
 
 #[test]

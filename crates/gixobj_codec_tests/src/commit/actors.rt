@@ -16,18 +16,19 @@ const TIMES: [(&str, Option<(i64, i32)>, &str); 2] = [
     ("A <a@b> 9223372036854775808 +0000", None, "A <a@b> 0 +0000"),
 ];
 
-/// The seconds and the offset of a time.
-fn parts_of(time: Option<Time>) -> Option<(i64, i32)> {
-    match time {
-        Some(time) => Some((time.seconds, time.offset)),
-        None => None,
+/// Whether a time has these seconds and this offset, or there is none.
+fn is_time(time: Option<Time>, wanted: Option<(i64, i32)>) -> bool {
+    match (time, wanted) {
+        (Some(time), Some((seconds, offset))) => time.seconds == seconds && time.offset == offset,
+        (None, None) => true,
+        _ => false,
     }
 }
 
 /// Whether these are the seconds and the offset of the author's time.
 fn has_time(commit: &CommitRef<'_>, wanted: Option<(i64, i32)>) -> bool {
     match commit.author() {
-        Ok(author) => parts_of(author.time()) == wanted,
+        Ok(author) => is_time(author.time(), wanted),
         Err(_) => false,
     }
 }
@@ -70,18 +71,18 @@ const MADE: &[(&str, (i64, i32))] = &[
     ("A <a@b>", (0, 0)),
 ];
 
-/// When the commit of a text was made: the seconds and the offset.
-fn made(alloc: Global, text: &[u8]) -> Option<(i64, i32)> {
+/// Whether the commit of a text was made then: the seconds and the offset.
+fn is_made_at(alloc: Global, text: &[u8], time: (i64, i32)) -> bool {
     match CommitRef::from_bytes(alloc, text, Kind::Sha1) {
-        Ok(commit) => parts_of(commit.time().ok()),
-        Err(_) => None,
+        Ok(commit) => is_time(commit.time().ok(), Some(time)),
+        Err(_) => false,
     }
 }
 
 /// Whether a commit by a committer with this line was made then.
 fn is_made(alloc: Global, line: &str, time: (i64, i32)) -> bool {
     match commit_of(alloc, b"B <b@b> 7 +0000", line.as_bytes()) {
-        Ok(text) => made(alloc, &text) == Some(time),
+        Ok(text) => is_made_at(alloc, &text, time),
         Err(_) => false,
     }
 }
@@ -132,25 +133,22 @@ fn author_without_a_name(rt: HostRuntime) {
     }
 }
 
-/// Whether a commit is written as it was, and its owned form refused for an actor behind so many bytes.
-fn is_actor_refused(alloc: Global, text: &[u8], before: usize) -> bool {
-    let Some(before) = text.get(..before) else {
-        return false;
-    };
-    match owned_form(alloc, text, Kind::Sha1) {
-        Ok(commit) => {
-            is_refused_for(alloc, &commit, "an illegal actor", before)
-                && is_kept(alloc, text, Kind::Sha1, text)
-        }
-        Err(_) => false,
+/// Whether the owned form of a text is refused for an actor behind these bytes.
+fn is_actor_refused(alloc: Global, text: &[u8], before: Option<&[u8]>) -> bool {
+    match (owned_form(alloc, text, Kind::Sha1), before) {
+        (Ok(commit), Some(before)) => is_refused_for(alloc, &commit, "an illegal actor", before),
+        _ => false,
     }
 }
 
-/// Whether an author with this line has this name, and its owned form is refused behind so many bytes.
+/// Whether an author with this line has this name and is written as it stands, and its owned form is
+/// refused behind so many bytes.
 fn is_author_refused(alloc: Global, line: &[u8], name: &[u8], before: usize) -> bool {
     match commit_by(alloc, line) {
         Ok(text) => {
-            has_author(alloc, &text, name, line) && is_actor_refused(alloc, &text, before)
+            has_author(alloc, &text, name, line)
+                && is_kept(alloc, &text, Kind::Sha1, &text)
+                && is_actor_refused(alloc, &text, text.get(..before))
         }
         Err(_) => false,
     }

@@ -4,7 +4,7 @@ use super::{FRONT, PLAIN};
 use gixobj_base::decode;
 use gixobj_base::hash::Kind;
 use gixobj_codec::{CommitRef, CommitRefIter};
-use std::alloc::Global;
+use std::alloc::{AllocError, Global};
 
 /// Whether the whole reader refuses the text.
 fn is_refused(alloc: Global, text: &[u8]) -> bool {
@@ -67,13 +67,17 @@ fn is_damaged(alloc: Global, text: &[u8]) -> bool {
     is_cut(alloc, text, false, Some(0))
 }
 
+/// The lines of the commit, and these behind its committer.
+fn front_with(alloc: Global, lines: &str) -> Result<Vec<u8>, AllocError> {
+    let mut text = Vec::from_slice(alloc, FRONT)?;
+    text.extend_from_slice(lines.as_bytes())?;
+    Ok(text)
+}
+
 /// Whether that is so of these lines behind the committer.
 fn are_no_headers(alloc: Global, lines: &str) -> bool {
-    let Ok(mut text) = Vec::from_slice(alloc, FRONT) else {
-        return false;
-    };
-    match text.extend_from_slice(lines.as_bytes()) {
-        Ok(()) => is_damaged(alloc, &text),
+    match front_with(alloc, lines) {
+        Ok(text) => is_damaged(alloc, &text),
         Err(_) => false,
     }
 }

@@ -147,14 +147,15 @@ fn of_their_parts(rt: HostRuntime) {
     }
 }
 
+/// Whether the object of the first kind comes before that of the second.
+fn is_kind_before(alloc: Global, first: Kind, second: Kind) -> bool {
+    is_before(&object(alloc, first), &object(alloc, second))
+}
+
 /// Objects compare by their kinds first.
 #[test]
 fn in_order(rt: HostRuntime) {
-    let (blob, commit) = (
-        object(rt.alloc(), Kind::Blob),
-        object(rt.alloc(), Kind::Commit),
-    );
-    assert!(rt; is_before(&object(rt.alloc(), Kind::Tree), &blob));
-    assert!(rt; is_before(&blob, &commit));
-    assert!(rt; is_before(&commit, &object(rt.alloc(), Kind::Tag)));
+    assert!(rt; is_kind_before(rt.alloc(), Kind::Tree, Kind::Blob));
+    assert!(rt; is_kind_before(rt.alloc(), Kind::Blob, Kind::Commit));
+    assert!(rt; is_kind_before(rt.alloc(), Kind::Commit, Kind::Tag));
 }

@@ -87,15 +87,24 @@ fn given_by_conversion(alloc: Global, kind: Kind, wanted: Kind) -> Option<Object
     converted_back(object(alloc, kind).ok()?, wanted)
 }
 
-/// Whether the object of a kind is given back by both calls, or by neither where it is of this kind.
+/// Whether the object of a kind is given back, or nothing where it is of this kind.
+fn is_given(alloc: Global, kind: Kind, wanted: Kind) -> bool {
+    is_same(
+        &given(alloc, kind, wanted),
+        &object(alloc, kind),
+        kind != wanted,
+    )
+}
+
+/// Whether the conversions of std do the same.
+fn is_converted(alloc: Global, kind: Kind, wanted: Kind) -> bool {
+    let given = given_by_conversion(alloc, kind, wanted);
+    is_same(&given, &object(alloc, kind), kind != wanted)
+}
+
+/// Whether both do.
 fn is_given_back(alloc: Global, kind: Kind, wanted: Kind) -> bool {
-    let object = object(alloc, kind);
-    is_same(&given(alloc, kind, wanted), &object, kind != wanted)
-        && is_same(
-            &given_by_conversion(alloc, kind, wanted),
-            &object,
-            kind != wanted,
-        )
+    is_given(alloc, kind, wanted) && is_converted(alloc, kind, wanted)
 }
 
 /// Whether it is given back for each kind but its own.
@@ -132,14 +141,15 @@ fn of_their_parts(rt: HostRuntime) {
     }
 }
 
+/// Whether the object of the first kind comes before that of the second.
+fn is_kind_before(alloc: Global, first: Kind, second: Kind) -> bool {
+    is_before(&object(alloc, first), &object(alloc, second))
+}
+
 /// Objects compare by their kinds first.
 #[test]
 fn in_order(rt: HostRuntime) {
-    let (blob, commit) = (
-        object(rt.alloc(), Kind::Blob),
-        object(rt.alloc(), Kind::Commit),
-    );
-    assert!(rt; is_before(&object(rt.alloc(), Kind::Tree), &blob));
-    assert!(rt; is_before(&blob, &commit));
-    assert!(rt; is_before(&commit, &object(rt.alloc(), Kind::Tag)));
+    assert!(rt; is_kind_before(rt.alloc(), Kind::Tree, Kind::Blob));
+    assert!(rt; is_kind_before(rt.alloc(), Kind::Blob, Kind::Commit));
+    assert!(rt; is_kind_before(rt.alloc(), Kind::Commit, Kind::Tag));
 }
