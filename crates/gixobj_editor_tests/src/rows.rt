@@ -320,12 +320,23 @@ fn an_unknown_directory(rt: HostRuntime) -> Result<(), Fail> {
     let rows: &[Row] = &[
         (Edit::File, b"a ", 1, 0),
         (Edit::Remove, b"a b", 3, 1),
-        (Edit::Leaf, b"a b", 3, 2),
-        (Edit::Leaf, b"a", 4, 2),
-        (Edit::Remove, b"a", 0, 2),
+        (Edit::Remove, b"a", 0, 1),
     ];
     assert!(rt; answered(alloc, &mut editor, rows)?);
     assert!(rt; writes(alloc, &mut editor, 1, EMPTY));
+    Ok(())
+}
+
+#[test]
+fn leaves_of_an_unknown_directory(rt: HostRuntime) -> Result<(), Fail> {
+    let alloc = rt.alloc();
+    let mut editor = over_an_unknown_tree(alloc)?;
+    let rows: &[Row] = &[
+        (Edit::Leaf, b"a b", 3, 1),
+        (Edit::Leaf, b"a b", 3, 2),
+        (Edit::Leaf, b"a", 4, 2),
+    ];
+    assert!(rt; answered(alloc, &mut editor, rows)?);
     Ok(())
 }
 
