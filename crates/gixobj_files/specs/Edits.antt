@@ -69,6 +69,12 @@ abbrev pub with_dir : List ℕ → Dirs → Dirs → Dirs
 with_dir name inner dirs [] = dirs []
 with_dir name inner dirs (first ∷ path) = if same_name name first then inner path else dirs (first ∷ path)
 
+-- these directories in the directory at a path, and else the old ones
+abbrev pub with_path : Path → Dirs → Dirs → Dirs
+with_path [] inner dirs at = inner at
+with_path (name ∷ rest) inner dirs [] = dirs []
+with_path (name ∷ rest) inner dirs (first ∷ at) = if same_name name first then with_path rest inner (in_dir name dirs) at else dirs (first ∷ at)
+
 -- the entry of a name: the only one
 abbrev pub IsEntryOf : List ℕ → Option (List EntryView) → EntryView → Type 0
 IsEntryOf name here e = HasAt here e × (e.name ≡ name) × ((other : EntryView) → HasAt here other → other.name ≡ name → other ≡ e)

@@ -12,6 +12,10 @@ Dirs = Path → Option (List EntryView)
 abbrev pub in_dir : List ℕ → Dirs → Dirs
 in_dir name dirs = λ path. dirs (name ∷ path)
 
+-- the open directories at and below a path
+abbrev pub in_path : Path → Dirs → Dirs
+in_path path dirs = λ at. dirs (path ++ at)
+
 -- the directory is open and has the entry
 abbrev pub HasAt : Option (List EntryView) → EntryView → Type 0
 HasAt None e = ⊥

@@ -1,13 +1,13 @@
 -- The state of an editor as contracts see it.
 pub mod Codes
-use Rattle.std.specs.Prelude.{ℕ, List, []}
+use Rattle.std.specs.Prelude.{ℕ, ◌+◌, ◌++◌, List, [], length}
 use Rattle.std.specs.Ordering.{nat_cmp}
 use Rattle.std.specs.Cmp.Lexicographic.{slice_cmp}
 use Rattle.std.specs.FinMap.{FinMap}
 use Rattle.std.specs.FinMap as map
 use Rattle.gixobj_trees.specs.Entries.{EntryView}
 use Rattle.gixobj_ids.specs.declared.hash.kind.Kind.{Kind}
-use Rattle.gixobj_files.specs.Files.{FileSet, Table}
+use Rattle.gixobj_files.specs.Files.{FileSet, Path, Table}
 use Rattle.gixobj_files.specs.Opening.{Dirs, OpenFiles}
 
 -- the entries of the open directories, by their paths
@@ -32,6 +32,10 @@ root_alone entries = map.insert map.empty [] entries
 -- the files of an editor
 abbrev pub EditorFiles : {S : Type 0} → Table → ℕ → State S → FileSet
 EditorFiles T n state = OpenFiles T n (open_dirs state)
+
+-- the files of an editor below a path, each with its path from there
+abbrev pub FilesBelow : {S : Type 0} → Table → ℕ → Path → State S → FileSet
+FilesBelow T n prefix state = λ path. EditorFiles T (n + length prefix) state (prefix ++ path)
 
 -- the editor with another store
 abbrev pub with_store : {S : Type 0} → State S → S → State S

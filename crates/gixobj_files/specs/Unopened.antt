@@ -1,5 +1,5 @@
 -- The directories on a path that aren't open and would be looked up.
-use Rattle.std.specs.Prelude.{ℕ, Bool, not, ◌&&◌, true, false, List, [], ◌∷◌, Option, Some, None, if◌then◌else◌, length, map}
+use Rattle.std.specs.Prelude.{ℕ, Bool, not, ◌&&◌, ◌++◌, true, false, List, [], ◌∷◌, Option, Some, None, if◌then◌else◌, length, map}
 use Rattle.std.specs.List.{filter}
 use Rattle.gixobj_trees.specs.Entries.{EntryView}
 use Rattle.gixobj_trees.specs.Mode.{is_tree_mode}
@@ -50,6 +50,10 @@ abbrev pub strict_beginnings : Path → List Path
 strict_beginnings [] = []
 strict_beginnings (name ∷ []) = []
 strict_beginnings (name ∷ next ∷ rest) = (name ∷ []) ∷ map (λ path. name ∷ path) (strict_beginnings (next ∷ rest))
+
+-- a place in the directory at a path: the beginnings of it are those of the path, and the path itself
+abbrev pub inside : Path → Path
+inside path = path ++ [] ∷ []
 
 -- a tree's entry, by an id that a store is asked for
 abbrev pub is_sought_tree : Option EntryView → Bool
