@@ -1,4 +1,5 @@
 pub mod AssuredFiles
+pub mod BelowPrefix
 pub mod Coming
 pub mod EditedFiles
 pub mod Formed

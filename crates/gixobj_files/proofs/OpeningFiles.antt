@@ -20,7 +20,7 @@ stands T trees agrees id entries asked (formed, inr (filled, is, asks)) = inr (a
 pub inside_is : (name : List ℕ) (inner dirs : Dirs) → in_dir name (with_dir name inner dirs) ≡ inner
 inside_is name inner dirs = ap (λ b path. cond b (inner path) (dirs (name ∷ path))) (name_itself name)
 
-beside_is : (name first : List ℕ) (inner dirs : Dirs) → name ≢ first → in_dir first (with_dir name inner dirs) ≡ in_dir first dirs
+pub beside_is : (name first : List ℕ) (inner dirs : Dirs) → name ≢ first → in_dir first (with_dir name inner dirs) ≡ in_dir first dirs
 beside_is name first inner dirs differ = ap (λ b path. cond b (inner path) (dirs (first ∷ path))) (name_other name first differ)
 
 pub opens_root : {Ends : EntryView → Type 0} (trees : Trees) (path : Path) (dirs new : Dirs) (asked : List ObjectId) → Opens Ends trees path dirs new asked → new [] ≡ dirs []
@@ -30,7 +30,7 @@ opens_root trees path dirs new asked (down name rest d inner e entries more has 
 opens_root trees path dirs new asked (found name rest d inner e entries first more entry tree free none finds opens) = refl
 
 -- one level: the directories in a name have the same files as before
-same_level : (T : Table) (k : ℕ) (name : List ℕ) (inner dirs : Dirs) → ((path : Path) (mode : ℕ) (id : ObjectId) → (OpenFiles T (suc k) (with_dir name inner dirs) (name ∷ path) mode id → OpenFiles T (suc k) dirs (name ∷ path) mode id) × (OpenFiles T (suc k) dirs (name ∷ path) mode id → OpenFiles T (suc k) (with_dir name inner dirs) (name ∷ path) mode id))
+pub same_level : (T : Table) (k : ℕ) (name : List ℕ) (inner dirs : Dirs) → ((path : Path) (mode : ℕ) (id : ObjectId) → (OpenFiles T (suc k) (with_dir name inner dirs) (name ∷ path) mode id → OpenFiles T (suc k) dirs (name ∷ path) mode id) × (OpenFiles T (suc k) dirs (name ∷ path) mode id → OpenFiles T (suc k) (with_dir name inner dirs) (name ∷ path) mode id))
     → SameFiles (OpenFiles T (suc k) (with_dir name inner dirs)) (OpenFiles T (suc k) dirs)
 same_level T k name inner dirs here [] mode id = ((λ h. absurd h), λ h. absurd h)
 same_level T k name inner dirs here (first ∷ path) mode id =

@@ -1,0 +1,117 @@
+-- The open directories at and below a path, and what the files are where others take their place.
+use Rattle.std.proofs.Common.{◌≡◌, ◌≢◌, inl, inr, ℕ, ◌+◌, zero, suc, List, [], ◌∷◌, ◌++◌, append_assoc, append-nil, length, refl, sym, ap, subst, ◌∙◌, arith, Option, Some, None}
+use Rattle.std.specs.Prelude.{◌↔◌, IsTrue}
+use Rattle.gixobj_trees.specs.Entries.{EntryView, IsWellFormed}
+use Rattle.gixobj_trees.specs.Mode.{is_tree_mode}
+use Rattle.gixobj_files.specs.Edits.{only, with_path}
+use Rattle.gixobj_files.specs.Files.{Begins, Path, SameFiles, Table}
+use Rattle.gixobj_files.specs.Opening.{Dirs, HasAt, IsOpened, OpenFiles, in_dir, in_path}
+use Rattle.gixobj_files.proofs.EditedFiles.{same_refl}
+use Rattle.gixobj_files.proofs.OpenedFiles.{from_open, into_open, same_names}
+use Rattle.gixobj_files.proofs.OpeningFiles.{beside_is, inside_is, same_level}
+use Rattle.gixobj_files.proofs.StillOpenedOpenings.{opened_in_dir, opened_only, opened_with_dir}
+use Rattle.gixobj_files.proofs.UpsertedFiles.{begins_more}
+
+-- an open directory has a list, and one that has an entry is open
+list_at : (here : Option (List EntryView)) → here ≢ None → (es : List EntryView) × (here ≡ Some es)
+list_at None some = absurd (some refl)
+list_at (Some es) some = (es, refl)
+
+is_open : (here : Option (List EntryView)) (e : EntryView) → HasAt here e → here ≢ None
+is_open None e has = absurd has
+is_open (Some es) e has = λ none. cc none
+
+-- each beginning of an open path is open
+pub open_before : (dirs : Dirs) → IsOpened dirs → (front back : Path) → dirs (front ++ back) ≢ None → dirs front ≢ None
+open_before dirs all front [] there = subst (λ p. dirs p ≢ None) (append-nil front) there
+open_before dirs all front (name ∷ back) there =
+    let next = list_at (dirs (front ++ name ∷ [])) (open_before dirs all (front ++ name ∷ []) back (subst (λ p. dirs p ≢ None) (sym (append_assoc front (name ∷ []) back)) there)) in
+    let e = all.above front name next.0 next.1 in
+    is_open (dirs front) e.0 e.1
+
+-- the directories at and below an open one are what open directories are
+pub opened_in : (prefix : Path) (dirs : Dirs) → IsOpened dirs → dirs prefix ≢ None → IsOpened (in_path prefix dirs)
+opened_in prefix dirs all there = record {
+  root = subst (λ p. dirs p ≢ None) (sym (append-nil prefix)) there;
+  well_formed = λ at. all.well_formed (prefix ++ at);
+  above = λ at name es is. all.above (prefix ++ at) name es (subst (λ p. dirs p ≡ Some es) (sym (append_assoc prefix at (name ∷ []))) is);
+}
+
+-- the first directory on an open path has a list, and a tree's entry in the root
+abbrev IsOnTheWay : List ℕ → Dirs → Type 0
+IsOnTheWay name dirs = (es : List EntryView) × (dirs (name ∷ []) ≡ Some es) × ((e : EntryView) × HasAt (dirs []) e × (e.name ≡ name) × IsTrue (is_tree_mode e.mode))
+
+on_the_way : (name : List ℕ) (rest : Path) (dirs : Dirs) → IsOpened dirs → dirs (name ∷ rest) ≢ None → IsOnTheWay name dirs
+on_the_way name rest dirs all there =
+    let next = list_at (dirs (name ∷ [])) (open_before dirs all (name ∷ []) rest there) in
+    (next.0, next.1, all.above [] name next.0 next.1)
+
+-- a path is as much deeper as it has names
+no_deeper : (n : ℕ) (path : Path) → path ≡ [] → n ≡ n + length path
+no_deeper n path is = rw is (omega arith)
+
+one_deeper : (n : ℕ) (name : List ℕ) (rest : Path) → suc (n + length rest) ≡ n + length (name ∷ rest)
+one_deeper n name rest = omega arith
+
+-- the files of the directories at and below an open one are the files below its path
+pub files_below : (T : Table) (n : ℕ) (prefix : Path) (dirs : Dirs) → IsOpened dirs → dirs prefix ≢ None → SameFiles (OpenFiles T n (in_path prefix dirs)) (λ path. OpenFiles T (n + length prefix) dirs (prefix ++ path))
+files_below T n [] dirs all there path mode id =
+    subst (λ k. OpenFiles T n dirs path mode id ↔ OpenFiles T k dirs path mode id) (no_deeper n [] refl) (same_refl (OpenFiles T n dirs) path mode id)
+files_below T n (name ∷ rest) dirs all there path mode id =
+    let down = on_the_way name rest dirs all there in
+    let k : ℕ = n + length rest in
+    let step = files_below T n rest (in_dir name dirs) (opened_in_dir name dirs down.0 down.1 all) there path mode id in
+    subst (λ m. OpenFiles T n (in_path (name ∷ rest) dirs) path mode id ↔ OpenFiles T m dirs (name ∷ (rest ++ path)) mode id) (one_deeper n name rest) (
+      (λ h. from_open T k dirs name down.0 (down.2.0) (down.2.1) (down.2.2) down.1 (rest ++ path) mode id (step.0 h)),
+      λ h. step.1 (into_open T k dirs name down.0 down.1 (rest ++ path) mode id h),
+    )
+
+-- the root is open, whatever takes the place of a directory
+root_stays : (prefix : Path) (inner dirs : Dirs) → dirs [] ≢ None → inner [] ≢ None → with_path prefix inner dirs [] ≢ None
+root_stays [] inner dirs root full = full
+root_stays (name ∷ rest) inner dirs root full = root
+
+-- directories with the files of those whose place they take change no file
+pub replaced_files : (T : Table) (prefix : Path) (inner dirs : Dirs) → IsOpened dirs → dirs prefix ≢ None → inner [] ≢ None → ((k : ℕ) → SameFiles (OpenFiles T k inner) (OpenFiles T k (in_path prefix dirs)))
+    → (n : ℕ) → SameFiles (OpenFiles T n (with_path prefix inner dirs)) (OpenFiles T n dirs)
+replaced_files T [] inner dirs all there full same n = same n
+replaced_files T (name ∷ rest) inner dirs all there full same zero = λ path mode id. ((λ h. absurd h), λ h. absurd h)
+replaced_files T (name ∷ rest) inner dirs all there full same (suc k) =
+    let below : Dirs = with_path rest inner (in_dir name dirs) in
+    let new : Dirs = with_path (name ∷ rest) inner dirs in
+    let down = on_the_way name rest dirs all there in
+    let lower = opened_in_dir name dirs down.0 down.1 all in
+    let root = list_at (below []) (root_stays rest inner (in_dir name dirs) lower.root full) in
+    let inside : in_dir name new ≡ below = inside_is name below dirs in
+    let is_new : new (name ∷ []) ≡ Some root.0 = ap (λ (d : Dirs). d []) inside ∙ root.1 in
+    same_level T k name below dirs (λ path mode id.
+    let step = replaced_files T rest inner (in_dir name dirs) lower there full same k path mode id in (
+      (λ h. from_open T k dirs name down.0 (down.2.0) (down.2.1) (down.2.2) down.1 path mode id (step.0 (subst (λ (d : Dirs). OpenFiles T k d path mode id) inside (into_open T k new name root.0 is_new path mode id h)))),
+      λ h. from_open T k new name root.0 (down.2.0) (down.2.1) (down.2.2) is_new path mode id (subst (λ (d : Dirs). OpenFiles T k d path mode id) (sym inside) (step.1 (into_open T k dirs name down.0 down.1 path mode id h))),
+    ))
+
+-- open directories in place of those at a path
+pub opened_with_path : (prefix : Path) (inner dirs : Dirs) → IsOpened dirs → dirs prefix ≢ None → IsOpened inner → IsOpened (with_path prefix inner dirs)
+opened_with_path [] inner dirs all there within = within
+opened_with_path (name ∷ rest) inner dirs all there within =
+    let down = on_the_way name rest dirs all there in
+    opened_with_dir name (with_path rest inner (in_dir name dirs)) dirs (opened_with_path rest inner (in_dir name dirs) (opened_in_dir name dirs down.0 down.1 all) there within) all down.2
+
+pub opened_replaced : (prefix : Path) (own : List EntryView) (dirs : Dirs) → IsOpened dirs → dirs prefix ≢ None → IsWellFormed own → IsOpened (with_path prefix (only own) dirs)
+opened_replaced prefix own dirs all there formed = opened_with_path prefix (only own) dirs all there (opened_only own formed)
+
+-- at and below the path are those that took the place, and elsewhere the old ones
+pub at_prefix : (prefix : Path) (inner dirs : Dirs) (at : Path) → with_path prefix inner dirs (prefix ++ at) ≡ inner at
+at_prefix [] inner dirs at = refl
+at_prefix (name ∷ rest) inner dirs at = ap (λ (d : Dirs). d (rest ++ at)) (inside_is name (with_path rest inner (in_dir name dirs)) dirs) ∙ at_prefix rest inner (in_dir name dirs) at
+
+pub beside_prefix : (prefix : Path) (inner dirs : Dirs) (at : Path) → (Begins prefix at → ⊥) → with_path prefix inner dirs at ≡ dirs at
+beside_prefix [] inner dirs at beside = absurd (beside (at, refl))
+beside_prefix (name ∷ rest) inner dirs [] beside = refl
+beside_prefix (name ∷ rest) inner dirs (first ∷ at) beside =
+    let below : Dirs = with_path rest inner (in_dir name dirs) in
+    elim (same_names name first) [
+      | inl same ↦ subst (λ f. with_path (name ∷ rest) inner dirs (f ∷ at) ≡ dirs (f ∷ at)) same
+          (ap (λ (d : Dirs). d at) (inside_is name below dirs) ∙ beside_prefix rest inner (in_dir name dirs) at (λ b. beside (subst (λ f. Begins (name ∷ rest) (f ∷ at)) same (begins_more name rest at b))))
+      | inr differ ↦ ap (λ (d : Dirs). d at) (beside_is name first below dirs differ)
+    ]
