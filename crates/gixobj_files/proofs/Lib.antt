@@ -12,6 +12,7 @@ pub mod NullIds
 pub mod OpenedFiles
 pub mod OpeningFiles
 pub mod Placing
+pub mod PrefixStays
 pub mod RemovedFiles
 pub mod StillOpened
 pub mod StillOpenedAssured

@@ -50,7 +50,7 @@ pub has_taken : (name : List ℕ) (o : Option (List EntryView)) (e : EntryView) 
 has_taken name None e h differ = absurd h
 has_taken name (Some es) e h differ = has_other name es e h differ
 
-removed_in : (name next : List ℕ) (rest : Path) (dirs : Dirs) → in_dir name (removed_dirs (name ∷ next ∷ rest) dirs) ≡ removed_dirs (next ∷ rest) (in_dir name dirs)
+pub removed_in : (name next : List ℕ) (rest : Path) (dirs : Dirs) → in_dir name (removed_dirs (name ∷ next ∷ rest) dirs) ≡ removed_dirs (next ∷ rest) (in_dir name dirs)
 removed_in name next rest dirs = ap (λ b path. cond b (removed_dirs (next ∷ rest) (in_dir name dirs) path) (dirs (name ∷ path))) (name_itself name)
 
 removed_beside : (name first next : List ℕ) (rest : Path) (dirs : Dirs) → name ≢ first → in_dir first (removed_dirs (name ∷ next ∷ rest) dirs) ≡ in_dir first dirs

@@ -68,7 +68,7 @@ above_removed (name ∷ next ∷ rest) dirs above (first ∷ at) other es is =
       | false ↦ λ k. above (first ∷ at) other es k
     ] is
 
-still_root : (path : Path) (dirs : Dirs) → dirs [] ≢ None → removed_dirs path dirs [] ≢ None
+pub still_root : (path : Path) (dirs : Dirs) → dirs [] ≢ None → removed_dirs path dirs [] ≢ None
 still_root [] dirs root = root
 still_root (name ∷ []) dirs root = left (dirs []) root
   where

@@ -100,7 +100,7 @@ put_in name m named null dirs = ap (λ b path. cond b None (dirs (name ∷ path)
 pub put_beside : (name first : List ℕ) (m : ℕ) (named null : ObjectId) (dirs : Dirs) → name ≢ first → in_dir first (upserted_dirs (name ∷ []) m named null dirs) ≡ in_dir first dirs
 put_beside name first m named null dirs differ = ap (λ b path. cond b None (dirs (first ∷ path))) (name_other name first differ)
 
-upserted_root : (name : List ℕ) (path : Path) (m : ℕ) (named null : ObjectId) (dirs : Dirs) → (es : List EntryView) × (upserted_dirs (name ∷ path) m named null dirs [] ≡ Some es)
+pub upserted_root : (name : List ℕ) (path : Path) (m : ℕ) (named null : ObjectId) (dirs : Dirs) → (es : List EntryView) × (upserted_dirs (name ∷ path) m named null dirs [] ≡ Some es)
 upserted_root name [] m named null dirs = (with_entry (record { mode = m; name = name; id = named }) (or_empty (dirs [])), refl)
 upserted_root name (next ∷ rest) m named null dirs = (with_directory name null (or_empty (dirs [])), refl)
 
