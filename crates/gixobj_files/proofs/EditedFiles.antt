@@ -8,7 +8,7 @@ use Rattle.std.specs.FinMap as map
 use Rattle.gixobj_trees.specs.Entries.{EntryView}
 use Rattle.gixobj_ids.specs.declared.hash.object_id.ObjectId.{ObjectId}
 use Rattle.gixobj_files.specs.Editing.{comes_before, kept, same_name, with_entry, without}
-use Rattle.gixobj_files.specs.Files.{Below, FileSet, Files, Has, Path, Removed, SameFiles, Table, Upserted, is_null}
+use Rattle.gixobj_files.specs.Files.{Assured, Below, FileSet, Files, Has, Path, Removed, SameFiles, Table, Upserted, is_null}
 use Rattle.gixobj_files.specs.Opening.{OpenFiles}
 use Rattle.gixobj_files.specs.State.{root_alone}
 use Rattle.gixobj_files.proofs.OpenedFiles.{root_only}
@@ -136,6 +136,10 @@ same_upserted T n (name ∷ path) mode id A B same at mode' id' =
 pub same_removed : (path : Path) (A B : FileSet) → SameFiles A B → SameFiles (Removed path A) (Removed path B)
 same_removed [] A B same at mode id = same at mode id
 same_removed (name ∷ path) A B same at mode id = ((λ h. ((same at mode id).0 h.0, h.1)), λ h. ((same at mode id).1 h.0, h.1))
+
+pub same_assured : (path : Path) (A B : FileSet) → SameFiles A B → SameFiles (Assured path A) (Assured path B)
+same_assured [] A B same at mode id = same at mode id
+same_assured (name ∷ path) A B same at mode id = ((λ h. ((same at mode id).0 h.0, h.1)), λ h. ((same at mode id).1 h.0, h.1))
 
 -- the root alone is open
 pub root_open : (es : List EntryView) → map.get (root_alone es) [] ≡ Some es
