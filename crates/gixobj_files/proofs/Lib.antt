@@ -1,6 +1,7 @@
 pub mod AssuredFiles
 pub mod BelowPrefix
 pub mod Coming
+pub mod CursorFiles
 pub mod EditedFiles
 pub mod Formed
 pub mod Halted

@@ -18,11 +18,12 @@ AreTrees dirs = (path : Path) (e : EntryView) (es : List EntryView) → HasAt (d
 abbrev pub Known : Table → List Pair → Type 0
 Known T pairs = AllByRecursion (λ pair. T.tree_at pair.0 ≡ Some pair.1) pairs
 
-known_left : (T : Table) (xs ys : List Pair) → Known T (xs ++ ys) → Known T xs
+-- what the table knows of pairs, it knows of those in front, and of those behind
+pub known_left : (T : Table) (xs ys : List Pair) → Known T (xs ++ ys) → Known T xs
 known_left T [] ys h = tt
 known_left T (x ∷ xs) ys h = (h.0, known_left T xs ys h.1)
 
-known_right : (T : Table) (xs ys : List Pair) → Known T (xs ++ ys) → Known T ys
+pub known_right : (T : Table) (xs ys : List Pair) → Known T (xs ++ ys) → Known T ys
 known_right T [] ys h = h
 known_right T (x ∷ xs) ys h = known_right T xs ys h.1
 
