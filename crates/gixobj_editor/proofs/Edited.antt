@@ -93,7 +93,7 @@ nothing_upserted {S} trees old path none mode id all = subst (λ p. IsUpserted t
     }
 
 -- a name was refused
-no_other : (path : Path) (refusal : Error) → ((name : List ℕ) → RefusesName name refusal → ⊥) → RefusesNames path refusal → ⊥
+pub no_other : (path : Path) (refusal : Error) → ((name : List ℕ) → RefusesName name refusal → ⊥) → RefusesNames path refusal → ⊥
 no_other [] refusal never h = h
 no_other (name ∷ path) refusal never (inl h) = never name h
 no_other (name ∷ path) refusal never (inr h) = no_other path refusal never h.1

@@ -1,6 +1,10 @@
+mod AssuredAt
+mod CursorStays
 mod Edited
+mod FoundBelow
 mod Paths
 mod RemovedAt
 mod Removing
 mod RootAlone
+mod WrittenBelow
 mod WrittenOut

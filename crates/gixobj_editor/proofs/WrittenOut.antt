@@ -13,7 +13,7 @@ use Rattle.gixobj_files.specs.State.{State}
 use Rattle.gixobj_files.specs.Tables.{AgreesWithPairs, Pair}
 use Rattle.gixobj_files.proofs.EditedFiles.{root_files, same_trans}
 use Rattle.gixobj_files.proofs.StillOpenedOpenings.{opened_only}
-use Rattle.gixobj_files.proofs.WrittenFiles.{leaves_files, opened_trees}
+use Rattle.gixobj_files.proofs.WrittenFiles.{known_left, known_right, leaves_files, opened_trees}
 use Rattle.gixobj_directories.specs.Calls.{IsStorable}
 use Rattle.gixobj_directories.specs.Nested.{Opened, dirs_of, opened}
 use Rattle.gixobj_directories.proofs.OpeningSteps.{only_is}
@@ -21,16 +21,8 @@ use Rattle.gixobj_directories.proofs.StorablePairs.{leaves_storable}
 use Rattle.gixobj_editor.specs.Writes.{IsWritten}
 use Rattle.gixobj_editor.proofs.Edited.{map_dirs, same_dirs, state_of}
 
--- what the table knows of pairs, it knows of those in front, and of the last
-front_known : (T : Table) (front : List Pair) (pair : Pair) → AllByRecursion (λ p. T.tree_at p.0 ≡ Some p.1) (front ++ pair ∷ []) → AllByRecursion (λ p. T.tree_at p.0 ≡ Some p.1) front
-front_known T [] pair h = tt
-front_known T (first ∷ front) pair h = (h.0, front_known T front pair h.1)
-
-last_known : (T : Table) (front : List Pair) (pair : Pair) → AllByRecursion (λ p. T.tree_at p.0 ≡ Some p.1) (front ++ pair ∷ []) → T.tree_at pair.0 ≡ Some pair.1
-last_known T [] pair h = h.0
-last_known T (first ∷ front) pair h = last_known T front pair h.1
-
-each_storable : (front : List Pair) (pair : Pair) → AllByRecursion (λ p. IsStorable p.1) front → IsStorable pair.1 → AllByRecursion (λ p. IsStorable p.1) (front ++ pair ∷ [])
+-- each pair may be handed out
+pub each_storable : (front : List Pair) (pair : Pair) → AllByRecursion (λ p. IsStorable p.1) front → IsStorable pair.1 → AllByRecursion (λ p. IsStorable p.1) (front ++ pair ∷ [])
 each_storable [] pair h k = (k, tt)
 each_storable (first ∷ front) pair h k = (h.0, each_storable front pair h.1 k)
 
@@ -41,7 +33,7 @@ module _ {S F : Type 0} (store : S) (hash : Kind) (gave : F → Pair → F → T
       let there : Leaves (map_dirs ds) below own = subst (λ (d : Dirs). Leaves d below own) (sym (same_dirs ds)) going in
       let alone : IsOpened (map_dirs ds) = subst (λ (d : Dirs). IsOpened d) (sym (same_dirs ds)) all in
       let known : (T : Table) → AgreesWithPairs T (below ++ (id, own) ∷ []) → AllByRecursion (λ p. T.tree_at p.0 ≡ Some p.1) (below ++ (id, own) ∷ []) = λ T agrees. recursion_from_All (λ (p : Pair). T.tree_at p.0 ≡ Some p.1) (below ++ (id, own) ∷ []) agrees in
-      let files : (T : Table) (k : ℕ) → AgreesWithPairs T (below ++ (id, own) ∷ []) → SameFiles (Files T k own) (OpenFiles T k (map_dirs ds)) = λ T k agrees. leaves_files T (map_dirs ds) below own there (opened_trees (map_dirs ds) alone) (front_known T below (id, own) (known T agrees)) k in
+      let files : (T : Table) (k : ℕ) → AgreesWithPairs T (below ++ (id, own) ∷ []) → SameFiles (Files T k own) (OpenFiles T k (map_dirs ds)) = λ T k agrees. leaves_files T (map_dirs ds) below own there (opened_trees (map_dirs ds) alone) (known_left T below ((id, own) ∷ []) (known T agrees)) k in
       record {
         handed_out = (below, id, own, there, refl);
         called = called;
@@ -51,7 +43,7 @@ module _ {S F : Type 0} (store : S) (hash : Kind) (gave : F → Pair → F → T
         last = refl;
         dirs = refl;
         rest = refl;
-        files = λ T k agrees. subst (λ (o : Option (List EntryView)). SameFiles (λ path mode it. MatchOption o ⊥ (λ es. Files T k es path mode it)) (OpenFiles T k (map_dirs ds))) (sym (last_known T below (id, own) (known T agrees))) (files T k agrees);
+        files = λ T k agrees. subst (λ (o : Option (List EntryView)). SameFiles (λ path mode it. MatchOption o ⊥ (λ es. Files T k es path mode it)) (OpenFiles T k (map_dirs ds))) (sym ((known_right T below ((id, own) ∷ []) (known T agrees)).0)) (files T k agrees);
         same_files = λ T k agrees. same_trans _ _ _ (root_files T k own) (files T k agrees);
       }
 

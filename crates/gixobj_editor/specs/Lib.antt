@@ -1,3 +1,4 @@
+pub mod Cursors
 pub mod Removals
 pub mod Upserts
 pub mod Writes

@@ -55,8 +55,12 @@ IsJudged path names [] = AreNames path × (names ≡ directory_of path)
 IsJudged path names (name ∷ rest) = AreNames names × (IsEntryName name → ⊥) × (path ≡ names ++ name ∷ rest)
 
 -- a directory above the path isn't opened
+abbrev pub RefusesUnopened : Objects → (ObjectId → Bool) → Trees → Dirs → Path → directory.Error → Type 0
+RefusesUnopened objects may_fail trees dirs path cause = (it : ObjectId) × IsUnopenedAbove trees dirs path it × RefusesDirectory objects may_fail it cause
+
+-- an entry may have each name of the path, and a directory above it isn't opened
 abbrev pub RefusesAbove : Objects → (ObjectId → Bool) → Trees → Dirs → Path → directory.Error → Type 0
-RefusesAbove objects may_fail trees dirs path cause = AreNames path × ((it : ObjectId) × IsUnopenedAbove trees dirs path it × RefusesDirectory objects may_fail it cause)
+RefusesAbove objects may_fail trees dirs path cause = AreNames path × RefusesUnopened objects may_fail trees dirs path cause
 
 -- why an upsert is refused: for the first name that no entry may have; else for an unopened directory above the path, which the
 -- store doesn't have as a well-formed tree, or whose lookup fails; or for want of memory

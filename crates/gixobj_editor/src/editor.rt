@@ -21,11 +21,13 @@ ghost use Rattle.gixobj_editor.specs.Upserts.{IsForAName, IsRefused, IsUpserted,
 ghost use Rattle.gixobj_editor.specs.Removals.{IsLeafRemoved, IsRemoved, RefusesLeafRemoval, RefusesRemoval};
 ghost use Rattle.gixobj_editor.specs.contracts.editor.Editor.{the_row};
 
+mod cursor;
 pub mod error;
 mod names;
 mod removal;
 
 use bstr::BString;
+pub use cursor::Cursor;
 pub use error::Error;
 use gixobj_data::Find;
 use gixobj_directories::open::Open;

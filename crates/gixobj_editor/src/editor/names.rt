@@ -1,13 +1,15 @@
 //! Names in the paths of edits.
-ghost use Rattle.std.specs.Prelude.{◌≡◌, ◌≤◌, IfErr, OnOk, drop, length, take};
+ghost use Rattle.std.specs.Prelude.{◌≡◌, ◌≢◌, ◌≤◌, ◌++◌, [], IfErr, IfOk, OnErr, OnOk, drop, length, take};
 ghost use Rattle.bstr.specs.Owned.{bstring_bytes};
 ghost use Rattle.gixobj_trees.specs.Entries.{IsEntryName};
 ghost use Rattle.gixobj_directories.specs.Calls.{AreNames, names_of};
+ghost use Rattle.gixobj_editor.specs.Cursors.{from_root};
 ghost use Rattle.gixobj_editor.specs.Upserts.{IsJudged, RefusesName, RefusesNames, StartsRefused, directory_of};
 
 use crate::editor::error::Error;
 use bstr::BString;
 use gixobj_texts::parse::has_byte;
+use std::alloc::{AllocError, Global};
 
 /// The directories that a removal at the path may open, by names that entries may have, and the names from the
 /// first one on that no entry may have.
@@ -44,6 +46,34 @@ fn count_names(path: &[BString]) -> usize
         return 0;
     }
     1 + count_names(rest)
+}
+
+/// The names of a path behind those of a prefix; a path without names stays without.
+pub(crate) fn join_paths(
+    alloc: Global,
+    prefix: &[BString],
+    path: &[BString],
+) -> Result<Vec<BString>, AllocError>
+    ensures joined { IfOk result (λ it. names_of it.items ≡ from_root (names_of prefix.now) (names_of path.now)) }
+    ensures taken { OnErr result (names_of path.now ≢ []) }
+{
+    let mut names = Vec::new(alloc);
+    if path.is_empty() {
+        return Ok(names);
+    }
+    push_names(alloc, &mut names, prefix)?;
+    push_names(alloc, &mut names, path)?;
+    Ok(names)
+}
+
+/// Copies of the names of a path, behind others.
+fn push_names(alloc: Global, names: &mut Vec<BString>, path: &[BString]) -> Result<(), AllocError>
+    ensures { OnOk result (names_of names.new.items ≡ names_of names.old.items ++ names_of path.now) }
+{
+    for name in path {
+        names.push(BString::from_slice(alloc, name.as_bytes())?)?;
+    }
+    Ok(())
 }
 
 /// Refuses the first name that no entry may have.

@@ -1,0 +1,117 @@
+-- An editor after a directory was assured, from what became of its open directories.
+use Rattle.std.proofs.Common.{◌≡◌, ◌≢◌, ◌∙◌, ℕ, Bool, List, [], ◌++◌, Option, Some, None, refl, sym, ap, subst}
+use Rattle.std.specs.List.{AllByRecursion}
+use Rattle.gixobj_data.specs.Stores.{Objects}
+use Rattle.gixobj_directories.specs.Calls.{AreNames}
+use Rattle.gixobj_directories.specs.Nested.{Opened, dirs_of}
+use Rattle.gixobj_directories.specs.Openings.{RefusesAt}
+use Rattle.gixobj_directories.specs.declared.opening.Error as directory
+use Rattle.gixobj_directories.specs.declared.opening.Error.TheVariants as opening
+use Rattle.gixobj_files.specs.Edits.{IsNoTree, Opens, assured_dirs, counted}
+use Rattle.gixobj_files.specs.Files.{Assured, Path, SameFiles, Trees}
+use Rattle.gixobj_files.specs.Halting.{Halts, IsShutAbove, IsUnopenedAbove}
+use Rattle.gixobj_files.specs.Opening.{Dirs, IsOpened, OpenFiles}
+use Rattle.gixobj_files.specs.State.{State, open_dirs}
+use Rattle.gixobj_files.specs.Unopened.{inside}
+use Rattle.gixobj_files.proofs.BelowPrefix.{open_before}
+use Rattle.gixobj_files.proofs.CursorFiles.{assured_at_files}
+use Rattle.gixobj_files.proofs.Halted.{halted_at, halted_shut}
+use Rattle.gixobj_files.proofs.PrefixStays.{assured_stays}
+use Rattle.gixobj_files.proofs.StillOpenedAssured.{opened_assured}
+use Rattle.gixobj_files.proofs.StillOpenedOpenings.{opening_keeps}
+use Rattle.gixobj_files.proofs.UnopenedCounts.{asked_count}
+use Rattle.gixobj_ids.specs.Hash.{null_id}
+use Rattle.gixobj_ids.specs.declared.hash.kind.Kind.{Kind}
+use Rattle.gixobj_ids.specs.declared.hash.object_id.ObjectId.{ObjectId}
+use Rattle.gixobj_trees.specs.Entries.{EntryView, IsEntryName}
+use Rattle.gixobj_editor.specs.Cursors.{IsAssured, RefusesCursor}
+use Rattle.gixobj_editor.specs.Upserts.{RefusesNames, edit_refusal, raised}
+use Rattle.gixobj_editor.specs.declared.editor.error.Error.{Error}
+use Rattle.gixobj_editor.specs.declared.editor.error.Error.TheVariants as error
+use Rattle.gixobj_editor.proofs.Edited.{as_map, at_files, dirs_at, known_above, map_dirs, no_other, same_dirs, state_of}
+use Rattle.gixobj_editor.proofs.Paths.{counted_raised, strictly_above}
+
+pub still_assured : (path : Path) (null : ObjectId) (mid ds : Opened) → AllByRecursion IsEntryName path → IsOpened (dirs_of mid) → ((at : Path) → dirs_of ds at ≡ assured_dirs path null (dirs_of mid) at) → IsOpened (dirs_of ds)
+still_assured path null mid ds names all assured = subst (λ (d : Dirs). IsOpened d) (sym (λ i at. assured at i)) (opened_assured path null (dirs_of mid) names all)
+
+-- the directory at the path is open then
+pub assured_open : (path : Path) (null : ObjectId) (mid ds : Opened) → ((at : Path) → dirs_of ds at ≡ assured_dirs path null (dirs_of mid) at) → map_dirs ds path ≢ None
+assured_open path null mid ds assured = λ none. assured_stays path null (dirs_of mid) (sym (assured path) ∙ sym (dirs_at ds path) ∙ none)
+
+-- a directory that isn't open after others were opened was none before
+pub shut_before : {Ends : EntryView → Type 0} (trees : Trees) (path : Path) (old new : Dirs) (asked : List ObjectId) → Opens Ends trees path old new asked → (at : Path) → new at ≡ None → old at ≡ None
+shut_before trees path old new asked opens at none =
+    elim (old at) as (λ o. old at ≡ o → o ≡ None) [
+      | None ↦ λ is. refl
+      | Some entries ↦ λ is. let bad : Some entries ≡ None = sym (opening_keeps trees path old new asked opens at entries is) ∙ none in absurd (cc bad)
+    ] refl
+
+-- where a directory above isn't open, none is below
+shut_below : (path : Path) (dirs : Dirs) → IsOpened dirs → (place more : Path) → path ≡ place ++ more → dirs place ≡ None → dirs path ≡ None
+shut_below path dirs all place more is none =
+    elim (dirs path) as (λ o. dirs path ≡ o → o ≡ None) [
+      | None ↦ λ _. refl
+      | Some entries ↦ λ there. absurd (open_before dirs all place more (subst (λ p. dirs p ≢ None) is (λ shut. let bad : Some entries ≡ None = sym there ∙ shut in cc bad)) none)
+    ] refl
+
+-- a name was refused
+pub name_refused_at : (objects : Objects) (may_fail : ObjectId → Bool) (trees : Trees) (dirs : Dirs) (path : Path) (refusal : Error) → RefusesNames path refusal → RefusesCursor objects may_fail trees dirs path refusal
+name_refused_at objects may_fail trees dirs path error.EmptyPathComponent h = h
+name_refused_at objects may_fail trees dirs path error.SlashInPathComponent h = h
+name_refused_at objects may_fail trees dirs path (error.FindExistingObject cause) h = absurd (no_other path (error.FindExistingObject cause) (λ name k. k) h)
+name_refused_at objects may_fail trees dirs path (error.CannotRemoveNonLeaf at) h = absurd (no_other path (error.CannotRemoveNonLeaf at) (λ name k. k) h)
+name_refused_at objects may_fail trees dirs path error.MalformedTree h = absurd (no_other path error.MalformedTree (λ name k. k) h)
+name_refused_at objects may_fail trees dirs path error.OutOfMemory h = absurd (no_other path error.OutOfMemory (λ name k. k) h)
+
+module _ {S : Type 0} (store : S) (hash : Kind) (trees : Trees) where
+  abbrev made : Opened → ℕ → State S
+  made ds n = state_of store hash ds n
+
+  in_place : (ds mid ds' : Opened) (n m : ℕ) (path : Path) (asked : List ObjectId) → AreNames path → Opens IsNoTree trees path (dirs_of ds) (dirs_of mid) asked → ((at : Path) → dirs_of ds' at ≡ assured_dirs path (null_id hash) (dirs_of mid) at) → m ≡ counted n asked
+      → IsOpened (dirs_of ds') → IsAssured trees (made ds n) path (made ds' m)
+  in_place ds mid ds' n m path asked names opens assured count all =
+      let opened : Opens IsNoTree trees path (map_dirs ds) (dirs_of mid) asked = subst (λ (d : Dirs). Opens IsNoTree trees path d (dirs_of mid) asked) (sym (same_dirs ds)) opens in
+      let new_is : map_dirs ds' ≡ assured_dirs path (null_id hash) (dirs_of mid) = λ i at. (dirs_at ds' at ∙ assured at) i in
+      record {
+        names = names;
+        opened = dirs_of mid;
+        asked = asked;
+        opens = opened;
+        dirs = λ at. dirs_at ds' at ∙ assured at;
+        lookups = count ∙ counted_raised n asked ∙ ap (raised n) (asked_count trees at_files path [] (map_dirs ds) (dirs_of mid) asked opened);
+        rest = refl;
+        is_opened = as_map ds' all;
+        known = known_above at_files trees (inside path) path [] refl (map_dirs ds) (dirs_of mid) asked opened;
+        files = λ T k agrees. subst (λ (d : Dirs). SameFiles (OpenFiles T k d) (Assured path (OpenFiles T k (map_dirs ds)))) (sym new_is) (assured_at_files T trees agrees path (null_id hash) (map_dirs ds) (dirs_of mid) asked opened k);
+      }
+
+  pub assured_at : (ds mid ds' : Opened) (n m : ℕ) (old : State S) → made ds n ≡ old → (path : Path) (asked : List ObjectId) → AreNames path → Opens IsNoTree trees path (dirs_of ds) (dirs_of mid) asked
+      → ((at : Path) → dirs_of ds' at ≡ assured_dirs path (null_id hash) (dirs_of mid) at) → m ≡ counted n asked → IsOpened (dirs_of ds') → IsAssured trees old path (made ds' m)
+  assured_at ds mid ds' n m old view path asked names opens assured count all = subst (λ (o : State S). IsAssured trees o path (made ds' m)) view (in_place ds mid ds' n m path asked names opens assured count all)
+
+  -- the directory that was to be assured isn't open
+  pub no_memory_at : (objects : Objects) (may_fail : ObjectId → Bool) (ds mid : Opened) (n : ℕ) (old : State S) → made ds n ≡ old → (path : Path) (asked : List ObjectId) → AreNames path → Opens IsNoTree trees path (dirs_of ds) (dirs_of mid) asked → dirs_of mid path ≡ None
+      → RefusesCursor objects may_fail trees (open_dirs old) path error.OutOfMemory
+  no_memory_at objects may_fail ds mid n old view path asked names opens shut =
+      subst (λ (o : State S). RefusesCursor objects may_fail trees (open_dirs o) path error.OutOfMemory) view
+      (subst (λ (d : Dirs). RefusesCursor objects may_fail trees d path error.OutOfMemory) (sym (same_dirs ds)) (names, shut_before trees path (dirs_of ds) (dirs_of mid) asked opens path shut))
+
+  -- why the opening halted
+  pub refuses_at : (objects : Objects) (may_fail : ObjectId → Bool) (ds ds' : Opened) (n : ℕ) (old : State S) → made ds n ≡ old → (path : Path) → AreNames path → IsOpened (dirs_of ds) → (asked : List ObjectId) (vain : Option ObjectId) → Halts IsNoTree trees path (dirs_of ds) (dirs_of ds') asked vain
+      → (cause : directory.Error) → RefusesAt objects may_fail vain cause → RefusesCursor objects may_fail trees (open_dirs old) path (edit_refusal cause)
+  refuses_at objects may_fail ds ds' n old view path names all asked vain halts cause at =
+      subst (λ (o : State S). RefusesCursor objects may_fail trees (open_dirs o) path (edit_refusal cause)) view
+      (subst (λ (d : Dirs). RefusesCursor objects may_fail trees d path (edit_refusal cause)) (sym (same_dirs ds)) (by_cause cause vain halts at))
+    where
+      above : (v : Option ObjectId) → Halts IsNoTree trees path (dirs_of ds) (dirs_of ds') asked v → (it : ObjectId) → v ≡ Some it → IsUnopenedAbove trees (dirs_of ds) (inside path) it
+      above v h it some = (halted_at trees path [] [] (dirs_of ds) (dirs_of ds') asked v h it some).0
+
+      shut_at : IsShutAbove IsNoTree trees (dirs_of ds) (inside path) → dirs_of ds path ≡ None
+      shut_at h = let begins = strictly_above path [] h.place h.above.2 h.above.3 h.above.5 in shut_below path (dirs_of ds) all h.place begins.0 begins.1 h.shut
+
+      by_cause : (why : directory.Error) (v : Option ObjectId) → Halts IsNoTree trees path (dirs_of ds) (dirs_of ds') asked v → RefusesAt objects may_fail v why → RefusesCursor objects may_fail trees (dirs_of ds) path (edit_refusal why)
+      by_cause opening.OutOfMemory v h r = (names, shut_at (halted_shut trees path [] [] (dirs_of ds) (dirs_of ds') asked v h))
+      by_cause opening.MalformedTree None h r = absurd (cc r)
+      by_cause opening.MalformedTree (Some it) h r = (names, (it, above (Some it) h it refl, r))
+      by_cause (opening.FindExistingObject why) None h r = absurd (cc r)
+      by_cause (opening.FindExistingObject why) (Some it) h r = (names, (it, above (Some it) h it refl, r))

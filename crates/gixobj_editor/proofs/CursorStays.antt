@@ -1,0 +1,60 @@
+-- The directory at a cursor's prefix stays open.
+use Rattle.std.proofs.Common.{◌≡◌, ◌≢◌, ◌∙◌, ℕ, List, [], ◌∷◌, ◌++◌, Some, None, Result, Ok, Err, arith, refl, sym}
+use Rattle.std.specs.Prelude.{OnErr, OnOk}
+use Rattle.gixobj_data.specs.Stores.{Objects}
+use Rattle.gixobj_directories.specs.Openings.{AreTreesOf}
+use Rattle.gixobj_directories.proofs.NamedTrees.{trees_of}
+use Rattle.gixobj_files.specs.Edits.{Opens}
+use Rattle.gixobj_files.specs.Files.{Path, Trees}
+use Rattle.gixobj_files.specs.Opening.{Dirs, IsOpened}
+use Rattle.gixobj_files.specs.State.{EditorFiles, State, open_dirs}
+use Rattle.gixobj_files.proofs.EditedFiles.{same_refl}
+use Rattle.gixobj_files.proofs.PrefixStays.{removed_stays, upserted_stays}
+use Rattle.gixobj_files.proofs.StillOpenedOpenings.{opening_keeps}
+use Rattle.gixobj_ids.specs.Hash.{null_id}
+use Rattle.gixobj_ids.specs.declared.hash.object_id.ObjectId.{ObjectId}
+use Rattle.gixobj_trees.specs.Entries.{EntryView}
+use Rattle.gixobj_editor.specs.Cursors.{from_root}
+use Rattle.gixobj_editor.specs.Removals.{IsRemoved}
+use Rattle.gixobj_editor.specs.Upserts.{IsRefused, IsUpserted, directory_of}
+
+-- what keeps each open directory keeps this one
+kept_open : (old new : Dirs) (at : Path) → ((entries : List EntryView) → old at ≡ Some entries → new at ≡ Some entries) → old at ≢ None → new at ≢ None
+kept_open old new at keeps there none =
+    elim (old at) as (λ o. old at ≡ o → ⊥) [
+      | None ↦ λ is. there is
+      | Some entries ↦ λ is. let bad : Some entries ≡ None = sym (keeps entries is) ∙ none in cc bad
+    ] refl
+
+opened_still : {Ends : EntryView → Type 0} (trees : Trees) (path : Path) (old new : Dirs) (asked : List ObjectId) → Opens Ends trees path old new asked → (at : Path) → old at ≢ None → new at ≢ None
+opened_still trees path old new asked opens at there = kept_open old new at (opening_keeps trees path old new asked opens at) there
+
+pub upserted_open : {S : Type 0} (trees : Trees) (old new : State S) (prefix path : Path) (mode : ℕ) (id : ObjectId) → IsUpserted trees old (from_root prefix path) mode id new → open_dirs old prefix ≢ None → open_dirs new prefix ≢ None
+upserted_open trees old new prefix [] mode id h there = λ none. opened_still trees [] (open_dirs old) h.opened h.asked h.opens prefix there (sym (h.dirs prefix) ∙ none)
+upserted_open trees old new prefix (name ∷ path) mode id h there = λ none. upserted_stays prefix name path mode id (null_id old.object_hash) h.opened (sym (h.dirs prefix) ∙ none)
+
+pub removed_open : {S : Type 0} {Ends : EntryView → Type 0} (trees : Trees) (old new : State S) (prefix path : Path) → IsRemoved Ends trees old (from_root prefix path) new → open_dirs old prefix ≢ None → open_dirs new prefix ≢ None
+removed_open trees old new prefix [] h there = λ none. opened_still trees [] (open_dirs old) h.opened h.asked h.opens prefix there (sym (h.dirs prefix) ∙ none)
+removed_open trees old new prefix (name ∷ path) h there =
+    λ none. removed_stays prefix name path h.opened (opened_still trees (directory_of (prefix ++ name ∷ path)) (open_dirs old) h.opened h.asked h.opens prefix there) (sym (h.dirs prefix) ∙ none)
+
+pub refused_open : {S : Type 0} (trees : Trees) (old new : State S) (path prefix : Path) → IsRefused trees old path new → open_dirs old prefix ≢ None → open_dirs new prefix ≢ None
+refused_open trees old new path prefix h there = kept_open (open_dirs old) (open_dirs new) prefix (h.stays prefix) there
+
+-- an edit of the editor, accepted or refused
+pub stays_open : {W X S : Type 0} (result : Result W X) (objects : Objects) (new : State S) (prefix : Path) (Accepted Refused : Trees → Type 0) → OnOk result ((trees : Trees) → AreTreesOf objects trees → Accepted trees)
+    → OnErr result ((trees : Trees) → AreTreesOf objects trees → Refused trees) → ((trees : Trees) → Accepted trees → open_dirs new prefix ≢ None) → ((trees : Trees) → Refused trees → open_dirs new prefix ≢ None) → open_dirs new prefix ≢ None
+stays_open (Ok it) objects new prefix Accepted Refused ok err accepted refused = let named = trees_of objects in accepted named.0 (ok named.0 named.1)
+stays_open (Err error) objects new prefix Accepted Refused ok err accepted refused = let named = trees_of objects in refused named.0 (err named.0 named.1)
+
+-- nothing was done
+pub nothing_done : {S : Type 0} (trees : Trees) (old : State S) (path : Path) → IsOpened (open_dirs old) → IsRefused trees old path old
+nothing_done trees old path all = record {
+  stays = λ at entries is. is;
+  count = 0;
+  few = omega arith;
+  lookups = refl;
+  rest = refl;
+  is_opened = all;
+  files = λ T n agrees. same_refl (EditorFiles T n old);
+}

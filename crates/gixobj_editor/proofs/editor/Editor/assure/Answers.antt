@@ -1,0 +1,88 @@
+-- The directories on the path are opened, and then those that are missing are made.
+use Rattle.std.proofs.Common.{◌≡◌, ◌∙◌, [], refl, sym, ap, subst}
+use Rattle.std.proofs.lemmas.List.Elements.{recursion_from_All}
+use Rattle.gixobj_trees.specs.Entries.{IsEntryName}
+use Rattle.gixobj_files.specs.Edits.{IsNoTree, Opens, assured_dirs}
+use Rattle.gixobj_files.specs.Opening.{IsOpened}
+use Rattle.gixobj_files.specs.State.{State, open_dirs}
+use Rattle.gixobj_files.specs.Unopened.{inside}
+use Rattle.gixobj_directories.specs.Calls.{names_of}
+use Rattle.gixobj_directories.specs.Nested.{Opened, dirs_of}
+use Rattle.gixobj_directories.specs.Openings.{AreTreesOf, RefusesAt}
+use Rattle.gixobj_directories.proofs.Handing.{err_weaker}
+use Rattle.gixobj_directories.proofs.OpeningSteps.{on_err}
+use Rattle.gixobj_editor.specs.Cursors.{RefusesCursor}
+use Rattle.gixobj_editor.proofs.AssuredAt.{assured_at, assured_open, name_refused_at, no_memory_at, refuses_at, still_assured}
+use Rattle.gixobj_editor.proofs.Edited.{at_files, halted_so, opened_so, unchanged_at}
+use Rattle.gixobj_editor.proofs.editor.Editor.assure.Goals as goal
+
+pub returns-in_err-check_names-clause-refusal : goal.returns-in_err-check_names-clause-refusal
+returns-in_err-check_names-clause-refusal g c = err_weaker c.from_residual.result _ _ c.from_residual.ensures.1 (λ error is trees fits.
+    subst (RefusesCursor (g.S.Store.objects c.args.self.now.store) (g.S.Store.may_fail c.args.self.now.store) trees (open_dirs c.args.self.now) (names_of c.args.path.now)) (sym is)
+    (name_refused_at (g.S.Store.objects c.args.self.now.store) (g.S.Store.may_fail c.args.self.now.store) trees (open_dirs c.args.self.now) (names_of c.args.path.now) c.in_err-check_names.field-0.0 (c.in_err-check_names.ensures {u = tt}).refusal))
+
+pub returns-in_err-check_names-clause-refused : goal.returns-in_err-check_names-clause-refused
+returns-in_err-check_names-clause-refused g c =
+    on_err c.from_residual.result _ (λ trees fits. unchanged_at c.self.inside.store c.self.inside.object_hash trees c.self.inside.root c.self.inside.lookups c.args.self.now c.self.view_is (inside (names_of c.args.path.now)) c.self.invariant)
+
+pub returns-in_err-open_along-clause-refused : goal.returns-in_err-open_along-clause-refused
+returns-in_err-open_along-clause-refused g c =
+    on_err c.from_residual-in_err-open_along.result _ (λ trees fits.
+    let s = c.self.inside in
+    let path = names_of c.args.path.now in
+    let stored = ap (λ (o : State _). o.store) c.self.view_is in
+    let bad = (c.in_err-open_along.ensures {u = tt}).halted trees (subst (λ o. AreTreesOf (g.S.Store.objects o) trees) (sym stored) fits) in
+    halted_so s.store s.object_hash trees s.root c.open_along.new.self s.lookups c.open_along.new.lookups c.args.self.now c.self.view_is (inside path) path [] refl bad.0 bad.1 bad.2 bad.3 (c.open_along.ensures.still_opened c.self.invariant))
+
+pub returns-in_err-open_along-clause-refusal : goal.returns-in_err-open_along-clause-refusal
+returns-in_err-open_along-clause-refusal g c =
+    err_weaker c.from_residual-in_err-open_along.result _ _ c.from_residual-in_err-open_along.ensures.1 (λ error gives trees fits.
+    let s = c.self.inside in
+    let path = names_of c.args.path.now in
+    let stored = ap (λ (o : State _). o.store) c.self.view_is in
+    let bad = (c.in_err-open_along.ensures {u = tt}).halted trees (subst (λ o. AreTreesOf (g.S.Store.objects o) trees) (sym stored) fits) in
+    subst (RefusesCursor (g.S.Store.objects c.args.self.now.store) (g.S.Store.may_fail c.args.self.now.store) trees (open_dirs c.args.self.now) path) (sym gives)
+    (refuses_at s.store s.object_hash trees (g.S.Store.objects c.args.self.now.store) (g.S.Store.may_fail c.args.self.now.store) s.root c.open_along.new.self s.lookups c.args.self.now c.self.view_is path (c.in_ok-check_names.ensures {u = tt}).accepted c.self.invariant
+    bad.0 bad.1 bad.2 c.in_err-open_along.field-0.0 (subst (λ o. RefusesAt (g.S.Store.objects o) (g.S.Store.may_fail o) bad.1 c.in_err-open_along.field-0.0) stored bad.4)))
+
+pub assure-requires : goal.assure-requires
+assure-requires g c = recursion_from_All IsEntryName (names_of c.args.path.now) (c.in_ok-check_names.ensures {u = tt}).accepted
+
+pub returns-in_err-assure-clause-refused : goal.returns-in_err-assure-clause-refused
+returns-in_err-assure-clause-refused g c =
+    on_err c.from_residual-in_err-assure.result _ (λ trees fits.
+    let s = c.self.inside in
+    let path = names_of c.args.path.now in
+    let stored = ap (λ (o : State _). o.store) c.self.view_is in
+    let ok = (c.in_ok-open_along.ensures {u = tt}).opened trees (subst (λ o. AreTreesOf (g.S.Store.objects o) trees) (sym stored) fits) in
+    let same : c.assure.new.self ≡ c.open_along.new.self = (c.in_err-assure.ensures {u = tt}).unchanged in
+    opened_so s.store s.object_hash trees at_files s.root c.assure.new.self s.lookups c.open_along.new.lookups c.args.self.now c.self.view_is (inside path) path [] refl ok.0
+    (subst (λ (ds : Opened). Opens IsNoTree trees path (dirs_of s.root) (dirs_of ds) ok.0) (sym same) ok.1) ok.2 (subst (λ (ds : Opened). IsOpened (dirs_of ds)) (sym same) (c.open_along.ensures.still_opened c.self.invariant)))
+
+pub returns-in_err-assure-clause-refusal : goal.returns-in_err-assure-clause-refusal
+returns-in_err-assure-clause-refusal g c =
+    err_weaker c.from_residual-in_err-assure.result _ _ c.from_residual-in_err-assure.ensures.1 (λ error gives trees fits.
+    let s = c.self.inside in
+    let path = names_of c.args.path.now in
+    let stored = ap (λ (o : State _). o.store) c.self.view_is in
+    let ok = (c.in_ok-open_along.ensures {u = tt}).opened trees (subst (λ o. AreTreesOf (g.S.Store.objects o) trees) (sym stored) fits) in
+    subst (RefusesCursor (g.S.Store.objects c.args.self.now.store) (g.S.Store.may_fail c.args.self.now.store) trees (open_dirs c.args.self.now) path) (sym gives)
+    (no_memory_at s.store s.object_hash trees (g.S.Store.objects c.args.self.now.store) (g.S.Store.may_fail c.args.self.now.store) s.root c.open_along.new.self s.lookups c.args.self.now c.self.view_is path ok.0 (c.in_ok-check_names.ensures {u = tt}).accepted ok.1 (c.in_err-assure.ensures {u = tt}).shut))
+
+pub invariant_of-self-2 : goal.invariant_of-self-2
+invariant_of-self-2 g c =
+    still_assured (names_of c.args.path.now) c.null-null.result c.open_along.new.self c.assure.new.self (recursion_from_All IsEntryName (names_of c.args.path.now) (c.in_ok-check_names.ensures {u = tt}).accepted)
+    (c.open_along.ensures.still_opened c.self.invariant) (c.in_ok-assure.ensures {u = tt}).ok
+
+pub returns-clause-is_open : goal.returns-clause-is_open
+returns-clause-is_open g c = assured_open (names_of c.args.path.now) c.null-null.result c.open_along.new.self c.assure.new.self (c.in_ok-assure.ensures {u = tt}).ok
+
+pub returns-clause-assured : goal.returns-clause-assured
+returns-clause-assured g c = λ trees fits.
+    let s = c.self.inside in
+    let path = names_of c.args.path.now in
+    let stored = ap (λ (o : State _). o.store) c.self.view_is in
+    let ok = (c.in_ok-open_along.ensures {u = tt}).opened trees (subst (λ o. AreTreesOf (g.S.Store.objects o) trees) (sym stored) fits) in
+    assured_at s.store s.object_hash trees s.root c.open_along.new.self c.assure.new.self s.lookups c.open_along.new.lookups c.args.self.now c.self.view_is path ok.0 (c.in_ok-check_names.ensures {u = tt}).accepted ok.1
+    (λ at. (c.in_ok-assure.ensures {u = tt}).ok at ∙ ap (λ null. assured_dirs path null (dirs_of c.open_along.new.self) at) c.null-null.ensures.value) ok.2
+    (still_assured path c.null-null.result c.open_along.new.self c.assure.new.self (recursion_from_All IsEntryName path (c.in_ok-check_names.ensures {u = tt}).accepted) (c.open_along.ensures.still_opened c.self.invariant) (c.in_ok-assure.ensures {u = tt}).ok)

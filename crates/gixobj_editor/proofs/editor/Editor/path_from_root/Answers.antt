@@ -1,0 +1,5 @@
+use Rattle.gixobj_editor.proofs.Edited.{opened_as}
+use Rattle.gixobj_editor.proofs.editor.Editor.path_from_root.Goals as goal
+
+pub returns-clause-is_opened : goal.returns-clause-is_opened
+returns-clause-is_opened g c = opened_as c.self.inside.store c.self.inside.object_hash c.self.inside.root c.self.inside.lookups c.args.self.now c.self.view_is c.self.invariant

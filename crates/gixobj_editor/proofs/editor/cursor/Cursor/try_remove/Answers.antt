@@ -1,0 +1,27 @@
+-- The editor's own edit, at the path from the root.
+use Rattle.std.proofs.Common.{◌∙◌, ap, subst}
+use Rattle.gixobj_files.specs.Edits.{IsNoTree}
+use Rattle.gixobj_files.specs.Files.{Path}
+use Rattle.gixobj_directories.specs.Calls.{names_of}
+use Rattle.gixobj_directories.proofs.OpeningSteps.{on_err}
+use Rattle.gixobj_editor.specs.Cursors.{from_root}
+use Rattle.gixobj_editor.specs.Removals.{IsRemoved}
+use Rattle.gixobj_editor.specs.Upserts.{IsRefused}
+use Rattle.gixobj_editor.proofs.CursorStays.{nothing_done, refused_open, removed_open, stays_open}
+use Rattle.gixobj_editor.proofs.editor.cursor.Cursor.try_remove.Goals as goal
+
+pub returns-in_err-path-clause-refused : goal.returns-in_err-path-clause-refused
+returns-in_err-path-clause-refused g c = on_err c.from_residual.result _ (λ trees fits. nothing_done trees c.args.self.now.editor.now (from_root (names_of c.args.self.now.prefix.now) (names_of c.args.path.now)) c.path_from_root.ensures.is_opened)
+
+pub invariant_of-self-2 : goal.invariant_of-self-2
+invariant_of-self-2 g c =
+    let old = c.args.self.now.editor.now in
+    let new = c.try_remove.new.self in
+    let prefix = names_of c.args.self.now.prefix.now in
+    let path = names_of c.args.path.now in
+    let whole = names_of c.deref.result.now in
+    let is = ap names_of c.deref.ensures.value ∙ (c.in_ok-path.ensures {u = tt}).joined in
+    record {
+      is_open = stays_open c.try_remove.result (g.S.Store.objects old.store) new prefix (λ trees. IsRemoved IsNoTree trees old whole new) (λ trees. IsRefused trees old whole new) c.try_remove.ensures.removed c.try_remove.ensures.refused
+          (λ trees h. removed_open trees old new prefix path (subst (λ (p : Path). IsRemoved IsNoTree trees old p new) is h) c.args.self.now.is_open) (λ trees h. refused_open trees old new whole prefix h c.args.self.now.is_open);
+    }

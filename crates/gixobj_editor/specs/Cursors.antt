@@ -1,0 +1,77 @@
+-- What the calls of a cursor promise: as those of its editor, by paths from the root.
+pub mod Stores
+use Rattle.std.specs.Prelude.{◌≡◌, ◌≢◌, ◌⊎◌, ◌++◌, ℕ, Bool, List, [], ◌∷◌, All, None, Some}
+use Rattle.std.specs.List.{FoldsTo}
+use Rattle.gixobj_data.specs.Stores.{Objects}
+use Rattle.gixobj_directories.specs.Calls.{AreNames, IsStorable}
+use Rattle.gixobj_directories.specs.declared.opening.Error.TheVariants as opening
+use Rattle.gixobj_files.specs.Edits.{IsNoTree, Opens, assured_dirs, only, with_path}
+use Rattle.gixobj_files.specs.Files.{Assured, NamedFiles, Path, SameFiles, Table, Trees}
+use Rattle.gixobj_files.specs.Halting.{IsUnopenedAbove}
+use Rattle.gixobj_files.specs.HandingOut.{HandsOut}
+use Rattle.gixobj_files.specs.Opening.{Dirs, IsOpened, in_path}
+use Rattle.gixobj_files.specs.State.{EditorFiles, FilesBelow, State, open_dirs}
+use Rattle.gixobj_files.specs.Tables.{AgreesWithPairs, AgreesWithStore, Pair}
+use Rattle.gixobj_files.specs.Unopened.{inside, unopened_count}
+use Rattle.gixobj_ids.specs.Hash.{null_id}
+use Rattle.gixobj_ids.specs.declared.hash.object_id.ObjectId.{ObjectId}
+use Rattle.gixobj_trees.specs.Entries.{EntryView}
+use Rattle.gixobj_editor.specs.Upserts.{RefusesNames, RefusesUnopened, raised}
+use Rattle.gixobj_editor.specs.declared.editor.error.Error.{Error}
+use Rattle.gixobj_editor.specs.declared.editor.error.Error.TheVariants as error
+
+-- a single empty name stands for the root
+abbrev pub prefix_of : Path → Path
+prefix_of ([] ∷ []) = []
+prefix_of path = path
+
+-- the path from the root of a path from a cursor; one without names stands for none
+abbrev pub from_root : Path → Path → Path
+from_root prefix [] = []
+from_root prefix (name ∷ path) = prefix ++ name ∷ path
+
+-- why no cursor is made at a path: for the first name that no entry may have; else for an unopened directory at or above the path,
+-- which the store doesn't have as a well-formed tree, or whose lookup fails; or for want of memory, where the directory isn't open
+abbrev pub RefusesCursor : Objects → (ObjectId → Bool) → Trees → Dirs → Path → Error → Type 0
+RefusesCursor objects may_fail trees dirs path error.EmptyPathComponent = RefusesNames path error.EmptyPathComponent
+RefusesCursor objects may_fail trees dirs path error.SlashInPathComponent = RefusesNames path error.SlashInPathComponent
+RefusesCursor objects may_fail trees dirs path (error.FindExistingObject cause) = AreNames path × RefusesUnopened objects may_fail trees dirs (inside path) (opening.FindExistingObject cause)
+RefusesCursor objects may_fail trees dirs path error.MalformedTree = AreNames path × RefusesUnopened objects may_fail trees dirs (inside path) opening.MalformedTree
+RefusesCursor objects may_fail trees dirs path (error.CannotRemoveNonLeaf at) = ⊥
+RefusesCursor objects may_fail trees dirs path error.OutOfMemory = AreNames path × (dirs path ≡ None)
+
+-- why an edit by a cursor is refused: as one of the editor is; or there was no memory for its path from the root
+abbrev pub RefusesFromRoot : Path → (Error → Type 0) → Error → Type 0
+RefusesFromRoot path refuses refusal = refuses refusal ⊎ ((refusal ≡ error.OutOfMemory) × (path ≢ []))
+
+-- a cursor made at a path: which directories are open, that at the path among them, how many lookups there were, and the files; what
+-- is in the directory is kept, and all else stays
+pub record IsAssured {S : Type 0} (trees : Trees) (old : State S) (path : Path) (new : State S) : Type 0 where
+  pub names : AreNames path
+  -- the directories at and above the path are opened, and then those that are missing are made
+  pub opened : Dirs
+  pub asked : List ObjectId
+  pub opens : Opens IsNoTree trees path (open_dirs old) opened asked
+  pub dirs : (at : Path) → open_dirs new at ≡ assured_dirs path (null_id old.object_hash) opened at
+  pub lookups : new.lookups ≡ raised old.lookups (unopened_count trees (open_dirs old) (inside path))
+  pub rest : new ≡ record old { dirs = new.dirs; lookups = new.lookups }
+  pub is_opened : IsOpened (open_dirs new)
+  -- the store has each unopened directory at or above the path
+  pub known : (it : ObjectId) → IsUnopenedAbove trees (open_dirs old) (inside path) it → (entries : List EntryView) × (trees it ≡ Some entries)
+  pub files : (T : Table) (n : ℕ) → AgreesWithStore T trees → SameFiles (EditorFiles T n new) (Assured path (EditorFiles T n old))
+
+-- a write of the directory at a prefix: these pairs went out, its own last, and the closure was called on these trees alone, in this
+-- order; the directory is open with the tree handed out last, nothing in it is, and all else is as before; the tree that is named has
+-- exactly the files below the prefix, and the editor's files stay
+pub record IsWrittenBelow {S F : Type 0} (gave : F → Pair → F → Type 0) (asked : F) (old : State S) (prefix : Path) (id : ObjectId) (pairs : List Pair) (new : State S) (answered : F) : Type 0 where
+  pub handed_out : HandsOut (in_path prefix (open_dirs old)) pairs
+  pub called : FoldsTo gave asked pairs answered
+  pub storable : All (λ pair. IsStorable pair.1) pairs
+  pub below : List Pair
+  pub own : List EntryView
+  pub last : pairs ≡ below ++ (id, own) ∷ []
+  pub dirs : (at : Path) → open_dirs new at ≡ with_path prefix (only own) (open_dirs old) at
+  pub rest : new ≡ record old { dirs = new.dirs }
+  pub is_opened : IsOpened (open_dirs new)
+  pub files : (T : Table) (n : ℕ) → AgreesWithPairs T pairs → SameFiles (NamedFiles T n id) (FilesBelow T n prefix old)
+  pub same_files : (T : Table) (n : ℕ) → AgreesWithPairs T pairs → SameFiles (EditorFiles T n new) (EditorFiles T n old)

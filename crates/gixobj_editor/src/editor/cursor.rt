@@ -1,0 +1,329 @@
+//! Cursors of an editor: its calls, by paths that go on from a directory.
+ghost use Rattle.std.specs.Prelude.{◌≡◌, ◌≢◌, [], Err, IfErr, IfOk, IsOk, None, Ok, OnErr, OnOk};
+ghost use Rattle.std.specs.Borrow.{RestsIfErr, sem};
+ghost use Rattle.std.specs.Fn.{CalledAt};
+ghost use Rattle.std.specs.Option.{option_copied};
+ghost use Rattle.gixobj_directories.specs.Calls.{IsCallableOnTrees, names_of};
+ghost use Rattle.gixobj_directories.specs.Handing.{Stopped};
+ghost use Rattle.gixobj_directories.specs.Openings.{AreTreesOf};
+ghost use Rattle.gixobj_editor.specs.Cursors.{IsAssured, IsWrittenBelow, RefusesCursor, RefusesFromRoot, from_root, prefix_of};
+ghost use Rattle.gixobj_editor.specs.Removals.{IsLeafRemoved, IsRemoved, RefusesLeafRemoval, RefusesRemoval};
+ghost use Rattle.gixobj_editor.specs.Upserts.{IsForAName, IsRefused, IsUpserted, RefusesUpsert};
+ghost use Rattle.gixobj_editor.specs.contracts.editor.Editor.{the_row};
+ghost use Rattle.gixobj_files.specs.Edits.{IsNoTree, entry_at};
+ghost use Rattle.gixobj_files.specs.Files.{Trees};
+ghost use Rattle.gixobj_files.specs.HandingOut.{HandsOut};
+ghost use Rattle.gixobj_files.specs.Opening.{IsOpened, in_path};
+ghost use Rattle.gixobj_files.specs.State.{open_dirs};
+ghost use Rattle.gixobj_files.specs.Unopened.{inside};
+ghost use Rattle.gixobj_trees.specs.Mode.{mode_of_kind};
+
+use super::names::{check_names, join_paths};
+use super::{Editor, Error, WriteError, Written};
+use bstr::BString;
+use gixobj_data::Find;
+use gixobj_directories::opening::Unasked;
+use gixobj_directories::write::write_at;
+use gixobj_ids::OutOfMemory;
+use gixobj_ids::hash::ObjectId;
+use gixobj_trees::Tree;
+use gixobj_trees::tree::{Entry, EntryKind};
+use std::alloc::AllocError;
+
+/// A cursor of an editor: its paths go on from the directory at the prefix, which is open.
+///
+/// In contracts `editor.now` is the editor as it is. Whoever drops the cursor has the editor as its last call left it.
+pub struct Cursor<'a, S> {
+    editor: &'a mut Editor<S>,
+    prefix: &'a [BString],
+    ghost is_open: { open_dirs editor.now (names_of prefix.now) ≢ None },
+}
+
+impl<S> Drop for Cursor<'_, S> {
+    fn drop(self)
+        ensures { self.exit.0.now ≡ self.entry.editor.now }
+    {
+        let Cursor {
+            editor: _,
+            prefix: _,
+        } = self;
+    }
+}
+
+/// Cursors
+impl<S> Editor<S> {
+    /// A cursor at the root. It takes no memory.
+    pub fn to_cursor(&mut self) -> Cursor<'_, S>
+        ensures same_reference { result.editor.ghost_name ≡ self.entry.ghost_name }
+        ensures editor { result.editor.now ≡ self.old }
+        ensures prefix { names_of result.prefix.now ≡ [] }
+    {
+        let _ = &self.root;
+        Cursor {
+            editor: self,
+            prefix: &[],
+        }
+    }
+}
+
+impl<S: Find> Editor<S> {
+    /// A cursor at the directory of a path; without names, and at a single empty name, that is the root. The
+    /// directory and each one above it is opened: one that isn't open is looked up, and what is in it is kept; one
+    /// that is missing is made, and an entry that is no tree is replaced.
+    ///
+    /// `EmptyPathComponent` or `SlashInPathComponent` for the first name that no entry may have; else
+    /// `FindExistingObject` or `MalformedTree` for the first directory that the store doesn't have as a
+    /// well-formed tree, or whose lookup fails; `OutOfMemory` where memory was wanting, which is taken only where the
+    /// directory isn't open. A refusal leaves the files as they were; what was opened on the way stays open.
+    pub fn cursor_at<'a>(&'a mut self, path: &'a [BString]) -> Result<Cursor<'a, S>, Error>
+        ensures* refused { sem 𝓛 (RestsIfErr (the_row S.row) self.entry (λ c. c.editor.ghost_name) result (λ left. (trees : Trees) → AreTreesOf (S.objects self.old.store) trees → IsRefused trees self.old (inside (prefix_of (names_of path.now))) left)) }
+        ensures same_reference { IfOk result (λ c. c.editor.ghost_name ≡ self.entry.ghost_name) }
+        ensures prefix { IfOk result (λ c. names_of c.prefix.now ≡ prefix_of (names_of path.now)) }
+        ensures assured { IfOk result (λ c. (trees : Trees) → AreTreesOf (S.objects self.old.store) trees → IsAssured trees self.old (prefix_of (names_of path.now)) c.editor.now) }
+        ensures refusal { IfErr result (λ error. (trees : Trees) → AreTreesOf (S.objects self.old.store) trees → RefusesCursor (S.objects self.old.store) (S.may_fail self.old.store) trees (open_dirs self.old) (prefix_of (names_of path.now)) error) }
+    {
+        let prefix = self.open_prefix(path)?;
+        Ok(Cursor {
+            editor: self,
+            prefix,
+        })
+    }
+
+    /// Makes the directory of a cursor at a path an open one, and answers the cursor's prefix.
+    fn open_prefix<'a>(&mut self, path: &'a [BString]) -> Result<&'a [BString], Error>
+        ensures prefix { IfOk result (λ prefix. names_of prefix.now ≡ prefix_of (names_of path.now)) }
+        ensures is_open { IfOk result (λ prefix. open_dirs self.new (names_of prefix.now) ≢ None) }
+        ensures assured { OnOk result ((trees : Trees) → AreTreesOf (S.objects self.old.store) trees → IsAssured trees self.old (prefix_of (names_of path.now)) self.new) }
+        ensures refused { OnErr result ((trees : Trees) → AreTreesOf (S.objects self.old.store) trees → IsRefused trees self.old (inside (prefix_of (names_of path.now))) self.new) }
+        ensures refusal { IfErr result (λ error. (trees : Trees) → AreTreesOf (S.objects self.old.store) trees → RefusesCursor (S.objects self.old.store) (S.may_fail self.old.store) trees (open_dirs self.old) (prefix_of (names_of path.now)) error) }
+    {
+        let prefix = without_a_single_empty_name(path);
+        self.assure(prefix)?;
+        Ok(prefix)
+    }
+
+    /// Makes the directory at a path, and each one above it, an open directory.
+    fn assure(&mut self, path: &[BString]) -> Result<(), Error>
+        ensures assured { OnOk result ((trees : Trees) → AreTreesOf (S.objects self.old.store) trees → IsAssured trees self.old (names_of path.now) self.new) }
+        ensures is_open { OnOk result (open_dirs self.new (names_of path.now) ≢ None) }
+        ensures refused { OnErr result ((trees : Trees) → AreTreesOf (S.objects self.old.store) trees → IsRefused trees self.old (inside (names_of path.now)) self.new) }
+        ensures refusal { IfErr result (λ error. (trees : Trees) → AreTreesOf (S.objects self.old.store) trees → RefusesCursor (S.objects self.old.store) (S.may_fail self.old.store) trees (open_dirs self.old) (names_of path.now) error) }
+        ensures unasked { IfErr result (λ error. IsForAName error → self.new ≡ self.old) }
+    {
+        let alloc = self.root.alloc();
+        check_names(path)?;
+        let null = ObjectId::null(self.object_hash);
+        self.root.open_along(alloc, path, Unasked::Opened, &self.store, &mut self.lookups)?;
+        self.root.assure(alloc, path, null)?;
+        Ok(())
+    }
+}
+
+impl<S> Editor<S> {
+    /// The path from the root of a path from a directory; one without names stays without.
+    fn path_from_root(
+        &self,
+        prefix: &[BString],
+        path: &[BString],
+    ) -> Result<Vec<BString>, AllocError>
+        ensures joined { IfOk result (λ it. names_of it.items ≡ from_root (names_of prefix.now) (names_of path.now)) }
+        ensures taken { OnErr result (names_of path.now ≢ []) }
+        ensures is_opened { IsOpened (open_dirs self.now) }
+    {
+        join_paths(self.root.alloc(), prefix, path)
+    }
+
+    /// The entry at a path from an open directory.
+    fn get_below(&self, prefix: &[BString], path: &[BString]) -> Option<&Entry>
+        ensures { option_copied result ≡ entry_at (from_root (names_of prefix.now) (names_of path.now)) (open_dirs self.now) }
+    {
+        let Some(directory) = self.root.directory(prefix) else {
+            return None;
+        };
+        directory.get(path)
+    }
+
+    /// Hands out the open directories at and below an open one.
+    fn write_below<E, F: FnMut(&Tree) -> Result<ObjectId, E>>(
+        &mut self,
+        prefix: &[BString],
+        out: &mut F,
+    ) -> Result<Written, WriteError<E>>
+        requires callable { IsCallableOnTrees F.pre (λ f p g. CalledAt F.FnMut f p.1 (Ok p.0) g) out.old }
+        requires is_open { open_dirs self.old (names_of prefix.now) ≢ None }
+        ensures written { IfOk result (λ it. IsWrittenBelow (λ f p g. CalledAt F.FnMut f p.1 (Ok p.0) g) out.old self.old (names_of prefix.now) it.id it.trees.items self.new out.new) }
+        ensures stopped { IfErr result (Stopped (λ f p g. CalledAt F.FnMut f p.1 (Ok p.0) g) (λ f t e g. CalledAt F.FnMut f t (Err e) g) (HandsOut (in_path (names_of prefix.now) (open_dirs self.old))) out.old out.new) }
+        ensures unchanged { OnErr result (self.new ≡ self.old) }
+    {
+        let alloc = self.root.alloc();
+        write_at(alloc, &mut self.root, prefix, out)
+    }
+}
+
+/// The path, but for a single empty name, which stands for no names.
+fn without_a_single_empty_name(path: &[BString]) -> &[BString]
+    ensures { names_of result.now ≡ prefix_of (names_of path.now) }
+{
+    match path {
+        [name] if name.is_empty() => &[],
+        _ => path,
+    }
+}
+
+/// Editing
+impl<S: Find> Cursor<'_, S> {
+    /// As [`Cursor::try_upsert`].
+    pub fn upsert(&mut self, path: &[BString], kind: EntryKind, id: ObjectId) -> Result<(), Error>
+        ensures same_reference { self.new.editor.ghost_name ≡ self.old.editor.ghost_name }
+        ensures prefix { self.new.prefix.now ≡ self.old.prefix.now }
+        ensures upserted { OnOk result ((trees : Trees) → AreTreesOf (S.objects self.old.editor.now.store) trees → IsUpserted trees self.old.editor.now (from_root (names_of self.old.prefix.now) (names_of path.now)) (mode_of_kind kind) id self.new.editor.now) }
+        ensures refused { OnErr result ((trees : Trees) → AreTreesOf (S.objects self.old.editor.now.store) trees → IsRefused trees self.old.editor.now (from_root (names_of self.old.prefix.now) (names_of path.now)) self.new.editor.now) }
+        ensures refusal { IfErr result (λ error. (trees : Trees) → AreTreesOf (S.objects self.old.editor.now.store) trees → RefusesFromRoot (names_of path.now)
+            (RefusesUpsert (S.objects self.old.editor.now.store) (S.may_fail self.old.editor.now.store) trees (open_dirs self.old.editor.now) (from_root (names_of self.old.prefix.now) (names_of path.now))) error) }
+        ensures unasked { IfErr result (λ error. IsForAName error → self.new.editor.now ≡ self.old.editor.now) }
+    {
+        self.try_upsert(path, kind, id)
+    }
+
+    /// As [`Editor::try_upsert`], at a path that goes on from the prefix. Without names nothing changes, and
+    /// the prefix stays.
+    ///
+    /// `OutOfMemory` also where there was no memory for the path from the root.
+    pub fn try_upsert(
+        &mut self,
+        path: &[BString],
+        kind: EntryKind,
+        id: ObjectId,
+    ) -> Result<(), Error>
+        ensures same_reference { self.new.editor.ghost_name ≡ self.old.editor.ghost_name }
+        ensures prefix { self.new.prefix.now ≡ self.old.prefix.now }
+        ensures upserted { OnOk result ((trees : Trees) → AreTreesOf (S.objects self.old.editor.now.store) trees → IsUpserted trees self.old.editor.now (from_root (names_of self.old.prefix.now) (names_of path.now)) (mode_of_kind kind) id self.new.editor.now) }
+        ensures refused { OnErr result ((trees : Trees) → AreTreesOf (S.objects self.old.editor.now.store) trees → IsRefused trees self.old.editor.now (from_root (names_of self.old.prefix.now) (names_of path.now)) self.new.editor.now) }
+        ensures refusal { IfErr result (λ error. (trees : Trees) → AreTreesOf (S.objects self.old.editor.now.store) trees → RefusesFromRoot (names_of path.now)
+            (RefusesUpsert (S.objects self.old.editor.now.store) (S.may_fail self.old.editor.now.store) trees (open_dirs self.old.editor.now) (from_root (names_of self.old.prefix.now) (names_of path.now))) error) }
+        ensures unasked { IfErr result (λ error. IsForAName error → self.new.editor.now ≡ self.old.editor.now) }
+    {
+        let path = self.editor.path_from_root(self.prefix, path)?;
+        self.editor.try_upsert(&path, kind, id)
+    }
+
+    /// As [`Cursor::try_remove`].
+    pub fn remove(&mut self, path: &[BString]) -> Result<(), Error>
+        ensures same_reference { self.new.editor.ghost_name ≡ self.old.editor.ghost_name }
+        ensures prefix { self.new.prefix.now ≡ self.old.prefix.now }
+        ensures removed { OnOk result ((trees : Trees) → AreTreesOf (S.objects self.old.editor.now.store) trees → IsRemoved IsNoTree trees self.old.editor.now (from_root (names_of self.old.prefix.now) (names_of path.now)) self.new.editor.now) }
+        ensures refused { OnErr result ((trees : Trees) → AreTreesOf (S.objects self.old.editor.now.store) trees → IsRefused trees self.old.editor.now (from_root (names_of self.old.prefix.now) (names_of path.now)) self.new.editor.now) }
+        ensures refusal { IfErr result (λ error. (trees : Trees) → AreTreesOf (S.objects self.old.editor.now.store) trees → RefusesFromRoot (names_of path.now)
+            (RefusesRemoval IsNoTree (S.objects self.old.editor.now.store) (S.may_fail self.old.editor.now.store) trees (open_dirs self.old.editor.now) (from_root (names_of self.old.prefix.now) (names_of path.now))) error) }
+    {
+        self.try_remove(path)
+    }
+
+    /// As [`Editor::try_remove`], at a path that goes on from the prefix. Without names nothing changes, and
+    /// the prefix stays.
+    ///
+    /// `OutOfMemory` also where there was no memory for the path from the root.
+    pub fn try_remove(&mut self, path: &[BString]) -> Result<(), Error>
+        ensures same_reference { self.new.editor.ghost_name ≡ self.old.editor.ghost_name }
+        ensures prefix { self.new.prefix.now ≡ self.old.prefix.now }
+        ensures removed { OnOk result ((trees : Trees) → AreTreesOf (S.objects self.old.editor.now.store) trees → IsRemoved IsNoTree trees self.old.editor.now (from_root (names_of self.old.prefix.now) (names_of path.now)) self.new.editor.now) }
+        ensures refused { OnErr result ((trees : Trees) → AreTreesOf (S.objects self.old.editor.now.store) trees → IsRefused trees self.old.editor.now (from_root (names_of self.old.prefix.now) (names_of path.now)) self.new.editor.now) }
+        ensures refusal { IfErr result (λ error. (trees : Trees) → AreTreesOf (S.objects self.old.editor.now.store) trees → RefusesFromRoot (names_of path.now)
+            (RefusesRemoval IsNoTree (S.objects self.old.editor.now.store) (S.may_fail self.old.editor.now.store) trees (open_dirs self.old.editor.now) (from_root (names_of self.old.prefix.now) (names_of path.now))) error) }
+    {
+        let path = self.editor.path_from_root(self.prefix, path)?;
+        self.editor.try_remove(&path)
+    }
+
+    /// As [`Cursor::try_remove_leaf`].
+    pub fn remove_leaf(&mut self, path: &[BString]) -> Result<(), Error>
+        ensures same_reference { self.new.editor.ghost_name ≡ self.old.editor.ghost_name }
+        ensures prefix { self.new.prefix.now ≡ self.old.prefix.now }
+        ensures removed { OnOk result ((trees : Trees) → AreTreesOf (S.objects self.old.editor.now.store) trees → IsLeafRemoved trees self.old.editor.now (from_root (names_of self.old.prefix.now) (names_of path.now)) self.new.editor.now) }
+        ensures refused { OnErr result ((trees : Trees) → AreTreesOf (S.objects self.old.editor.now.store) trees → IsRefused trees self.old.editor.now (from_root (names_of self.old.prefix.now) (names_of path.now)) self.new.editor.now) }
+        ensures refusal { IfErr result (λ error. (trees : Trees) → AreTreesOf (S.objects self.old.editor.now.store) trees → RefusesFromRoot (names_of path.now)
+            (RefusesLeafRemoval (S.objects self.old.editor.now.store) (S.may_fail self.old.editor.now.store) trees (open_dirs self.old.editor.now) (from_root (names_of self.old.prefix.now) (names_of path.now))) error) }
+    {
+        self.try_remove_leaf(path)
+    }
+
+    /// As [`Editor::try_remove_leaf`], at a path that goes on from the prefix. Without names nothing changes,
+    /// and the prefix stays.
+    ///
+    /// `CannotRemoveNonLeaf` tells the path from the root. `OutOfMemory` also where there was no memory for the path
+    /// from the root.
+    pub fn try_remove_leaf(&mut self, path: &[BString]) -> Result<(), Error>
+        ensures same_reference { self.new.editor.ghost_name ≡ self.old.editor.ghost_name }
+        ensures prefix { self.new.prefix.now ≡ self.old.prefix.now }
+        ensures removed { OnOk result ((trees : Trees) → AreTreesOf (S.objects self.old.editor.now.store) trees → IsLeafRemoved trees self.old.editor.now (from_root (names_of self.old.prefix.now) (names_of path.now)) self.new.editor.now) }
+        ensures refused { OnErr result ((trees : Trees) → AreTreesOf (S.objects self.old.editor.now.store) trees → IsRefused trees self.old.editor.now (from_root (names_of self.old.prefix.now) (names_of path.now)) self.new.editor.now) }
+        ensures refusal { IfErr result (λ error. (trees : Trees) → AreTreesOf (S.objects self.old.editor.now.store) trees → RefusesFromRoot (names_of path.now)
+            (RefusesLeafRemoval (S.objects self.old.editor.now.store) (S.may_fail self.old.editor.now.store) trees (open_dirs self.old.editor.now) (from_root (names_of self.old.prefix.now) (names_of path.now))) error) }
+    {
+        let path = self.editor.path_from_root(self.prefix, path)?;
+        self.editor.try_remove_leaf(&path)
+    }
+}
+
+/// Access
+impl<S> Cursor<'_, S> {
+    ghost use Rattle.gixobj_editor.specs.contracts.editor.cursor.Cursor.{the_row as cursor_row};
+    ghost use Rattle.gixobj_editor.specs.Cursors.Stores.{with_store_behind};
+    ghost use Rattle.std.specs.Borrow.{Lends};
+    ghost use mir.Syntax.{named};
+
+    /// The editor's store.
+    pub fn store_mut(&mut self) -> &mut S
+        ensures* writes_back { sem 𝓛 (Lends (cursor_row (record { mir = named 1; lft = [] }) S.row) S.row self.entry result (with_store_behind self.old)) }
+        ensures value { result.now ≡ self.old.editor.now.store }
+    {
+        self.editor.store_mut()
+    }
+
+    /// As [`Editor::get`], at a path that goes on from the prefix; without names there is none.
+    pub fn get(&self, path: &[BString]) -> Result<Option<&Entry>, OutOfMemory>
+        ensures succeeds { IsOk result }
+        ensures found { IfOk result (λ entry. option_copied entry ≡ entry_at (from_root (names_of self.now.prefix.now) (names_of path.now)) (open_dirs self.now.editor.now)) }
+    {
+        Ok(self.editor.get_below(self.prefix, path))
+    }
+}
+
+/// Writing
+impl<S> Cursor<'_, S> {
+    /// As [`Cursor::try_write`], with a closure of its own.
+    pub fn write<E, F: FnMut(&Tree) -> Result<ObjectId, E> + Drop>(
+        &mut self,
+        out: F,
+    ) -> Result<Written, WriteError<E>>
+        requires { IsCallableOnTrees F.pre (λ f p g. CalledAt F.FnMut f p.1 (Ok p.0) g) out }
+        ensures same_reference { self.new.editor.ghost_name ≡ self.old.editor.ghost_name }
+        ensures prefix { self.new.prefix.now ≡ self.old.prefix.now }
+        ensures written { IfOk result (λ it. (last : F) × IsWrittenBelow (λ f p g. CalledAt F.FnMut f p.1 (Ok p.0) g) out self.old.editor.now (names_of self.old.prefix.now) it.id it.trees.items self.new.editor.now last) }
+        ensures stopped { IfErr result (λ error. (last : F) × Stopped (λ f p g. CalledAt F.FnMut f p.1 (Ok p.0) g) (λ f t e g. CalledAt F.FnMut f t (Err e) g) (HandsOut (in_path (names_of self.old.prefix.now) (open_dirs self.old.editor.now))) out last error) }
+        ensures unchanged { OnErr result (self.new.editor.now ≡ self.old.editor.now) }
+    {
+        let mut out = out;
+        self.try_write(&mut out)
+    }
+
+    /// As [`Editor::try_write`], of the directory at the prefix: it hands out what is open in it and then its own
+    /// tree, also where that is empty. Then the directory is open, with the tree that was handed out for it, and
+    /// nothing in it is; all else is open as it was.
+    ///
+    /// `Out` where `out` refused a tree, `OutOfMemory` where memory was wanting; the editor is as it was, and
+    /// what `out` was asked so far stands.
+    pub fn try_write<E, F: FnMut(&Tree) -> Result<ObjectId, E>>(
+        &mut self,
+        out: &mut F,
+    ) -> Result<Written, WriteError<E>>
+        requires { IsCallableOnTrees F.pre (λ f p g. CalledAt F.FnMut f p.1 (Ok p.0) g) out.old }
+        ensures same_reference { self.new.editor.ghost_name ≡ self.old.editor.ghost_name }
+        ensures prefix { self.new.prefix.now ≡ self.old.prefix.now }
+        ensures written { IfOk result (λ it. IsWrittenBelow (λ f p g. CalledAt F.FnMut f p.1 (Ok p.0) g) out.old self.old.editor.now (names_of self.old.prefix.now) it.id it.trees.items self.new.editor.now out.new) }
+        ensures stopped { IfErr result (Stopped (λ f p g. CalledAt F.FnMut f p.1 (Ok p.0) g) (λ f t e g. CalledAt F.FnMut f t (Err e) g) (HandsOut (in_path (names_of self.old.prefix.now) (open_dirs self.old.editor.now))) out.old out.new) }
+        ensures unchanged { OnErr result (self.new.editor.now ≡ self.old.editor.now) }
+    {
+        self.editor.write_below(self.prefix, out)
+    }
+}
