@@ -209,3 +209,7 @@ walk_ends dirs items i ps acc high so_far =
 -- whatever a directory hands out below it, it hands out that and itself
 pub hands_more : (dirs : Dirs) (below : List Pair) (own : List EntryView) → Leaves dirs below own → (more : List Pair) × HandsOut dirs (below ++ more)
 hands_more dirs below own found = ((Sha1 [], own) ∷ [], (below, Sha1 [], own, found, refl))
+
+-- a stop, where the same is open
+pub stopped_same : {F E : Type 0} (gave : F → Pair → F → Type 0) (refused : F → List EntryView → E → F → Type 0) (dirs dirs' : Dirs) → dirs ≡ dirs' → (old new : F) (error : WriteError E) → Stopped gave refused (HandsOut dirs) old new error → Stopped gave refused (HandsOut dirs') old new error
+stopped_same gave refused dirs dirs' same old new error stopped = subst (λ (d : Dirs). Stopped gave refused (HandsOut d) old new error) same stopped

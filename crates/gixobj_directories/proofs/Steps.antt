@@ -1,7 +1,8 @@
 -- What an edit of one level makes of the open directories.
 use mathlib.Core.Bool.{true≢false}
-use Rattle.std.proofs.Common.{◌≡◌, ◌≢◌, ◌∙◌, ℕ, true, false, cond, List, [], ◌∷◌, Some, None, length, refl, sym, ap, arith}
-use Rattle.std.specs.Prelude.{◌==◌}
+use Rattle.std.proofs.Common.{◌≡◌, ◌≢◌, ◌∙◌, ◌++◌, ℕ, true, false, cond, get_or, List, [], ◌∷◌, Option, Some, None, length, refl, sym, ap, arith}
+use Rattle.std.specs.Prelude.{◌==◌, IfNone}
+use Rattle.std.specs.List.{position}
 use Rattle.std.proofs.lemmas.Bool.{eqb-true}
 use Rattle.std.specs.Option.{option_map}
 use Rattle.std.specs.Cmp.Lexicographic.{bytes_decides}
@@ -11,11 +12,12 @@ use Rattle.gixobj_trees.specs.Entries.{EachLater, EntryView}
 use Rattle.gixobj_ids.specs.declared.hash.object_id.ObjectId.{ObjectId}
 use Rattle.gixobj_directories.specs.Calls.{names_of}
 use Rattle.gixobj_files.specs.Editing.{same_name, with_entry, without}
-use Rattle.gixobj_files.specs.Edits.{entry_at, or_empty, removed_dirs, upserted_dirs, with_dir, with_directory}
+use Rattle.gixobj_files.specs.Edits.{assured_dirs, entry_at, or_empty, removed_dirs, upserted_dirs, with_dir, with_directory, with_path}
 use Rattle.gixobj_files.specs.Files.{Path}
-use Rattle.gixobj_directories.specs.Nested.{Opened, Part, dirs_of, in_part, opened}
+use Rattle.gixobj_directories.specs.Nested.{Opened, Part, dirs_of, in_part, opened, parts}
 use Rattle.gixobj_files.specs.Opening.{Dirs, in_dir}
-use Rattle.gixobj_directories.proofs.Levels.{Becomes, at_name, level_at, level_root}
+use Rattle.gixobj_directories.specs.declared.open.Child.{Child}
+use Rattle.gixobj_directories.proofs.Levels.{Becomes, at_name, called, found, level_at, level_root, not_found}
 
 -- a path of one name, and one of more
 pub one_left : (path : List BString) (name : BString) (rest : List BString) → path ≡ name ∷ rest → true ≡ (length rest == 0) → names_of path ≡ bstring_bytes name ∷ []
@@ -51,6 +53,11 @@ module _ (old : Opened) (es es' : List EntryView) (ps ps' : List Part) (view : o
   put_deeper second rest mode id null is below (first ∷ path) =
       elsewhere first path ∙ ap (λ o. cond (same_name name first) o (dirs_of old (first ∷ path))) (below path ∙ ap (λ (d : Dirs). upserted_dirs (second ∷ rest) mode id null d path) (sym (in_dir_is old es ps view apart name)))
 
+  pub assured_deeper : (rest : Path) (null : ObjectId) → es' ≡ with_directory name null es → ((path : Path) → next path ≡ assured_dirs rest null (in_part name ps) path) → (at : Path) → dirs_of (opened es' ps') at ≡ assured_dirs (name ∷ rest) null (dirs_of old) at
+  assured_deeper rest null is below [] = ap Some is ∙ ap (λ o. Some (with_directory name null (or_empty o))) (sym (level_root old es ps view))
+  assured_deeper rest null is below (first ∷ path) =
+      elsewhere first path ∙ ap (λ o. cond (same_name name first) o (dirs_of old (first ∷ path))) (below path ∙ ap (λ (d : Dirs). assured_dirs rest null d path) (sym (in_dir_is old es ps view apart name)))
+
   pub taken_last : es' ≡ without name es → ((path : Path) → next path ≡ None) → (at : Path) → dirs_of (opened es' ps') at ≡ removed_dirs (name ∷ []) (dirs_of old) at
   taken_last is gone [] = ap Some is ∙ ap (option_map (without name)) (sym (level_root old es ps view))
   taken_last is gone (first ∷ path) = elsewhere first path ∙ ap (λ o. cond (same_name name first) o (dirs_of old (first ∷ path))) (gone path)
@@ -59,6 +66,11 @@ module _ (old : Opened) (es es' : List EntryView) (ps ps' : List Part) (view : o
   taken_deeper second rest is below [] = ap Some is ∙ sym (level_root old es ps view)
   taken_deeper second rest is below (first ∷ path) =
       elsewhere first path ∙ ap (λ o. cond (same_name name first) o (dirs_of old (first ∷ path))) (below path ∙ ap (λ (d : Dirs). removed_dirs (second ∷ rest) d path) (sym (in_dir_is old es ps view apart name)))
+
+  pub written_deeper : (rest : Path) (inner : Dirs) → es' ≡ es → ((path : Path) → next path ≡ with_path rest inner (in_part name ps) path) → (at : Path) → dirs_of (opened es' ps') at ≡ with_path (name ∷ rest) inner (dirs_of old) at
+  written_deeper rest inner is below [] = ap Some is ∙ sym (level_root old es ps view)
+  written_deeper rest inner is below (first ∷ path) =
+      elsewhere first path ∙ ap (λ o. cond (same_name name first) o (dirs_of old (first ∷ path))) (below path ∙ ap (λ (d : Dirs). with_path rest inner d path) (sym (in_dir_is old es ps view apart name)))
 
   -- the directories of one name are replaced
   pub replaced : es' ≡ es → (at : Path) → dirs_of (opened es' ps') at ≡ with_dir name next (dirs_of old) at
@@ -103,3 +115,33 @@ fresh name [] mode id null [] = refl
 fresh name [] mode id null (first ∷ at) = refl
 fresh name (next ∷ rest) mode id null [] = refl
 fresh name (next ∷ rest) mode id null (first ∷ at) = refl
+
+-- a directory assured where it is open, in an empty open directory, and where nothing is open
+pub assured_here : (old : Opened) (es : List EntryView) (ps : List Part) → opened es ps ≡ old → (null : ObjectId) (at : Path) → dirs_of old at ≡ assured_dirs [] null (dirs_of old) at
+assured_here old es ps view null [] = let root : dirs_of old [] ≡ Some es = level_root old es ps view in root ∙ ap (λ o. Some (or_empty o)) (sym root)
+assured_here old es ps view null (first ∷ at) = refl
+
+pub assured_fresh : (path : Path) (null : ObjectId) (at : Path) → assured_dirs path null (dirs_of (opened [] [])) at ≡ assured_dirs path null (λ _. None) at
+assured_fresh [] null [] = refl
+assured_fresh [] null (first ∷ at) = refl
+assured_fresh (name ∷ rest) null [] = refl
+assured_fresh (name ∷ rest) null (first ∷ at) = refl
+
+-- where a search for the first name of a path ended: what is open at and below the path
+module _ (old : Opened) (es : List EntryView) (cs l : List Child) (view : opened es (parts cs) ≡ old) (apart : EachLater (λ x y. x.0 ≢ y.0) (parts cs)) (path : Path) (name : List ℕ) (rest : Path) (path_is : path ≡ name ∷ rest) (same : l ≡ cs) where
+  pub path_down : (i : ℕ) (child : Child) → Some i ≡ position (called name) l → child ≡ get_or cs i child → (at : Path) → dirs_of old (path ++ at) ≡ dirs_of child.open (rest ++ at)
+  path_down i child found_at is at = rw path_is (level_at old es (parts cs) view apart name (rest ++ at) ∙ found name cs l i child same found_at is (rest ++ at))
+
+  pub place_down : (i : ℕ) (child : Child) → Some i ≡ position (called name) l → child ≡ get_or cs i child → dirs_of old path ≡ dirs_of child.open rest
+  place_down i child found_at is = rw path_is (level_at old es (parts cs) view apart name rest ∙ found name cs l i child same found_at is rest)
+
+  pub place_shut : None ≡ position (called name) l → dirs_of old path ≡ None
+  place_shut found_at = rw path_is (level_at old es (parts cs) view apart name rest ∙ not_found name cs l same found_at rest)
+
+  pub path_shut : None ≡ position (called name) l → (at : Path) → dirs_of old (path ++ at) ≡ None
+  path_shut found_at at = rw path_is (level_at old es (parts cs) view apart name (rest ++ at) ∙ not_found name cs l same found_at (rest ++ at))
+
+-- what follows from what a clause says where there is no value
+pub none_then : {X : Type 0} (r : Option X) {P Q : Type 0} → IfNone r P → (P → Q) → IfNone r Q
+none_then None h f = f h
+none_then (Some x) h f = tt

@@ -1,5 +1,5 @@
 //! Open directories, each with the open directories in it.
-ghost use Rattle.std.specs.Prelude.{◌≡◌, ◌≢◌, ◌<◌, ◌&&◌, true, false, IfNone, IfSome, Some, ◌∷◌, [], ◌++◌, IfOk, OnErr, OnOk, vec_capacity, vec_len};
+ghost use Rattle.std.specs.Prelude.{◌≡◌, ◌≢◌, ◌<◌, ◌&&◌, true, false, IfNone, IfSome, Some, ◌∷◌, [], ◌++◌, IfOk, List, None, OnErr, OnOk, vec_capacity, vec_len};
 ghost use Rattle.std.specs.List.{AllByRecursion, find, position};
 ghost use Rattle.std.specs.Option.{option_copied};
 ghost use Rattle.bstr.specs.Owned.{bstring_bytes};
@@ -106,6 +106,25 @@ impl Open {
         };
         let child = &self.children[place];
         child.open.tree(rest)
+    }
+
+    /// The open directory at a path; without names that is this one.
+    ///
+    /// It takes no memory.
+    pub fn directory(&self, path: &[BString]) -> Option<&Open>
+        ensures found { IfSome result (λ it. (at : Path) → dirs_of it.now at ≡ dirs_of self.now (names_of path.now ++ at)) }
+        ensures none { IfNone result ((at : Path) → dirs_of self.now (names_of path.now ++ at) ≡ None) }
+        ensures root { IfSome result (λ it. (entries : List EntryView) × (dirs_of it.now [] ≡ Some entries)) }
+    {
+        let _ = &self.tree;
+        let Some((name, rest)) = path.split_first() else {
+            return Some(self);
+        };
+        let Some(place) = child_at(&self.children, name) else {
+            return None;
+        };
+        let child = &self.children[place];
+        child.open.directory(rest)
     }
 
     /// The entry at a path, where the directory above it is open and has one. Without names there is none.
@@ -276,7 +295,7 @@ fn make_directory(tree: &mut Tree, name: &BString, null: ObjectId) -> Result<(),
 }
 
 /// Adds an open directory, with an entry for it.
-fn add_directory(
+pub(crate) fn add_directory(
     tree: &mut Tree,
     children: &mut Vec<Child>,
     name: &BString,

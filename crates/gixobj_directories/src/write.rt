@@ -1,17 +1,21 @@
 //! Open directories handed out, those in a directory before the directory itself.
-ghost use Rattle.std.specs.Prelude.{◌≡◌, ◌++◌, ◌∷◌, [], Err, IfErr, IfOk, List, Ok, OnErr, OnOk, ◌==◌, length};
+ghost use Rattle.std.specs.Prelude.{◌≡◌, ◌≢◌, ◌++◌, ◌∷◌, [], Err, IfErr, IfOk, List, None, Ok, OnErr, OnOk, ◌==◌, length};
 ghost use Rattle.std.specs.Fn.{CalledAt};
 ghost use Rattle.std.specs.List.{FoldsTo};
 ghost use Rattle.gixobj_trees.specs.Entries.{EntryView};
+ghost use Rattle.gixobj_files.specs.Edits.{only, with_path};
+ghost use Rattle.gixobj_files.specs.Files.{Path};
 ghost use Rattle.gixobj_files.specs.HandingOut.{HandsOut, Leaves, entry_with};
+ghost use Rattle.gixobj_files.specs.Opening.{in_path};
 ghost use Rattle.gixobj_files.specs.Tables.{Pair};
-ghost use Rattle.gixobj_directories.specs.Calls.{IsCallableOnTrees, IsStorable};
+ghost use Rattle.gixobj_directories.specs.Calls.{IsCallableOnTrees, IsStorable, names_of};
 ghost use Rattle.gixobj_directories.specs.Handing.{Stopped, Visits};
 ghost use Rattle.gixobj_directories.specs.Nested.{dirs_of, in_part, opened, parts};
 ghost use Rattle.gixobj_directories.specs.declared.write.WriteError.TheVariants.{OutOfMemory};
 
 use crate::entries::copy;
 use crate::open::{Child, Open, child_at, copy_tree};
+use bstr::BString;
 use gixobj_ids::hash::ObjectId;
 use gixobj_trees::Tree;
 use gixobj_trees::tree::Entry;
@@ -192,4 +196,29 @@ pub fn write_all<E, F: FnMut(&Tree) -> Result<ObjectId, E>>(
     let id = hand(own, out, &mut trees)?;
     *node = Open::new(alloc, root);
     Ok(Written { id, trees })
+}
+
+/// As [`write_all`], of the directory at a path, which must be open. All else stays open as it was.
+pub fn write_at<E, F: FnMut(&Tree) -> Result<ObjectId, E>>(
+    alloc: Global,
+    node: &mut Open,
+    path: &[BString],
+    out: &mut F,
+) -> Result<Written, WriteError<E>>
+    requires callable { IsCallableOnTrees F.pre (λ f p g. CalledAt F.FnMut f p.1 (Ok p.0) g) out.old }
+    requires is_open { dirs_of node.old (names_of path.now) ≢ None }
+    ensures ok { IfOk result (λ it. (below : List Pair) × (own : List EntryView) × Leaves (in_path (names_of path.now) (dirs_of node.old)) below own × (it.trees.items ≡ below ++ (it.id, own) ∷ [])
+        × FoldsTo (λ f p g. CalledAt F.FnMut f p.1 (Ok p.0) g) out.old (below ++ (it.id, own) ∷ []) out.new × IsStorable own
+        × ((at : Path) → dirs_of node.new at ≡ with_path (names_of path.now) (only own) (dirs_of node.old) at)) }
+    ensures stopped { IfErr result (Stopped (λ f p g. CalledAt F.FnMut f p.1 (Ok p.0) g) (λ f t e g. CalledAt F.FnMut f t (Err e) g) (HandsOut (in_path (names_of path.now) (dirs_of node.old))) out.old out.new) }
+    ensures unchanged { OnErr result (node.new ≡ node.old) }
+{
+    let Some((name, rest)) = path.split_first() else {
+        return write_all(alloc, node, out);
+    };
+    let Some(place) = child_at(&node.children, name) else {
+        unreachable!()
+    };
+    let child = &mut node.children[place];
+    write_at(alloc, &mut child.open, rest, out)
 }

@@ -1,0 +1,83 @@
+use Rattle.std.proofs.Common.{◌≡◌, ◌∙◌, ◌∷◌, Ok, Err, refl, rules, sym, ap, subst}
+use Rattle.std.specs.Fn.{CalledAt}
+use Rattle.std.proofs.lemmas.Result.{MatchResult-weaker}
+use Rattle.bstr.specs.Owned.{bstring_bytes}
+use Rattle.gixobj_files.specs.Edits.{only}
+use Rattle.gixobj_files.specs.Files.{Path}
+use Rattle.gixobj_files.specs.HandingOut.{Leaves}
+use Rattle.gixobj_files.specs.Opening.{Dirs, in_path}
+use Rattle.gixobj_directories.specs.Calls.{names_of}
+use Rattle.gixobj_directories.specs.Nested.{Opened, dirs_of, in_part, parts}
+use Rattle.gixobj_directories.proofs.Handing.{stopped_same}
+use Rattle.gixobj_directories.proofs.Levels.{found, level_set, set_becomes}
+use Rattle.gixobj_directories.proofs.OpeningSteps.{names_none, only_is}
+use Rattle.gixobj_directories.proofs.Steps.{path_down, place_down, place_shut, written_deeper}
+use Rattle.gixobj_directories.proofs.write.+write_at.Goals as goal
+
+pub returns-in_default-clause-ok : goal.returns-in_default-clause-ok
+returns-in_default-clause-ok g t c = MatchResult-weaker c.write_all.result c.write_all.ensures.ok (λ it ok.
+    let none = names_none c.args.path.now c.in_default.ensures.cases in
+    let dirs = dirs_of c.args.node.now in (
+      ok.0,
+      ok.1,
+      subst (λ (p : Path). Leaves (in_path p dirs) ok.0 ok.1) (sym none) ok.2,
+      ok.3,
+      ok.4,
+      ok.5,
+      λ at. rw none (ap (λ (ds : Opened). dirs_of ds at) ok.6 ∙ ap (λ (d : Dirs). d at) (only_is ok.1)),
+    )) (λ _ u. u)
+
+pub returns-in_default-clause-stopped : goal.returns-in_default-clause-stopped
+returns-in_default-clause-stopped g t c = MatchResult-weaker c.write_all.result c.write_all.ensures.stopped (λ _ u. u) (λ error stopped.
+    let none = names_none c.args.path.now c.in_default.ensures.cases in
+    let dirs = dirs_of c.args.node.now in
+    stopped_same (λ f p h. CalledAt g.F.FnMut f p.1 (Ok p.0) h) (λ f tree x h. CalledAt g.F.FnMut f tree (Err x) h) dirs (in_path (names_of c.args.path.now) dirs)
+    (sym (ap (λ (p : Path). in_path p dirs) none)) c.args.out.now c.write_all.new.out error stopped)
+
+pub invariant_of-node : goal.invariant_of-node
+invariant_of-node g t c = level_set c.node.inside.tree c.node.inside.children.items c.in-Some-child_at.place c.index_mut-child.result.now _ c.index_mut-child.ensures.value refl c.node.invariant
+
+pub write_at-requires : goal.write_at-requires
+write_at-requires g t c =
+    let there = place_down c.args.node.now c.node.inside.tree c.node.inside.children.items c.deref.result.now c.node.view_is c.node.invariant.apart (names_of c.args.path.now) (bstring_bytes c.in-Some.name.now) (names_of c.in-Some.rest.now) (ap names_of c.in-Some.ensures.cases.0) c.deref.ensures.value
+    c.in-Some-child_at.place c.index_mut-child.result.now (c.in-Some-child_at.ensures {u = tt}) c.index_mut-child.ensures.value in
+    λ κs lives. (search rules, (search rules, (search rules, (c.requires.callable, λ none. c.requires.is_open (there ∙ none)))))
+
+pub unreachable-requires : goal.unreachable-requires
+unreachable-requires g t c = c.requires.is_open
+    (place_shut c.args.node.now c.node.inside.tree c.node.inside.children.items c.deref.result.now c.node.view_is c.node.invariant.apart (names_of c.args.path.now) (bstring_bytes c.in-Some.name.now) (names_of c.in-Some.rest.now) (ap names_of c.in-Some.ensures.cases.0) c.deref.ensures.value
+    (c.in_default-child_at.ensures {u = tt}))
+
+pub returns-clause-ok : goal.returns-clause-ok
+returns-clause-ok g t c = MatchResult-weaker c.write_at.result c.write_at.ensures.ok (λ it ok.
+    let name = bstring_bytes c.in-Some.name.now in
+    let cs = c.node.inside.children.items in
+    let rest = names_of c.in-Some.rest.now in
+    let path : names_of c.args.path.now ≡ name ∷ rest = ap names_of c.in-Some.ensures.cases.0 in
+    let child = c.index_mut-child.result.now in
+    let here = c.in-Some-child_at.ensures {u = tt} in
+    let level = level_set c.node.inside.tree cs c.in-Some-child_at.place child (record { name = child.name; «open» = c.write_at.new.node }) c.index_mut-child.ensures.value refl c.node.invariant in
+    let was : in_part name (parts cs) ≡ dirs_of child.open = λ i at. found name cs c.deref.result.now c.in-Some-child_at.place child c.deref.ensures.value here c.index_mut-child.ensures.value at i in
+    let same : in_path (names_of c.args.path.now) (dirs_of c.args.node.now) ≡ in_path rest (dirs_of child.open) =
+    λ i at. path_down c.args.node.now c.node.inside.tree cs c.deref.result.now c.node.view_is c.node.invariant.apart (names_of c.args.path.now) name rest path c.deref.ensures.value c.in-Some-child_at.place child here c.index_mut-child.ensures.value at i in (
+      ok.0,
+      ok.1,
+      subst (λ (d : Dirs). Leaves d ok.0 ok.1) (sym same) ok.2,
+      ok.3,
+      ok.4,
+      ok.5,
+      rw path
+          (written_deeper c.args.node.now c.node.inside.tree c.node.inside.tree (parts cs) _ c.node.view_is c.node.invariant.apart level.apart name (dirs_of c.write_at.new.node)
+          (set_becomes name cs c.deref.result.now c.in-Some-child_at.place child _ c.deref.ensures.value here c.index_mut-child.ensures.value refl)
+          rest (only ok.1) refl (λ at. rw was (ok.6 at))),
+    )) (λ _ u. u)
+
+pub returns-clause-stopped : goal.returns-clause-stopped
+returns-clause-stopped g t c = MatchResult-weaker c.write_at.result c.write_at.ensures.stopped (λ _ u. u) (λ error stopped.
+    let child = c.index_mut-child.result.now in
+    let rest = names_of c.in-Some.rest.now in
+    let same : in_path rest (dirs_of child.open) ≡ in_path (names_of c.args.path.now) (dirs_of c.args.node.now) =
+    λ i at. sym (path_down c.args.node.now c.node.inside.tree c.node.inside.children.items c.deref.result.now c.node.view_is c.node.invariant.apart (names_of c.args.path.now) (bstring_bytes c.in-Some.name.now) rest (ap names_of c.in-Some.ensures.cases.0) c.deref.ensures.value
+    c.in-Some-child_at.place child (c.in-Some-child_at.ensures {u = tt}) c.index_mut-child.ensures.value at) i in
+    stopped_same (λ f p h. CalledAt g.F.FnMut f p.1 (Ok p.0) h) (λ f tree x h. CalledAt g.F.FnMut f tree (Err x) h) (in_path rest (dirs_of child.open)) (in_path (names_of c.args.path.now) (dirs_of c.args.node.now))
+    same c.args.out.now c.write_at.new.out error stopped)

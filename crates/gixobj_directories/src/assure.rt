@@ -1,0 +1,47 @@
+//! Making the directories on a path open directories.
+ghost use Rattle.std.specs.Prelude.{◌≡◌, None, OnErr, OnOk};
+ghost use Rattle.std.specs.List.{AllByRecursion};
+ghost use Rattle.gixobj_trees.specs.Entries.{IsEntryName};
+ghost use Rattle.gixobj_files.specs.Edits.{assured_dirs};
+ghost use Rattle.gixobj_files.specs.Files.{Path};
+ghost use Rattle.gixobj_directories.specs.Calls.{names_of};
+ghost use Rattle.gixobj_directories.specs.Nested.{dirs_of};
+
+use crate::open::{Open, add_directory, child_at};
+use bstr::BString;
+use gixobj_ids::hash::ObjectId;
+use gixobj_trees::Tree;
+use std::alloc::{AllocError, Global};
+
+impl Open {
+    /// Makes the directory at a path, and each one above it, an open directory. One that isn't open is opened
+    /// as empty: an entry of a tree's mode that is there stays, and else one with the id `null` is put in, in
+    /// place of any entry of that name. Without names nothing changes.
+    ///
+    /// It fails only where memory is wanting, and then nothing has changed; where the directory is open it
+    /// takes none.
+    pub fn assure(
+        &mut self,
+        alloc: Global,
+        path: &[BString],
+        null: ObjectId,
+    ) -> Result<(), AllocError>
+        requires { AllByRecursion IsEntryName (names_of path.now) }
+        ensures ok { OnOk result ((at : Path) → dirs_of self.new at ≡ assured_dirs (names_of path.now) null (dirs_of self.old) at) }
+        ensures unchanged { OnErr result (self.new ≡ self.old) }
+        ensures shut { OnErr result (dirs_of self.old (names_of path.now) ≡ None) }
+    {
+        let _ = &self.tree;
+        let Some((name, rest)) = path.split_first() else {
+            return Ok(());
+        };
+        let Some(place) = child_at(&self.children, name) else {
+            let mut inner = Open::new(alloc, Tree::empty(alloc));
+            inner.assure(alloc, rest, null)?;
+            add_directory(&mut self.tree, &mut self.children, name, null, inner)?;
+            return Ok(());
+        };
+        let child = &mut self.children[place];
+        child.open.assure(alloc, rest, null)
+    }
+}
