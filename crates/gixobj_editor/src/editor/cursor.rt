@@ -76,7 +76,8 @@ impl<S: Find> Editor<S> {
     /// well-formed tree, or whose lookup fails; `OutOfMemory` where memory was wanting, which is taken only where the
     /// directory isn't open. A refusal leaves the files as they were; what was opened on the way stays open.
     pub fn cursor_at<'a>(&'a mut self, path: &'a [BString]) -> Result<Cursor<'a, S>, Error>
-        ensures* refused { sem 𝓛 (RestsIfErr (the_row S.row) self.entry (λ c. c.editor.ghost_name) result (λ left. (trees : Trees) → AreTreesOf (S.objects self.old.store) trees → IsRefused trees self.old (inside (prefix_of (names_of path.now))) left)) }
+        ensures* refused { sem 𝓛 (RestsIfErr (the_row S.row) self.entry (λ c. c.editor.ghost_name) result (λ left. ((trees : Trees) → AreTreesOf (S.objects self.old.store) trees → IsRefused trees self.old (inside (prefix_of (names_of path.now))) left)
+            × IfErr result (λ error. IsForAName error → left ≡ self.old))) }
         ensures same_reference { IfOk result (λ c. c.editor.ghost_name ≡ self.entry.ghost_name) }
         ensures prefix { IfOk result (λ c. names_of c.prefix.now ≡ prefix_of (names_of path.now)) }
         ensures assured { IfOk result (λ c. (trees : Trees) → AreTreesOf (S.objects self.old.store) trees → IsAssured trees self.old (prefix_of (names_of path.now)) c.editor.now) }
@@ -96,6 +97,7 @@ impl<S: Find> Editor<S> {
         ensures assured { OnOk result ((trees : Trees) → AreTreesOf (S.objects self.old.store) trees → IsAssured trees self.old (prefix_of (names_of path.now)) self.new) }
         ensures refused { OnErr result ((trees : Trees) → AreTreesOf (S.objects self.old.store) trees → IsRefused trees self.old (inside (prefix_of (names_of path.now))) self.new) }
         ensures refusal { IfErr result (λ error. (trees : Trees) → AreTreesOf (S.objects self.old.store) trees → RefusesCursor (S.objects self.old.store) (S.may_fail self.old.store) trees (open_dirs self.old) (prefix_of (names_of path.now)) error) }
+        ensures unasked { IfErr result (λ error. IsForAName error → self.new ≡ self.old) }
     {
         let prefix = without_a_single_empty_name(path);
         self.assure(prefix)?;
