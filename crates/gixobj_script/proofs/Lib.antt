@@ -1,0 +1,4 @@
+mod Cuts
+mod LineTexts
+mod Reading
+mod Readings

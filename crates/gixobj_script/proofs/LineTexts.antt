@@ -1,0 +1,235 @@
+-- Lines of scripts: which text is no command's, and that a text is that of one command at most.
+use Rattle.std.proofs.Common.{◌≡◌, ◌≢◌, ◌∷◌, ◌==◌, ℕ, List, [], ap, codes, eq-eqb, false, true, if◌then◌else◌, inl, inr, refl, slice_index, subst, sym, ◌∙◌}
+use Rattle.std.proofs.lemmas.Bool.{true≢false}
+use Rattle.std.proofs.lemmas.List.Elements.{All-weaker}
+use Rattle.std.proofs.lemmas.List.{append_cancel_left}
+use Rattle.std.proofs.Math.Decide.{ℕ_discrete}
+use Rattle.hex.specs.Hex.{is_hex_digit}
+use Rattle.gixobj_commands.specs.Views.{CommandView, EditView, edits_at, one_edit, remove, remove_leaf, set_root, upsert, write}
+use Rattle.gixobj_ids.specs.declared.hash.kind.Kind as hash
+use Rattle.gixobj_ids.specs.declared.hash.object_id.ObjectId.{ObjectId}
+use Rattle.gixobj_script.proofs.Cuts.{one_way, parts_of}
+use Rattle.gixobj_script.specs.Lines.{HasCommand, HasEdit, HasNoCommand, HasNoEdit, IsCommandText, IsEditAt, IsEditText, IsEntryAt, IsHexOfId, word_and}
+use Rattle.gixobj_script.specs.Paths.{ArePathNames, dot}
+use Rattle.gixobj_texts.proofs.Splits.{free_by_test, free_of_cut, one_cut}
+use Rattle.gixobj_texts.specs.Bytes.{slash}
+use Rattle.gixobj_texts.specs.Parse.{IsFree, SplitsAt}
+use Rattle.gixobj_trees.specs.Mode.{entry_word}
+use Rattle.gixobj_trees.specs.declared.tree.entry_kind.EntryKind.{EntryKind}
+use Rattle.gixobj_trees.specs.declared.tree.entry_kind.EntryKind.TheVariants.{Blob, BlobExecutable, Commit, Link, Tree}
+
+-- ---- the names of a path
+
+-- of a path that isn't a dot
+pub names_unless_dot : (path : List ℕ) → path ≢ dot → (names : List (List ℕ)) × ArePathNames path names
+names_unless_dot path other = (let (names, cut) = parts_of slash path in (names, inr (other, cut)))
+
+-- of every path
+pub names_of : (path : List ℕ) → (names : List (List ℕ)) × ArePathNames path names
+names_of [] = names_unless_dot [] (λ same. cc same)
+names_of (x ∷ y ∷ path) = names_unless_dot (x ∷ y ∷ path) (λ same. cc same)
+names_of (x ∷ []) =
+    elim (ℕ_discrete x 46) [
+      | yes same ↦ ([], inl (ap (λ (it : ℕ). it ∷ []) same, refl))
+      | no other ↦ names_unless_dot (x ∷ []) (λ same. other (cc same))
+    ]
+
+pub one_path : (path : List ℕ) (a b : List (List ℕ)) → ArePathNames path a → ArePathNames path b → a ≡ b
+one_path path a b (inl (is, none)) (inl (too, nothing)) = none ∙ sym nothing
+one_path path a b (inl (is, none)) (inr (other, cut)) = absurd (other is)
+one_path path a b (inr (other, cut)) (inl (is, none)) = absurd (other is)
+one_path path a b (inr (other, cut)) (inr (too, again)) = one_way slash path a b cut again
+
+-- ---- `KIND HEX PATH`
+
+word_free : (kind : EntryKind) → IsFree 32 (entry_word kind)
+word_free Tree = free_by_test 32 (entry_word Tree) refl
+word_free Blob = free_by_test 32 (entry_word Blob) refl
+word_free BlobExecutable = free_by_test 32 (entry_word BlobExecutable) refl
+word_free Link = free_by_test 32 (entry_word Link) refl
+word_free Commit = free_by_test 32 (entry_word Commit) refl
+
+-- the kind that a kind's word names, by its first byte
+kind_of_word : List ℕ → EntryKind
+kind_of_word word =
+    let first = slice_index word 0 in
+    if first == 116 then Tree else if first == 98 then Blob else if first == 101 then BlobExecutable else if first == 108 then Link else Commit
+
+kind_of_word-entry_word : (kind : EntryKind) → kind_of_word (entry_word kind) ≡ kind
+unfolding kind_of_word
+kind_of_word-entry_word Tree = refl
+kind_of_word-entry_word Blob = refl
+kind_of_word-entry_word BlobExecutable = refl
+kind_of_word-entry_word Link = refl
+kind_of_word-entry_word Commit = refl
+
+one_kind : (a b : EntryKind) → entry_word a ≡ entry_word b → a ≡ b
+one_kind a b same = sym (kind_of_word-entry_word a) ∙ ap kind_of_word same ∙ kind_of_word-entry_word b
+
+no_space_digit : (byte : ℕ) → is_hex_digit byte ≡ true → byte ≢ 32
+no_space_digit byte digit = λ same. true≢false (sym digit ∙ ap is_hex_digit same)
+
+hex_free : (hash : hash.Kind) (hex : List ℕ) (id : ObjectId) → IsHexOfId hash hex id → IsFree 32 hex
+hex_free hash hex id is = All-weaker (λ (it : ℕ). is_hex_digit it ≡ true) (λ (it : ℕ). it ≢ 32) no_space_digit hex is.0.1
+
+-- what stands in front of the first space is the kind's word
+parted : (hash : hash.Kind) (entry word behind : List ℕ) (kind : EntryKind) (id : ObjectId) (path : List ℕ) → SplitsAt 32 entry word behind → (is : IsEntryAt hash entry kind id path)
+    → (word ≡ entry_word kind) × (behind ≡ word_and is.hex path)
+parted hash entry word behind kind id path splits is =
+    one_cut 32 word behind (entry_word kind) (word_and is.hex path) splits.first (word_free kind) (sym splits.joined ∙ is.joined)
+
+-- and what stands in front of the second the hex text
+parted_twice : (hash : hash.Kind) (entry word behind hex rest : List ℕ) (kind : EntryKind) (id : ObjectId) (path : List ℕ) → SplitsAt 32 entry word behind → SplitsAt 32 behind hex rest
+    → (is : IsEntryAt hash entry kind id path) → (hex ≡ is.hex) × (rest ≡ path)
+parted_twice hash entry word behind hex rest kind id path splits again is =
+    one_cut 32 hex rest is.hex path again.first (hex_free hash is.hex id is.spells) (sym again.joined ∙ (parted hash entry word behind kind id path splits is).1)
+
+pub no_space : (hash : hash.Kind) (entry : List ℕ) → IsFree 32 entry → (kind : EntryKind) (id : ObjectId) (path : List ℕ) → IsEntryAt hash entry kind id path → ⊥
+no_space hash entry free = λ kind id path is. free_of_cut 32 (entry_word kind) (word_and is.hex path) (subst (IsFree 32) is.joined free)
+
+pub no_kind : (hash : hash.Kind) (entry word behind : List ℕ) → SplitsAt 32 entry word behind → ((kind : EntryKind) → word ≡ entry_word kind → ⊥)
+    → (kind : EntryKind) (id : ObjectId) (path : List ℕ) → IsEntryAt hash entry kind id path → ⊥
+no_kind hash entry word behind splits none = λ kind id path is. none kind (parted hash entry word behind kind id path splits is).0
+
+pub no_second_space : (hash : hash.Kind) (entry word behind : List ℕ) → SplitsAt 32 entry word behind → IsFree 32 behind → (kind : EntryKind) (id : ObjectId) (path : List ℕ) → IsEntryAt hash entry kind id path → ⊥
+no_second_space hash entry word behind splits free = λ kind id path is.
+    free_of_cut 32 is.hex path (subst (IsFree 32) (parted hash entry word behind kind id path splits is).1 free)
+
+pub no_id : (hash : hash.Kind) (entry word behind hex rest : List ℕ) → SplitsAt 32 entry word behind → SplitsAt 32 behind hex rest → ((id : ObjectId) → IsHexOfId hash hex id → ⊥)
+    → (kind : EntryKind) (id : ObjectId) (path : List ℕ) → IsEntryAt hash entry kind id path → ⊥
+no_id hash entry word behind hex rest splits again none = λ kind id path is.
+    let same = (parted_twice hash entry word behind hex rest kind id path splits again is).0 in
+    let P : List ℕ → Type 0 = λ it. IsHexOfId hash it id in
+    none id (subst P (sym same) is.spells)
+
+one_entry : (hash : hash.Kind) (entry : List ℕ) (kind kind' : EntryKind) (id id' : ObjectId) (path path' : List ℕ) → IsEntryAt hash entry kind id path → IsEntryAt hash entry kind' id' path' → (kind ≡ kind') × (id ≡ id') × (path ≡ path')
+one_entry hash entry kind kind' id id' path path' first second =
+    let words = one_cut 32 (entry_word kind) (word_and first.hex path) (entry_word kind') (word_and second.hex path') (word_free kind) (word_free kind') (sym first.joined ∙ second.joined) in
+    let texts = one_cut 32 first.hex path second.hex path' (hex_free hash first.hex id first.spells) (hex_free hash second.hex id' second.spells) words.1 in
+    (one_kind kind kind' words.0, cc (first.spells.1, second.spells.1, texts.0), texts.1)
+
+-- ---- words
+
+-- what follows the same word is the same
+after_word : (word a b : List ℕ) → word_and word a ≡ word_and word b → a ≡ b
+after_word word a b same = (let tails : 32 ∷ a ≡ 32 ∷ b = append_cancel_left word (32 ∷ a) (32 ∷ b) same in cc tails)
+
+-- texts that begin otherwise differ
+apart : (x y : ℕ) (a b : List ℕ) → (x == y) ≡ false → x ∷ a ≡ y ∷ b → ⊥
+apart x y a b other same = (let heads : x ≡ y = cc same in true≢false (sym (eq-eqb x y heads) ∙ other))
+
+apart_at_second : (z x y : ℕ) (a b : List ℕ) → (x == y) ≡ false → z ∷ x ∷ a ≡ z ∷ y ∷ b → ⊥
+apart_at_second z x y a b other same = (let tails : x ∷ a ≡ y ∷ b = cc same in apart x y a b other tails)
+
+-- ---- edits
+
+pub no_upsert : (hash : hash.Kind) (entry : List ℕ) → ((kind : EntryKind) (id : ObjectId) (path : List ℕ) → IsEntryAt hash entry kind id path → ⊥) → HasNoEdit hash (word_and (codes "upsert") entry)
+no_upsert hash entry none (upsert names kind id) (other, path, joined, is, are) =
+    let P : List ℕ → Type 0 = λ it. IsEntryAt hash it kind id path in
+    none kind id path (subst P (sym (after_word (codes "upsert") entry other joined)) is)
+no_upsert hash entry none (remove names) (path, joined, are) = apart 117 114 _ _ refl joined
+no_upsert hash entry none (remove_leaf names) (path, joined, are) = apart 117 108 _ _ refl joined
+no_upsert hash entry none write joined = apart 117 119 _ _ refl joined
+
+pub an_upsert : (hash : hash.Kind) (entry : List ℕ) (kind : EntryKind) (id : ObjectId) (path : List ℕ) → IsEntryAt hash entry kind id path → HasEdit hash (word_and (codes "upsert") entry)
+an_upsert hash entry kind id path is = (let (names, are) = names_of path in (upsert names kind id, (entry, path, refl, is, are)))
+
+pub a_removal : (hash : hash.Kind) (text path : List ℕ) → text ≡ word_and (codes "remove") path → HasEdit hash text
+a_removal hash text path joined = (let (names, are) = names_of path in (remove names, (path, joined, are)))
+
+pub a_leaf_removal : (hash : hash.Kind) (text path : List ℕ) → text ≡ word_and (codes "leaf") path → HasEdit hash text
+a_leaf_removal hash text path joined = (let (names, are) = names_of path in (remove_leaf names, (path, joined, are)))
+
+one_edit_text : (hash : hash.Kind) (text : List ℕ) (a b : EditView) → IsEditText hash text a → IsEditText hash text b → a ≡ b
+one_edit_text hash text (upsert names kind id) (upsert names' kind' id') (entry, path, joined, is, are) (entry', path', joined', is', are') =
+    let same = after_word (codes "upsert") entry' entry (sym joined' ∙ joined) in
+    let P : List ℕ → Type 0 = λ it. IsEntryAt hash it kind' id' path' in
+    let parts = one_entry hash entry kind kind' id id' path path' is (subst P same is') in
+    let Q : List ℕ → Type 0 = λ it. ArePathNames it names' in
+    let names_are = one_path path names names' are (subst Q (sym parts.2) are') in
+    cc (parts.0, parts.1, names_are)
+one_edit_text hash text (remove names) (remove names') (path, joined, are) (path', joined', are') =
+    let same = after_word (codes "remove") path' path (sym joined' ∙ joined) in
+    let Q : List ℕ → Type 0 = λ it. ArePathNames it names' in
+    ap remove (one_path path names names' are (subst Q same are'))
+one_edit_text hash text (remove_leaf names) (remove_leaf names') (path, joined, are) (path', joined', are') =
+    let same = after_word (codes "leaf") path' path (sym joined' ∙ joined) in
+    let Q : List ℕ → Type 0 = λ it. ArePathNames it names' in
+    ap remove_leaf (one_path path names names' are (subst Q same are'))
+one_edit_text hash text write write is too = refl
+one_edit_text hash text (upsert names kind id) (remove names') (entry, path, joined, is, are) (path', joined', are') = absurd (apart 117 114 _ _ refl (sym joined ∙ joined'))
+one_edit_text hash text (upsert names kind id) (remove_leaf names') (entry, path, joined, is, are) (path', joined', are') = absurd (apart 117 108 _ _ refl (sym joined ∙ joined'))
+one_edit_text hash text (upsert names kind id) write (entry, path, joined, is, are) joined' = absurd (apart 117 119 _ _ refl (sym joined ∙ joined'))
+one_edit_text hash text (remove names) (upsert names' kind id) (path, joined, are) (entry, path', joined', is, are') = absurd (apart 114 117 _ _ refl (sym joined ∙ joined'))
+one_edit_text hash text (remove names) (remove_leaf names') (path, joined, are) (path', joined', are') = absurd (apart 114 108 _ _ refl (sym joined ∙ joined'))
+one_edit_text hash text (remove names) write (path, joined, are) joined' = absurd (apart 114 119 _ _ refl (sym joined ∙ joined'))
+one_edit_text hash text (remove_leaf names) (upsert names' kind id) (path, joined, are) (entry, path', joined', is, are') = absurd (apart 108 117 _ _ refl (sym joined ∙ joined'))
+one_edit_text hash text (remove_leaf names) (remove names') (path, joined, are) (path', joined', are') = absurd (apart 108 114 _ _ refl (sym joined ∙ joined'))
+one_edit_text hash text (remove_leaf names) write (path, joined, are) joined' = absurd (apart 108 119 _ _ refl (sym joined ∙ joined'))
+one_edit_text hash text write (upsert names kind id) joined (entry, path, joined', is, are) = absurd (apart 119 117 _ _ refl (sym joined ∙ joined'))
+one_edit_text hash text write (remove names) joined (path, joined', are) = absurd (apart 119 114 _ _ refl (sym joined ∙ joined'))
+one_edit_text hash text write (remove_leaf names) joined (path, joined', are) = absurd (apart 119 108 _ _ refl (sym joined ∙ joined'))
+
+-- ---- commands
+
+-- the text of an edit begins with none of the other commands' words
+at_is_no_edit : (hash : hash.Kind) (rest : List ℕ) → HasNoEdit hash (word_and (codes "at") rest)
+at_is_no_edit hash rest (upsert names kind id) (entry, path, joined, is, are) = apart 97 117 _ _ refl joined
+at_is_no_edit hash rest (remove names) (path, joined, are) = apart 97 114 _ _ refl joined
+at_is_no_edit hash rest (remove_leaf names) (path, joined, are) = apart 97 108 _ _ refl joined
+at_is_no_edit hash rest write joined = apart 97 119 _ _ refl joined
+
+root_is_no_edit : (hash : hash.Kind) → HasNoEdit hash (codes "root")
+root_is_no_edit hash (upsert names kind id) (entry, path, joined, is, are) = apart 114 117 _ _ refl joined
+root_is_no_edit hash (remove names) (path, joined, are) = apart_at_second 114 111 101 _ _ refl joined
+root_is_no_edit hash (remove_leaf names) (path, joined, are) = apart 114 108 _ _ refl joined
+root_is_no_edit hash write joined = apart 114 119 _ _ refl joined
+
+-- a text that begins with `at` is no command's where none stands at a prefix
+none_at : (hash : hash.Kind) (text : List ℕ) → ((names : List (List ℕ)) (edits : List EditView) → IsEditAt hash text names edits → ⊥) → HasNoCommand hash (word_and (codes "at") text)
+none_at hash text none (one_edit edit) is = at_is_no_edit hash text edit is
+none_at hash text none (edits_at names edits) (rest, joined, is) =
+    let P : List ℕ → Type 0 = λ it. IsEditAt hash it names edits in
+    none names edits (subst P (sym (after_word (codes "at") text rest joined)) is)
+none_at hash text none (set_root entries) (joined, empty) = apart 97 114 _ _ refl joined
+
+pub none_without_space : (hash : hash.Kind) (text : List ℕ) → IsFree 32 text → HasNoCommand hash (word_and (codes "at") text)
+none_without_space hash text free = none_at hash text (λ names edits is. free_of_cut 32 is.prefix is.rest (subst (IsFree 32) is.joined free))
+
+pub none_without_edit : (hash : hash.Kind) (text prefix rest : List ℕ) → SplitsAt 32 text prefix rest → HasNoEdit hash rest → HasNoCommand hash (word_and (codes "at") text)
+none_without_edit hash text prefix rest splits none =
+    none_at hash text (λ names edits is.
+    let cut = one_cut 32 prefix rest is.prefix is.rest splits.first is.no_space (sym splits.joined ∙ is.joined) in
+    let P : List ℕ → Type 0 = λ it. IsEditText hash it is.edit in
+    none is.edit (subst P (sym cut.1) is.is))
+
+pub an_edit_at : (hash : hash.Kind) (text prefix rest : List ℕ) → SplitsAt 32 text prefix rest → HasEdit hash rest → HasCommand hash (word_and (codes "at") text)
+an_edit_at hash text prefix rest splits (edit, is) =
+    let (names, are) = names_of prefix in
+    (edits_at names (edit ∷ []), (text, refl, record { prefix = prefix; rest = rest; edit = edit; joined = splits.joined; no_space = splits.first; names_of_prefix = are; one = refl; is = is }))
+
+pub an_edit : (hash : hash.Kind) (text : List ℕ) → HasEdit hash text → HasCommand hash text
+an_edit hash text (edit, is) = (one_edit edit, is)
+
+one_edit_at : (hash : hash.Kind) (text : List ℕ) (names names' : List (List ℕ)) (edits edits' : List EditView) → IsEditAt hash text names edits → IsEditAt hash text names' edits' → (names ≡ names') × (edits ≡ edits')
+one_edit_at hash text names names' edits edits' first second =
+    let cut = one_cut 32 first.prefix first.rest second.prefix second.rest first.no_space second.no_space (sym first.joined ∙ second.joined) in
+    let P : List ℕ → Type 0 = λ it. IsEditText hash it second.edit in
+    let Q : List ℕ → Type 0 = λ it. ArePathNames it names' in
+    let edit = one_edit_text hash first.rest first.edit second.edit first.is (subst P (sym cut.1) second.is) in
+    (one_path first.prefix names names' first.names_of_prefix (subst Q (sym cut.0) second.names_of_prefix), cc (first.one, second.one, edit))
+
+pub one_command : (hash : hash.Kind) (text : List ℕ) (a b : CommandView) → IsCommandText hash text a → IsCommandText hash text b → a ≡ b
+one_command hash text (one_edit edit) (one_edit edit') is is' = ap one_edit (one_edit_text hash text edit edit' is is')
+one_command hash text (edits_at names edits) (edits_at names' edits') (rest, joined, is) (rest', joined', is') =
+    let same = after_word (codes "at") rest' rest (sym joined' ∙ joined) in
+    let P : List ℕ → Type 0 = λ it. IsEditAt hash it names' edits' in
+    let parts = one_edit_at hash rest names names' edits edits' is (subst P same is') in
+    cc (parts.0, parts.1)
+one_command hash text (set_root entries) (set_root entries') (joined, empty) (joined', empty') = ap set_root (empty ∙ sym empty')
+one_command hash text (one_edit edit) (edits_at names edits) is (rest, joined, is') = (let P : List ℕ → Type 0 = λ it. IsEditText hash it edit in absurd (at_is_no_edit hash rest edit (subst P joined is)))
+one_command hash text (one_edit edit) (set_root entries) is (joined, empty) = (let P : List ℕ → Type 0 = λ it. IsEditText hash it edit in absurd (root_is_no_edit hash edit (subst P joined is)))
+one_command hash text (edits_at names edits) (one_edit edit) (rest, joined, is) is' = (let P : List ℕ → Type 0 = λ it. IsEditText hash it edit in absurd (at_is_no_edit hash rest edit (subst P joined is')))
+one_command hash text (edits_at names edits) (set_root entries) (rest, joined, is) (joined', empty) = absurd (apart 97 114 _ _ refl (sym joined ∙ joined'))
+one_command hash text (set_root entries) (one_edit edit) (joined, empty) is = (let P : List ℕ → Type 0 = λ it. IsEditText hash it edit in absurd (root_is_no_edit hash edit (subst P joined is)))
+one_command hash text (set_root entries) (edits_at names edits) (joined, empty) (rest, joined', is) = absurd (apart 114 97 _ _ refl (sym joined ∙ joined'))

@@ -1,0 +1,5 @@
+pub mod Answers
+pub mod Cuts
+pub mod Lines
+pub mod Paths
+pub mod Scripts

@@ -1,0 +1,84 @@
+//! The lines of answers.
+
+use super::{Answer, Refusal, answer_lines};
+use bstr::BString;
+use gixobj_ids::hash::ObjectId;
+use std::test::Fail;
+
+const WITH_THREE: &[u8] = b"3c4e9cd789d88d8d89c1073707c3585e41b0e614";
+
+const DIRECTORY: &[u8] = b"d8329fc1cc938780ffdd9f94e0d364e0ea74f579";
+
+const WITH_TWO: &[u8] = b"0155eb4229851634a0f03eb265b69f5a2d56f341";
+
+#[test]
+fn answers_to_a_script(rt: HostRuntime) -> Result<(), Fail> {
+    let with_three = ObjectId::from_hex(WITH_THREE).ok_or("an id")?;
+    let answers = [
+        Answer::Done,
+        Answer::Done,
+        Answer::Done,
+        Answer::Wrote(with_three, 2),
+        Answer::Done,
+        Answer::Wrote(with_three, 2),
+        Answer::Wrote(ObjectId::from_hex(DIRECTORY).ok_or("an id")?, 1),
+        Answer::Done,
+        Answer::Wrote(ObjectId::from_hex(WITH_TWO).ok_or("an id")?, 1),
+        Answer::Refused(Refusal::EmptyName),
+    ];
+    let lines = "ok
+ok
+ok
+wrote 3c4e9cd789d88d8d89c1073707c3585e41b0e614 2
+ok
+wrote 3c4e9cd789d88d8d89c1073707c3585e41b0e614 2
+wrote d8329fc1cc938780ffdd9f94e0d364e0ea74f579 1
+ok
+wrote 0155eb4229851634a0f03eb265b69f5a2d56f341 1
+refused 1
+lookups 2
+";
+    assert_eq!(rt;
+        answer_lines(rt.alloc(), &answers, 2)?.as_slice(),
+        lines.as_bytes()
+    );
+    Ok(())
+}
+
+#[test]
+fn other_answers(rt: HostRuntime) -> Result<(), Fail> {
+    let alloc = rt.alloc();
+    let answers = [
+        Answer::Refused(Refusal::SlashInName),
+        Answer::Refused(Refusal::DirectoryNotFound),
+        Answer::Refused(Refusal::Directory(BString::from_slice(alloc, b"a")?)),
+        Answer::Refused(Refusal::Directory(BString::from_slice(alloc, b"a b/c")?)),
+        Answer::Refused(Refusal::MalformedTree),
+        Answer::Refused(Refusal::OutOfMemory),
+        Answer::RefusedOut,
+        Answer::RefusedMemory,
+        Answer::Unkept(ObjectId::from_hex(WITH_TWO).ok_or("an id")?),
+        Answer::Wrote(ObjectId::from_hex(WITH_TWO).ok_or("an id")?, usize::MAX),
+    ];
+    let lines = "refused 2
+refused 3
+refused 4 a
+refused 4 a b/c
+refused 5
+refused 6
+refused out
+refused memory
+unkept 0155eb4229851634a0f03eb265b69f5a2d56f341
+wrote 0155eb4229851634a0f03eb265b69f5a2d56f341 18446744073709551615
+lookups 18446744073709551615
+";
+    assert_eq!(rt;
+        answer_lines(alloc, &answers, u64::MAX)?.as_slice(),
+        lines.as_bytes()
+    );
+    assert_eq!(rt;
+        answer_lines(alloc, &[], 0)?.as_slice(),
+        b"lookups 0\n".as_slice()
+    );
+    Ok(())
+}
