@@ -1,13 +1,21 @@
 -- The map of the store in memory, read and written.
-use Rattle.std.proofs.Common.{◌≡◌, ℕ, Bool, List, Some, true, false, ap, refl, sym, ◌∙◌}
+use Rattle.std.proofs.Common.{◌≡◌, ◌++◌, ℕ, Bool, List, [], Some, true, false, ap, refl, sym, ◌∙◌}
 use Rattle.std.specs.BTreeMap.{Updates, get, is_at}
 use Rattle.std.specs.FinMap as finite
 use Rattle.std.specs.Option.{option_map}
 use Rattle.std.specs.Prelude.{Option, cond}
+use Rattle.std.specs.declared.alloc.Global.{Global}
+use Rattle.std.specs.declared.vec.Vec.{Vec}
 use Rattle.gixobj_data.proofs.Keeping.{looked_up, put_in}
 use Rattle.gixobj_data.specs.Stores.{StoredObject, named}
+use Rattle.gixobj_ids.specs.Hash.{id_kind}
 use Rattle.gixobj_ids.specs.Hash.Order.{id_cmp}
+use Rattle.gixobj_ids.specs.declared.hash.kind.Kind.{Kind}
 use Rattle.gixobj_ids.specs.declared.hash.object_id.ObjectId.{ObjectId}
+use Rattle.gixobj_ids.specs.declared.kind.Kind.TheVariants.{Tree}
+use Rattle.gixobj_keeping.specs.Keeping.{tree_object, with_tree}
+use Rattle.gixobj_trees.specs.Entries.{EntryView}
+use Rattle.gixobj_trees.specs.TreeText.{tree_text}
 use Rattle.gixobj_store.specs.Memory.{memory_objects, stored_object}
 use Rattle.gixobj_store.specs.declared.Memory.{Memory}
 use Rattle.gixobj_store.specs.declared.Stored.{Stored}
@@ -32,3 +40,11 @@ same_object it bytes same i = record { kind = it.kind; object_hash = it.object_h
 pub put_object : (before after : Memory) (id : ObjectId) (it : Stored) (bytes : List ℕ) → Updates id_cmp before.objects after.objects id (Some it) → it.bytes.items ≡ bytes
     → memory_objects after ≡ finite.insert (memory_objects before) id (record { kind = it.kind; object_hash = it.object_hash; bytes = bytes })
 put_object before after id it bytes updates same = put before after id it updates ∙ ap (finite.insert (memory_objects before) id) (same_object it bytes same)
+
+-- a tree was put in as it is written
+pub put_tree : (before after : Memory) (id : ObjectId) (tree : List EntryView) (hash : Kind) (front : List ℕ) (bytes : Vec ℕ Global) → hash ≡ id_kind id → front ≡ [] → bytes.items ≡ front ++ tree_text tree
+    → Updates id_cmp before.objects after.objects id (Some (record { kind = Tree; object_hash = hash; bytes = bytes })) → memory_objects after ≡ with_tree (id, tree) (memory_objects before)
+put_tree before after id tree hash front bytes same_hash none written updates =
+    let same : bytes.items ≡ tree_text tree = written ∙ ap (λ (start : List ℕ). start ++ tree_text tree) none in
+    let same_object : ◌≡◌ {A = StoredObject} (record { kind = Tree; object_hash = hash; bytes = bytes.items }) (tree_object id tree) = λ i. record { kind = Tree; object_hash = same_hash i; bytes = same i } in
+    put before after id (record { kind = Tree; object_hash = hash; bytes = bytes }) updates ∙ ap (finite.insert (memory_objects before) id) same_object

@@ -1,17 +1,21 @@
 //! A store of objects in memory.
 #![tactic(auto)]
 
-ghost use Rattle.std.specs.Prelude.{◌≡◌, IfErr, IfOk, IsOk, IsSome, OnErr, is_some};
+ghost use Rattle.std.specs.Prelude.{◌≡◌, ◌⊎◌, IfErr, IfOk, IsOk, IsSome, OnErr, is_some};
 ghost use Rattle.std.specs.FinMap as map;
 ghost use Rattle.gixobj_data.specs.Stores.{IsFound, IsHeaderFound, named};
 ghost use Rattle.gixobj_data.specs.declared.find.Error.TheVariants as refusal;
 ghost use Rattle.gixobj_ids.specs.Hash.{id_of};
 ghost use Rattle.gixobj_ids.specs.Hash.Borrowed.{borrowed_id};
-ghost use Rattle.gixobj_store.specs.Memory.{memory_objects};
+ghost use Rattle.gixobj_store.specs.Memory.{IsForAValue, memory_objects};
 
+use bstr::BString;
 use gixobj_data::{Data, Exists, Find, FindHeader, Store, find};
+use gixobj_fields::{WriteTo, encode};
 use gixobj_ids::hash::{ObjectId, oid};
 use gixobj_ids::{Header, Kind, OutOfMemory, compute_hash, hash};
+use gixobj_keeping::{Keep, KeepError};
+use gixobj_trees::Tree;
 use std::alloc::Global;
 use std::collections::BTreeMap;
 
@@ -117,5 +121,36 @@ impl Exists for Memory {
         ensures { result ≡ is_some (named (memory_objects self.now) (borrowed_id id.entry)) }
     {
         self.objects.contains_key(&id.to_owned())
+    }
+}
+
+/// Only a tree with a zero byte in a name can't be kept, but for want of memory.
+impl Keep for Memory {
+    fn keep(&mut self, id: ObjectId, tree: &Tree) -> Result<(), KeepError> {
+        let mut bytes = Vec::new(self.alloc);
+        match tree.write_to_vec(self.alloc, &mut bytes) {
+            Ok(()) => {}
+            Err(error) => return Err(unwritten(self.alloc, error)),
+        }
+        let written = Stored {
+            kind: Kind::Tree,
+            object_hash: id.kind(),
+            bytes,
+        };
+        self.objects.insert(id, written)?;
+        Ok(())
+    }
+}
+
+/// Why a tree that wasn't written isn't kept: for a name of it, or else for want of memory.
+fn unwritten(alloc: Global, error: encode::Error) -> KeepError
+    ensures { IsForAValue error ⊎ (result ≡ KeepError.OutOfMemory) }
+{
+    match error {
+        encode::Error::Writer(_) | encode::Error::OutOfMemory => KeepError::OutOfMemory,
+        _ => match BString::from_slice(alloc, b"a file name with a zero byte") {
+            Ok(message) => KeepError::Store(message),
+            Err(_) => KeepError::OutOfMemory,
+        },
     }
 }

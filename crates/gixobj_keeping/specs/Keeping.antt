@@ -1,0 +1,50 @@
+-- What keeping trees makes of a store, and what stops it.
+use Rattle.std.specs.Prelude.{◌≡◌, ◌⊎◌, ℕ, Bool, IsTrue, List, [], ◌∷◌, All, Some, slice_get, take, ⊤}
+use Rattle.std.specs.FinMap as map
+use Rattle.gixobj_data.specs.Stores.{Objects, StoredObject}
+use Rattle.gixobj_fields.specs.Writing.{Refused, RefusesNothing}
+use Rattle.gixobj_ids.specs.Hash.{id_kind}
+use Rattle.gixobj_ids.specs.declared.hash.object_id.ObjectId.{ObjectId}
+use Rattle.gixobj_ids.specs.declared.kind.Kind.TheVariants.{Tree}
+use Rattle.gixobj_trees.specs.Entries.{EntryView}
+use Rattle.gixobj_trees.specs.TreeText.{RefusesTree, tree_text}
+use Rattle.gixobj_keeping.specs.declared.KeepError.{KeepError}
+use Rattle.gixobj_keeping.specs.declared.KeepError.TheVariants.{OutOfMemory, Store}
+
+-- a tree, by the id under which it is kept
+abbrev pub Kept : Type 0
+Kept = ObjectId × List EntryView
+
+-- the tree as it is written, as an object with ids of this one's kind
+abbrev pub tree_object : ObjectId → List EntryView → StoredObject
+tree_object id entries = record { kind = Tree; object_hash = id_kind id; bytes = tree_text entries }
+
+-- the tree is put in under its id, and all else stays
+abbrev pub with_tree : Kept → Objects → Objects
+with_tree it objects = map.insert objects it.0 (tree_object it.0 it.1)
+
+-- the trees are put in, one after the other
+abbrev pub with_trees : List Kept → Objects → Objects
+with_trees [] objects = objects
+with_trees (it ∷ trees) objects = with_trees trees (with_tree it objects)
+
+-- the tree can be written
+abbrev pub HasText : List EntryView → Type 0
+HasText entries = RefusesNothing (RefusesTree entries)
+
+-- the tree can't be written
+abbrev pub HasNoText : List EntryView → Type 0
+HasNoText entries = (value : Refused) × (parts : List ℕ) × RefusesTree entries value parts
+
+-- why a tree isn't kept: the store failed, and lookups of this id may fail, or the tree can't be written; or memory was wanting
+abbrev pub RefusesKeep : (ObjectId → Bool) → ObjectId → List EntryView → KeepError → Type 0
+RefusesKeep may_fail id entries (Store message) = IsTrue (may_fail id) ⊎ HasNoText entries
+RefusesKeep may_fail id entries OutOfMemory = ⊤
+
+-- the tree of this number was refused, and those before it are kept
+pub record StopsKeeping (may_fail : ObjectId → Bool) (trees : List Kept) (old new : Objects) (number : ℕ) (error : KeepError) : Type 0 where
+  pub refused : Kept
+  pub at : slice_get trees number ≡ Some refused
+  pub refusal : RefusesKeep may_fail refused.0 refused.1 error
+  pub kept : new ≡ with_trees (take number trees) old
+  pub have_texts : All (λ it. HasText it.1) (take number trees)

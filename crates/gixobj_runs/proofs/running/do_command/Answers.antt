@@ -1,0 +1,15 @@
+use Rattle.std.proofs.Common.{List, Result, subst}
+use Rattle.std.specs.Fn.{FnReturnsAt}
+use Rattle.bstr.specs.declared.bstring.BString.{BString}
+use Rattle.gixobj_directories.specs.Calls.{names_of}
+use Rattle.gixobj_editor.specs.Cursors.{prefix_of}
+use Rattle.gixobj_ids.specs.declared.hash.object_id.ObjectId.{ObjectId}
+use Rattle.gixobj_trees.specs.Entries.{EntryView}
+use Rattle.gixobj_runs.specs.Replies.{IsReplyAt, Meaning}
+use Rattle.gixobj_runs.proofs.running.do_command.Goals as goal
+
+pub returns-in-At : goal.returns-in-At
+returns-in-At g c =
+    let means : Meaning g.row.S.Denot = record { objects = g.S.Store.objects; may_fail = g.S.Store.may_fail } in
+    let answers = λ (tree : List EntryView) (answer : Result ObjectId g.row.E.Denot). FnReturnsAt g.F.Fn c.args.out.now tree answer in
+    record { replied = rw c.in-At.is (subst (λ (l : List BString). IsReplyAt means answers (prefix_of (names_of l)) c.args.editor.now c.in-At.edits.items c.do_edits_at.result c.do_edits_at.new.editor) c.deref.ensures.value c.do_edits_at.ensures.replied) }

@@ -1,0 +1,31 @@
+use Rattle.std.proofs.Common.{length, List, arith, ap, refl, Result}
+use Rattle.std.specs.Fn.{FnReturnsAt}
+use Rattle.gixobj_ids.specs.declared.hash.object_id.ObjectId.{ObjectId}
+use Rattle.gixobj_trees.specs.Entries.{EntryView}
+use Rattle.gixobj_runs.specs.Replies.{Meaning}
+use Rattle.gixobj_runs.proofs.Named.{names_history}
+use Rattle.gixobj_runs.proofs.OneMore.{no_more, one_more}
+use Rattle.gixobj_runs.proofs.running.run.Goals as goal
+
+pub loop-command-preserved : goal.loop-command-preserved
+loop-command-preserved g c =
+    let means : Meaning g.row.S.Denot = record { objects = g.S.Store.objects; may_fail = g.S.Store.may_fail } in
+    let answers = λ (tree : List EntryView) (answer : Result ObjectId g.row.E.Denot). FnReturnsAt g.F.Fn c.args.out tree answer in
+    let steps = c.in-Some.ensures.steps in
+    record {
+      told = λ replies new h. one_more means answers c.loop-command.editor _ _ _ _ _ _ _ _ _ _ _ c.do_command-reply.ensures.replied steps.0 c.push_reserved.ensures.items c.loop-command.invariant.told h;
+      room = let e = ap length steps.0 in grind (arith, c.loop-command.invariant.room);
+      same = refl;
+    }
+
+pub returns-clause-replies : goal.returns-clause-replies
+returns-clause-replies g c =
+    let means : Meaning g.row.S.Denot = record { objects = g.S.Store.objects; may_fail = g.S.Store.may_fail } in
+    let answers = λ (tree : List EntryView) (answer : Result ObjectId g.row.E.Denot). FnReturnsAt g.F.Fn c.args.out tree answer in
+    no_more means answers _ _ _ _ _ (omega (arith, c.in-None.ensures.steps.0, c.loop-command.command-iterator.rest.ok.0)) c.loop-command.invariant.told
+
+pub returns-clause-headline : goal.returns-clause-headline
+returns-clause-headline g c =
+    let means : Meaning g.row.S.Denot = record { objects = g.S.Store.objects; may_fail = g.S.Store.may_fail } in
+    let answers = λ (tree : List EntryView) (answer : Result ObjectId g.row.E.Denot). FnReturnsAt g.F.Fn c.args.out tree answer in
+    λ T n agrees k written is. names_history means answers T n _ _ _ _ (no_more means answers _ _ _ _ _ (omega (arith, c.in-None.ensures.steps.0, c.loop-command.command-iterator.rest.ok.0)) c.loop-command.invariant.told) agrees k written is

@@ -1,0 +1,9 @@
+pub mod Commands
+pub mod Replies
+pub mod Tables
+pub use Rattle.gixobj_editor.specs.Cursors
+pub use Rattle.gixobj_editor.specs.Removals
+pub use Rattle.gixobj_editor.specs.Upserts
+pub use Rattle.gixobj_editor.specs.Writes
+pub use Rattle.gixobj_files.specs.History
+pub use Rattle.gixobj_keeping.specs.Keeping
