@@ -6,6 +6,7 @@ use gix_object::hash::{Kind, ObjectId};
 use gix_object::tree::EntryKind;
 use gix_object::{CommitRef, Tree, WriteTo, compute_hash, encode};
 use gixobj_callers::auditor::{place_of, value_of, values_of};
+use gixobj_callers::checkout::{Planned, with_entries_at};
 use gixobj_callers::importer::owned_copy_of;
 use gixobj_callers::planner::with_entry;
 use gixobj_callers::store::{CopyError, copy_of};
@@ -72,6 +73,41 @@ fn planned(rt: HostRuntime) -> Result<(), Fail> {
     let written = with_entry(Tree::empty(alloc), Never, &path, EntryKind::Blob, id, out)?;
     let written = written.ok_or("a write")?;
     assert!(rt; ObjectId::from_hex(PLANNED) == Some(written.id));
+    Ok(())
+}
+
+/// What `git mktree --missing` answers for the files `a/b/hello.txt` and `a/hello.txt` of the first id.
+const CHECKED_OUT: &[u8] = b"3365befd1a144ea91abbebb315dc3f3d7c071db2";
+
+#[test]
+fn checked_out(rt: HostRuntime) -> Result<(), Fail> {
+    let alloc = rt.alloc();
+    let (kind, id) = (EntryKind::Blob, ObjectId::from_hex(FIRST).ok_or("an id")?);
+    let prefix = vec![in alloc; BString::from_slice(alloc, b"a")?]?;
+    let near = vec![in alloc; BString::from_slice(alloc, b"hello.txt")?]?;
+    let (b, name) = (
+        BString::from_slice(alloc, b"b")?,
+        BString::from_slice(alloc, b"hello.txt")?,
+    );
+    let far = vec![in alloc; b, name]?;
+    let entries = [
+        Planned {
+            path: near,
+            kind,
+            id,
+        },
+        Planned {
+            path: far,
+            kind,
+            id,
+        },
+    ];
+    let out = |tree: &Tree| id_of(alloc, tree);
+    let root = Tree::empty(alloc);
+    let written = with_entries_at(root, Never, Kind::Sha1, &prefix, &entries, out)?;
+    let written = written.ok_or("a write")?;
+    assert!(rt; ObjectId::from_hex(CHECKED_OUT) == Some(written.id));
+    assert!(rt; written.trees.len() == 3);
     Ok(())
 }
 

@@ -4,6 +4,8 @@
 #[cfg(test)]
 mod callers;
 #[cfg(test)]
+mod cursor_scripts;
+#[cfg(test)]
 mod editor;
 #[cfg(test)]
 mod listing;

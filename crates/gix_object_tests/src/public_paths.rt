@@ -91,7 +91,7 @@ mod of_tag {
 }
 
 mod of_tree {
-    pub use gix_object::tree::editor::{Editor, Error, WriteError, Written};
+    pub use gix_object::tree::editor::{Cursor, Editor, Error, WriteError, Written};
     pub use gix_object::tree::{
         Entry, EntryKind, EntryMode, EntryRef, editor, name_order, next_entry,
     };

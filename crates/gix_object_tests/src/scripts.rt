@@ -13,12 +13,12 @@ use std::test::Fail;
 
 /// Numbers that follow from a seed and look random.
 #[derive(Drop)]
-struct Numbers {
-    state: u64,
+pub(crate) struct Numbers {
+    pub(crate) state: u64,
 }
 
 impl Numbers {
-    fn draw(&mut self) -> u64 {
+    pub(crate) fn draw(&mut self) -> u64 {
         self.state = self
             .state
             .wrapping_mul(6364136223846793005)
@@ -28,7 +28,7 @@ impl Numbers {
 }
 
 /// A path of one name to three, each of four.
-fn drawn_path(alloc: Global, numbers: &mut Numbers) -> Result<Vec<BString>, AllocError> {
+pub(crate) fn drawn_path(alloc: Global, numbers: &mut Numbers) -> Result<Vec<BString>, AllocError> {
     let mut path = Vec::new(alloc);
     let length = numbers.draw() & 3;
     for place in 0..3u64 {
@@ -46,7 +46,7 @@ fn drawn_path(alloc: Global, numbers: &mut Numbers) -> Result<Vec<BString>, Allo
 }
 
 /// Whether a path begins with the names of another.
-fn begins(path: &[BString], front: &[BString]) -> bool {
+pub(crate) fn begins(path: &[BString], front: &[BString]) -> bool {
     front.len() <= path.len()
         && front
             .iter()
@@ -54,13 +54,22 @@ fn begins(path: &[BString], front: &[BString]) -> bool {
             .all(|(x, y)| x.as_bytes() == y.as_bytes())
 }
 
+/// Copies of these names.
+pub(crate) fn copy_of(alloc: Global, path: &[BString]) -> Result<Vec<BString>, AllocError> {
+    let mut copied = Vec::new(alloc);
+    for name in path {
+        copied.push(BString::from_slice(alloc, name.as_bytes())?)?;
+    }
+    Ok(copied)
+}
+
 /// The files but those at or below the path.
-fn forget(files: &mut Vec<Listed>, path: &[BString]) {
+pub(crate) fn forget(files: &mut Vec<Listed>, path: &[BString]) {
     files.retain(|file| !begins(&file.path, path));
 }
 
 /// The files with one at the path, in place of those at it, below it, and at its beginnings.
-fn put(
+pub(crate) fn put(
     alloc: Global,
     files: &mut Vec<Listed>,
     path: &[BString],
@@ -68,12 +77,8 @@ fn put(
 ) -> Result<(), AllocError> {
     forget(files, path);
     files.retain(|file| !begins(path, &file.path));
-    let mut copied = Vec::new(alloc);
-    for name in path {
-        copied.push(BString::from_slice(alloc, name.as_bytes())?)?;
-    }
     files.push(Listed {
-        path: copied,
+        path: copy_of(alloc, path)?,
         mode: EntryKind::Blob.into(),
         id,
     })?;
@@ -88,7 +93,7 @@ fn is_same(file: &Listed, other: &Listed) -> bool {
 }
 
 /// Whether both lists have the same files, none of them twice.
-fn are_same(files: &[Listed], others: &[Listed]) -> bool {
+pub(crate) fn are_same(files: &[Listed], others: &[Listed]) -> bool {
     files.len() == others.len()
         && files
             .iter()
@@ -101,7 +106,7 @@ fn text_of(alloc: Global, tree: &Tree) -> Result<Vec<u8>, encode::Error> {
     Ok(text)
 }
 
-fn id_of(alloc: Global, tree: &Tree) -> Result<ObjectId, encode::Error> {
+pub(crate) fn id_of(alloc: Global, tree: &Tree) -> Result<ObjectId, encode::Error> {
     let text = text_of(alloc, tree)?;
     Ok(compute_hash(HashKind::Sha1, Kind::Tree, &text))
 }
@@ -142,13 +147,24 @@ fn written(alloc: Global, editor: &mut Editor<Memory>) -> Result<Written, Fail> 
 }
 
 /// Whether a write names a root that has these files. What it hands out goes into the store and the table.
-fn writes(
+pub(crate) fn writes(
     alloc: Global,
     editor: &mut Editor<Memory>,
     files: &[Listed],
     table: &mut Vec<(ObjectId, Tree)>,
 ) -> Result<bool, Fail> {
     let written = written(alloc, editor)?;
+    names(alloc, editor, written, files, table)
+}
+
+/// Whether what was handed out names a tree that has these files. It goes into the store and the table.
+pub(crate) fn names(
+    alloc: Global,
+    editor: &mut Editor<Memory>,
+    written: Written,
+    files: &[Listed],
+    table: &mut Vec<(ObjectId, Tree)>,
+) -> Result<bool, Fail> {
     for (id, tree) in written.trees {
         let text = text_of(alloc, &tree)?;
         editor
@@ -156,10 +172,10 @@ fn writes(
             .insert(Kind::Tree, HashKind::Sha1, &text)?;
         table.push((id, tree))?;
     }
-    let Some((id, root)) = table.last() else {
+    let Some((id, tree)) = table.last() else {
         return Ok(false);
     };
-    Ok(*id == written.id && are_same(&files_of(alloc, table, 4, root)?, files))
+    Ok(*id == written.id && are_same(&files_of(alloc, table, 6, tree)?, files))
 }
 
 /// Whether each of four writes, behind twelve edits each, names a root with the files of the list.

@@ -1,4 +1,6 @@
 mod Commits
+mod Histories
 mod Listed
+mod PutIn
 mod Refusals
 mod Told

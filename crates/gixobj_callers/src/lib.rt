@@ -4,6 +4,7 @@
 #![tactic(auto)]
 
 pub mod auditor;
+pub mod checkout;
 pub mod history;
 pub mod importer;
 pub mod planner;

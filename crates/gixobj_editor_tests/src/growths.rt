@@ -1,6 +1,7 @@
-//! Two rows whose answers stay the same where a growth is refused on the way, and the call is made again: what was
+//! Three rows whose answers stay the same where a growth is refused on the way, and the call is made again: what was
 //! refused has lost nothing.
 
+use crate::rows::tree_of;
 use bstr::BString;
 use gixobj_base::hash::{Kind as HashKind, ObjectId};
 use gixobj_base::tree::EntryKind;
@@ -92,6 +93,53 @@ fn failed_out(alloc: Global) -> Result<bool, Error> {
     Ok(stopped && is_written(alloc, &mut editor, 3, root))
 }
 
+/// A file put in by a cursor at a directory, and then a removal of no names.
+fn try_put_at(
+    editor: &mut Editor<Memory>,
+    directory: &[BString],
+    path: &[BString],
+) -> Result<(), Error> {
+    let mut cursor = editor.cursor_at(directory)?;
+    cursor.try_upsert(path, EntryKind::Blob, FILE)?;
+    cursor.try_remove(&[])
+}
+
+/// The same, and once more where memory was wanting.
+fn put_at(
+    editor: &mut Editor<Memory>,
+    directory: &[BString],
+    path: &[BString],
+) -> Result<(), Error> {
+    match try_put_at(editor, directory, path) {
+        Err(Error::OutOfMemory) => try_put_at(editor, directory, path),
+        answer => answer,
+    }
+}
+
+/// An editor whose root has the directory `a` alone, which is stored and has the file `b`. None for want of memory.
+fn over_a_stored_directory(alloc: Global) -> Option<Editor<Memory>> {
+    let directory = tree_of(alloc, EntryKind::Blob, b"b", FILE).ok()?;
+    let mut text = Vec::new(alloc);
+    directory.write_to(alloc, &mut text).ok()?;
+    let mut store = Memory::new(alloc);
+    let id = store.insert(Kind::Tree, HashKind::Sha1, &text).ok()?;
+    let root = tree_of(alloc, EntryKind::Tree, b"a", id).ok()?;
+    if !root.is_well_formed() {
+        return None;
+    }
+    Some(Editor::new(root, store, HashKind::Sha1))
+}
+
+/// Whether a cursor at a stored directory keeps its file beside a new one. None for want of memory before its edits.
+fn cursor_keeps(alloc: Global) -> Option<bool> {
+    let mut editor = over_a_stored_directory(alloc)?;
+    let directory = path_of(alloc, &[b"a"]).ok()?;
+    let path = path_of(alloc, &[b"c"]).ok()?;
+    let put = put_at(&mut editor, &directory, &path).is_ok();
+    let root = b"d79ed5c1e2ff97a59beb0fc1a1b79b68aa0be74a";
+    Some(put && is_written(alloc, &mut editor, 2, root))
+}
+
 #[test]
 fn removed_then_again_whatever_is_refused(rt: HostRuntime) -> Result<(), Fail> {
     let alloc = rt.alloc();
@@ -109,6 +157,17 @@ fn failed_out_whatever_is_refused(rt: HostRuntime) -> Result<(), Fail> {
     let same = match failed_out(alloc) {
         Ok(same) => same,
         Err(_) => failed_out(alloc)?,
+    };
+    assert!(rt; same);
+    Ok(())
+}
+
+#[test]
+fn cursor_keeps_whatever_is_refused(rt: HostRuntime) -> Result<(), Fail> {
+    let alloc = rt.alloc();
+    let same = match cursor_keeps(alloc) {
+        Some(same) => same,
+        None => cursor_keeps(alloc).ok_or("memory")?,
     };
     assert!(rt; same);
     Ok(())

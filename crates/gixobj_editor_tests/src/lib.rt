@@ -2,6 +2,12 @@
 #![tactic(auto)]
 
 #[cfg(test)]
+mod cursor_calls;
+#[cfg(test)]
+mod cursor_writes;
+#[cfg(test)]
+mod cursors;
+#[cfg(test)]
 mod growths;
 #[cfg(test)]
 mod rows;

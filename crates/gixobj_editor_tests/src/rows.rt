@@ -10,13 +10,13 @@ use gixobj_store::Memory;
 use std::alloc::{AllocError, Global};
 use std::test::Fail;
 
-const FILE: ObjectId = ObjectId::Sha1([1; 20]);
+pub(crate) const FILE: ObjectId = ObjectId::Sha1([1; 20]);
 
 const UNKNOWN: ObjectId = ObjectId::Sha1([3; 20]);
 
 /// An edit.
 #[derive(Clone, Copy)]
-enum Edit {
+pub(crate) enum Edit {
     /// A file is put in.
     File,
     /// A placeholder is put in: a file of the null id.
@@ -32,10 +32,10 @@ enum Edit {
 }
 
 /// An edit, its path with a space between the names, the number of the refusal or 0, and the lookups by then.
-type Row = (Edit, &'static [u8], u8, u64);
+pub(crate) type Row = (Edit, &'static [u8], u8, u64);
 
 /// The names between spaces; `.` alone stands for none.
-fn path_of(alloc: Global, text: &[u8]) -> Result<Vec<BString>, AllocError> {
+pub(crate) fn path_of(alloc: Global, text: &[u8]) -> Result<Vec<BString>, AllocError> {
     let mut path = Vec::new(alloc);
     if text == b".".as_slice() {
         return Ok(path);
@@ -68,21 +68,32 @@ fn done(editor: &mut Editor<Memory>, edit: Edit, path: &[BString]) -> Result<(),
     }
 }
 
+/// The number of a refusal.
+pub(crate) fn number_of(refusal: &Error) -> u8 {
+    match refusal {
+        Error::EmptyPathComponent => 1,
+        Error::SlashInPathComponent => 2,
+        Error::FindExistingObject(_) => 3,
+        Error::CannotRemoveNonLeaf { .. } => 4,
+        Error::MalformedTree => 5,
+        Error::OutOfMemory => 6,
+    }
+}
+
 /// The number of a refusal, and 0 for none.
-fn number(answer: &Result<(), Error>) -> u8 {
+pub(crate) fn number(answer: &Result<(), Error>) -> u8 {
     match answer {
         Ok(()) => 0,
-        Err(Error::EmptyPathComponent) => 1,
-        Err(Error::SlashInPathComponent) => 2,
-        Err(Error::FindExistingObject(_)) => 3,
-        Err(Error::CannotRemoveNonLeaf { .. }) => 4,
-        Err(Error::MalformedTree) => 5,
-        Err(Error::OutOfMemory) => 6,
+        Err(refusal) => number_of(refusal),
     }
 }
 
 /// Whether each edit is answered as its row says.
-fn answered(alloc: Global, editor: &mut Editor<Memory>, rows: &[Row]) -> Result<bool, AllocError> {
+pub(crate) fn answered(
+    alloc: Global,
+    editor: &mut Editor<Memory>,
+    rows: &[Row],
+) -> Result<bool, AllocError> {
     for (edit, text, refusal, lookups) in rows {
         let path = path_of(alloc, text)?;
         let answer = done(editor, *edit, &path);
@@ -94,14 +105,19 @@ fn answered(alloc: Global, editor: &mut Editor<Memory>, rows: &[Row]) -> Result<
 }
 
 /// The id of a tree's written bytes.
-fn id_of(alloc: Global, tree: &Tree) -> Result<ObjectId, encode::Error> {
+pub(crate) fn id_of(alloc: Global, tree: &Tree) -> Result<ObjectId, encode::Error> {
     let mut out = Vec::new(alloc);
     tree.write_to(alloc, &mut out)?;
     Ok(compute_hash(HashKind::Sha1, Kind::Tree, &out))
 }
 
 /// Whether a write hands out so many trees, and the root by this id.
-fn writes(alloc: Global, editor: &mut Editor<Memory>, count: usize, root: &[u8]) -> bool {
+pub(crate) fn writes(
+    alloc: Global,
+    editor: &mut Editor<Memory>,
+    count: usize,
+    root: &[u8],
+) -> bool {
     match editor.write(|tree: &Tree| id_of(alloc, tree)) {
         Ok(written) => {
             written.trees.len() == count && ObjectId::from_hex(root) == Some(written.id)
@@ -110,7 +126,12 @@ fn writes(alloc: Global, editor: &mut Editor<Memory>, count: usize, root: &[u8])
     }
 }
 
-fn tree_of(alloc: Global, kind: EntryKind, name: &[u8], oid: ObjectId) -> Result<Tree, AllocError> {
+pub(crate) fn tree_of(
+    alloc: Global,
+    kind: EntryKind,
+    name: &[u8],
+    oid: ObjectId,
+) -> Result<Tree, AllocError> {
     let mut tree = Tree::empty(alloc);
     tree.entries.push(Entry {
         mode: kind.into(),
@@ -120,25 +141,25 @@ fn tree_of(alloc: Global, kind: EntryKind, name: &[u8], oid: ObjectId) -> Result
     Ok(tree)
 }
 
-fn editor_of(root: Tree, store: Memory) -> Result<Editor<Memory>, Fail> {
+pub(crate) fn editor_of(root: Tree, store: Memory) -> Result<Editor<Memory>, Fail> {
     if !root.is_well_formed() {
         return Err("a well-formed root")?;
     }
     Ok(Editor::new(root, store, HashKind::Sha1))
 }
 
-fn empty_editor(alloc: Global) -> Editor<Memory> {
+pub(crate) fn empty_editor(alloc: Global) -> Editor<Memory> {
     Editor::new(Tree::empty(alloc), Memory::new(alloc), HashKind::Sha1)
 }
 
 /// An editor whose root has the directory `a` alone, by an id that the store doesn't have.
-fn over_an_unknown_tree(alloc: Global) -> Result<Editor<Memory>, Fail> {
+pub(crate) fn over_an_unknown_tree(alloc: Global) -> Result<Editor<Memory>, Fail> {
     let root = tree_of(alloc, EntryKind::Tree, b"a", UNKNOWN)?;
     editor_of(root, Memory::new(alloc))
 }
 
 /// An editor of nothing but one file at the path of these names, whose directories below the root are stored.
-fn stored_file(alloc: Global, names: &[&[u8]]) -> Result<Editor<Memory>, Fail> {
+pub(crate) fn stored_file(alloc: Global, names: &[&[u8]]) -> Result<Editor<Memory>, Fail> {
     let mut store = Memory::new(alloc);
     let (mut kind, mut id) = (EntryKind::Blob, FILE);
     let mut root = Tree::empty(alloc);
@@ -152,7 +173,7 @@ fn stored_file(alloc: Global, names: &[&[u8]]) -> Result<Editor<Memory>, Fail> {
     editor_of(root, store)
 }
 
-const EMPTY: &[u8] = b"4b825dc642cb6eb9a060e54bf8d69288fbee4904";
+pub(crate) const EMPTY: &[u8] = b"4b825dc642cb6eb9a060e54bf8d69288fbee4904";
 
 /// Rows on the empty root: the edits, the number of trees handed out, and the root's id.
 const ON_THE_EMPTY_ROOT: &[(&[Row], usize, &[u8])] = &[
