@@ -1,0 +1,17 @@
+-- The ids of trees that a script's writes hand out.
+use Rattle.std.specs.Prelude.{◌≡◌, List, Err, Ok, Result, ⊤}
+use Rattle.gixobj_fields.specs.declared.encode.Error.{Error}
+use Rattle.gixobj_fields.specs.declared.encode.Error.TheVariants.{Writer}
+use Rattle.gixobj_ids.specs.Hash.{id_of}
+use Rattle.gixobj_ids.specs.declared.hash.kind.Kind as hash
+use Rattle.gixobj_ids.specs.declared.hash.object_id.ObjectId.{ObjectId}
+use Rattle.gixobj_ids.specs.declared.kind.Kind.TheVariants.{Tree}
+use Rattle.gixobj_keeping.specs.Keeping.{HasNoText, HasText}
+use Rattle.gixobj_trees.specs.Entries.{EntryView}
+use Rattle.gixobj_trees.specs.TreeText.{tree_text}
+
+-- the answer to a tree is the digest of its written bytes; or there was no room for these; or else it can't be written
+abbrev pub IsAnsweredDigest : hash.Kind → List EntryView → Result ObjectId Error → Type 0
+IsAnsweredDigest hash tree (Ok id) = HasText tree × (id ≡ id_of hash Tree (tree_text tree))
+IsAnsweredDigest hash tree (Err (Writer cause)) = ⊤
+IsAnsweredDigest hash tree (Err other) = HasNoText tree
