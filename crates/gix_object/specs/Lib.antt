@@ -1,5 +1,6 @@
 pub use Rattle.gixobj_directories.specs.Calls
 pub use Rattle.gixobj_directories.specs.Openings
+pub use Rattle.gixobj_editor.specs.Cursors
 pub use Rattle.gixobj_editor.specs.Upserts
 pub use Rattle.gixobj_editor.specs.Removals
 pub use Rattle.gixobj_editor.specs.Writes
@@ -13,3 +14,7 @@ pub use Rattle.gixobj_files.specs.Opening
 pub use Rattle.gixobj_files.specs.State
 pub use Rattle.gixobj_files.specs.Tables
 pub use Rattle.gixobj_files.specs.Unopened
+pub use Rattle.gixobj_keeping.specs.Keeping
+pub use Rattle.gixobj_runs.specs.Commands
+pub use Rattle.gixobj_runs.specs.Replies
+pub use Rattle.gixobj_runs.specs.RunTables

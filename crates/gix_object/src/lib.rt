@@ -1,8 +1,8 @@
 //! Git's objects as plain bytes, and an editor of trees.
 //!
 //! It hands on what the crates below have for users: ids, kinds, loose headers, actors and times, trees, blobs,
-//! commits, tags and objects of any kind, how they are read and written, how they are looked up in stores, and the
-//! editor of nested trees in [`tree::editor`].
+//! commits, tags and objects of any kind, how they are read and written, how they are looked up in stores and kept
+//! by them, and in [`tree::editor`] the editor of nested trees, with whole runs of it.
 #![tactic(auto)]
 
 pub mod laws;
@@ -17,5 +17,6 @@ pub use gixobj_codec::{
     LooseDecodeError, Object, ObjectRef, Store, Tag, TagRef, TagRefIter, TreeRef, TreeRefIter,
     commit, data, tag,
 };
+pub use gixobj_keeping::{Keep, KeepError};
 pub use gixobj_lookups::{FindExt, HeaderExt, Write, find, write};
 pub use gixobj_text::signature;

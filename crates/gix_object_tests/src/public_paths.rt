@@ -3,10 +3,10 @@
 mod root {
     pub use gix_object::{
         Blob, BlobRef, Commit, CommitRef, CommitRefIter, Data, Exists, Find, FindExt, FindHeader,
-        FindObjectOrHeader, Header, HeaderExt, Kind, LooseDecodeError, Object, ObjectRef,
-        OutOfMemory, Store, Tag, TagRef, TagRefIter, Tree, TreeRef, TreeRefIter, Write, WriteTo,
-        actor, commit, compute_hash, compute_stream_hash, data, date, decode, encode, find, hash,
-        kind, laws, signature, stream_hash, streams, tag, tree, write,
+        FindObjectOrHeader, Header, HeaderExt, Keep, KeepError, Kind, LooseDecodeError, Object,
+        ObjectRef, OutOfMemory, Store, Tag, TagRef, TagRefIter, Tree, TreeRef, TreeRefIter, Write,
+        WriteTo, actor, commit, compute_hash, compute_stream_hash, data, date, decode, encode,
+        find, hash, kind, laws, signature, stream_hash, streams, tag, tree, write,
     };
 }
 
@@ -70,7 +70,7 @@ mod of_kind {
 mod of_laws {
     pub use gix_object::laws::{
         a_root_alone_is_opened, every_list_makes_a_table, every_store_has_its_own_table,
-        every_store_names_trees, fitting_pairs_have_a_table,
+        every_store_names_trees, fitting_pairs_have_a_table, fitting_runs_have_a_table,
     };
 }
 
@@ -91,7 +91,9 @@ mod of_tag {
 }
 
 mod of_tree {
-    pub use gix_object::tree::editor::{Cursor, Editor, Error, WriteError, Written};
+    pub use gix_object::tree::editor::{
+        Command, Cursor, Edit, EditReply, Editor, Error, Reply, WriteError, Written, run,
+    };
     pub use gix_object::tree::{
         Entry, EntryKind, EntryMode, EntryRef, editor, name_order, next_entry,
     };

@@ -16,7 +16,7 @@ use Rattle.gixobj_keeping.specs.Keeping.{tree_object, with_tree, with_trees}
 use Rattle.gixobj_tree_readers.specs.TreeReading.{IsTreeText}
 use Rattle.gixobj_trees.specs.Entries.{EntryView}
 use Rattle.gixobj_runs.specs.Commands.{kept_of, kept_of_edit, pairs_handed_out, pairs_kept, pairs_of, pairs_of_edit}
-use Rattle.gixobj_runs.specs.Tables.{AgreesWithObjects, AgreesWithRun, ReadsAsItself}
+use Rattle.gixobj_runs.specs.RunTables.{AgreesWithObjects, AgreesWithRun, ReadsAsItself}
 use Rattle.gixobj_runs.specs.declared.reply.EditReply.{EditReply}
 use Rattle.gixobj_runs.specs.declared.reply.EditReply.TheVariants as edit_reply
 use Rattle.gixobj_runs.specs.declared.reply.Reply.{Reply}

@@ -6,7 +6,7 @@ use Rattle.gixobj_data.specs.Stores.{Objects}
 use Rattle.gixobj_files.specs.Files.{Table}
 use Rattle.gixobj_files.specs.Tables.{AgreesWithPairs, Pair}
 use Rattle.gixobj_keeping.specs.Keeping.{with_tree, with_trees}
-use Rattle.gixobj_runs.specs.Tables.{AgreesWithObjects}
+use Rattle.gixobj_runs.specs.RunTables.{AgreesWithObjects}
 
 -- trees that are kept behind others
 pub kept_on : (first then : List Pair) (objects : Objects) → with_trees (first ++ then) objects ≡ with_trees then (with_trees first objects)

@@ -19,7 +19,7 @@ use Rattle.gixobj_files.specs.Tables.{AgreesWithPairs, AgreesWithStore}
 use Rattle.gixobj_keeping.specs.Keeping.{with_trees}
 use Rattle.gixobj_runs.specs.Commands.{Place, accepted_steps, at_cursor, at_root, kept_of, kept_of_edit, pairs_handed_out, pairs_kept, pairs_of, pairs_of_edit, steps_at, steps_of, steps_of_edit, steps_of_edits, written_at, written_by}
 use Rattle.gixobj_runs.specs.Replies.{Answers, AreEditReplies, IsEditReply, IsReply, IsReplyAt, IsRun, IsWriteKept, IsWrittenAt, Meaning}
-use Rattle.gixobj_runs.specs.Tables.{AgreesWithObjects, AgreesWithRun, OfTrees}
+use Rattle.gixobj_runs.specs.RunTables.{AgreesWithObjects, AgreesWithRun, OfTrees}
 use Rattle.gixobj_runs.specs.declared.reply.EditReply.{EditReply}
 use Rattle.gixobj_runs.specs.declared.reply.EditReply.TheVariants as edit_reply
 use Rattle.gixobj_runs.specs.declared.reply.Reply.{Reply}

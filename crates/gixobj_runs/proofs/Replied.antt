@@ -19,7 +19,7 @@ use Rattle.gixobj_trees.specs.Mode.{mode_of_kind}
 use Rattle.gixobj_trees.specs.declared.tree.entry_kind.EntryKind.{EntryKind}
 use Rattle.gixobj_runs.specs.Commands.{Place, at_cursor, path_at}
 use Rattle.gixobj_runs.specs.Replies.{Answers, AreEditReplies, IsEditReply, IsRefusedEdit, IsReplyAt, Meaning, RefusesAt, reply_to}
-use Rattle.gixobj_runs.specs.Tables.{OfTrees}
+use Rattle.gixobj_runs.specs.RunTables.{OfTrees}
 use Rattle.gixobj_runs.specs.declared.reply.EditReply.{EditReply}
 use Rattle.gixobj_runs.specs.declared.reply.Reply.TheVariants as reply
 

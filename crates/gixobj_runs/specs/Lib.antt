@@ -1,6 +1,6 @@
 pub mod Commands
 pub mod Replies
-pub mod Tables
+pub mod RunTables
 pub use Rattle.gixobj_editor.specs.Cursors
 pub use Rattle.gixobj_editor.specs.Removals
 pub use Rattle.gixobj_editor.specs.Upserts

@@ -28,7 +28,7 @@ use Rattle.gixobj_keeping.specs.Keeping.{HasText, StopsKeeping, with_trees}
 use Rattle.gixobj_trees.specs.Entries.{EntryView, IsWellFormed}
 use Rattle.gixobj_trees.specs.Mode.{mode_of_kind}
 use Rattle.gixobj_runs.specs.Commands.{Place, at_cursor, at_root, path_at}
-use Rattle.gixobj_runs.specs.Tables.{OfTrees}
+use Rattle.gixobj_runs.specs.RunTables.{OfTrees}
 use Rattle.gixobj_runs.specs.declared.reply.EditReply.{EditReply}
 use Rattle.gixobj_runs.specs.declared.reply.EditReply.TheVariants as edit_reply
 use Rattle.gixobj_runs.specs.declared.reply.Reply.{Reply}

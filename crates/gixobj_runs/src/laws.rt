@@ -5,7 +5,7 @@ ghost use Rattle.gixobj_directories.specs.Openings.{AreTreesOf};
 ghost use Rattle.gixobj_files.specs.Files.{Table, Trees};
 ghost use Rattle.gixobj_files.specs.Tables.{FitsBeside};
 ghost use Rattle.gixobj_runs.specs.Commands.{pairs_handed_out, pairs_kept};
-ghost use Rattle.gixobj_runs.specs.Tables.{AgreesWithRun, ReadsAsItself};
+ghost use Rattle.gixobj_runs.specs.RunTables.{AgreesWithRun, ReadsAsItself};
 
 use crate::reply::Reply;
 

@@ -6,7 +6,7 @@ ghost use Rattle.gixobj_files.specs.History.{History};
 ghost use Rattle.gixobj_files.specs.State.{EditorFiles};
 ghost use Rattle.gixobj_runs.specs.Commands.{accepted_steps, written_at};
 ghost use Rattle.gixobj_runs.specs.Replies.{IsCallable, IsReply, IsRun};
-ghost use Rattle.gixobj_runs.specs.Tables.{AgreesWithRun};
+ghost use Rattle.gixobj_runs.specs.RunTables.{AgreesWithRun};
 
 use crate::by_cursor::do_edits_at;
 use crate::edits::{do_edit, push_reserved};
