@@ -1,3 +1,1 @@
-mod FewItems
-mod FirstEntry
-mod Refused
+mod FewWords

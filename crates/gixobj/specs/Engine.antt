@@ -1,71 +1,36 @@
--- A run of the program: what it reads, what it writes, and its status.
-use Rattle.std.specs.Prelude.{◌≡◌, ◌⊎◌, ℕ, List, Option}
-use Rattle.std.specs.Io.KnownBytes.{Consumes, IsAtEnd}
+-- A run of a script by the program: what it reads, what it writes, and why it tells nothing.
+use Rattle.std.specs.Prelude.{ℕ, List, Option}
 use Rattle.gixobj_base.specs.Streams.{Puts, PutsFront, SinkView}
 use Rattle.gixobj_base.specs.ids.hash.kind.Kind as hash
-use Rattle.gixobj_base.specs.ids.hash.object_id.ObjectId.{ObjectId}
-use Rattle.gixobj_base.specs.ids.kind.Kind.{Kind}
-use Rattle.gixobj.specs.Listing.{IsBadTree, IsListed, IsOfAnotherKind, RefusesListing}
-use Rattle.gixobj.specs.Object.{HasNoHeader, IsShort, RefusesObject}
-use Rattle.gixobj.specs.Show.{IsShown, show_line}
-use Rattle.gixobj.specs.Words.{AsksFor, AsksForNothing}
-use Rattle.gixobj.specs.declared.refusal.Refusal.{Refusal}
-use Rattle.gixobj.specs.declared.refusal.Refusal.TheVariants.{Usage, InputFailed, OutputFailed, OutOfMemory, BadHeader, ShortData, NotATree, BadTree}
-use Rattle.gixobj.specs.declared.words.Command.{Command}
-use Rattle.gixobj.specs.declared.words.Command.TheVariants.{Show, Tree}
+use Rattle.gixobj_edit.specs.Edits.{IsEdit, RefusesEdit}
+use Rattle.gixobj_edit.specs.declared.editing.EditError.TheVariants as editing
+use Rattle.gixobj_loose.specs.Engine.{ReadsAll, Unwritten}
+use Rattle.gixobj_loose.specs.declared.refusal.Refusal.TheVariants as refusal
+use Rattle.gixobj.specs.Words.{AsksForEdit, AsksToEdit}
+use Rattle.gixobj.specs.declared.fault.Fault.{Fault}
+use Rattle.gixobj.specs.declared.fault.Fault.TheVariants as fault
 
--- these bytes are all that was left, and now none is
-abbrev pub ReadsAll : Option (List ℕ) → Option (List ℕ) → List ℕ → Type 0
-ReadsAll old new input = Consumes old new input × IsAtEnd new
+-- the input was read to its end, it is a script, and this text tells what came of it on a new editor
+abbrev pub IsTold : List (List ℕ) → Option (List ℕ) → Option (List ℕ) → List ℕ → Type 0
+IsTold words rest rest' text =
+    (hash : hash.Kind) × (script : List ℕ) × AsksForEdit words hash × ReadsAll rest rest' script × IsEdit hash script text
 
--- this text is what the command makes of the input, by this kind of digest
-abbrev pub IsTextFor : Command → hash.Kind → List ℕ → List ℕ → Type 0
-IsTextFor Show hash input text =
-    (kind : Kind) × (size : ℕ) × (id : ObjectId) × IsShown hash input kind size id × (text ≡ show_line kind size id)
-IsTextFor Tree hash input text = IsListed hash input text
+-- the text that tells was put
+abbrev pub Edited : List (List ℕ) → Option (List ℕ) → Option (List ℕ) → SinkView → SinkView → Type 0
+Edited words rest rest' out out' = (text : List ℕ) × IsTold words rest rest' text × Puts out out' text
 
--- why the command makes nothing of the input
-abbrev pub RefusesText : Command → hash.Kind → List ℕ → Refusal → Type 0
-RefusesText Show hash input refusal = RefusesObject input refusal
-RefusesText Tree hash input refusal = RefusesListing hash input refusal
-
--- this text answers the words
-abbrev pub IsAnswer : List (List ℕ) → List ℕ → List ℕ → Type 0
-IsAnswer words input text = (command : Command) × (hash : hash.Kind) × AsksFor words command hash × IsTextFor command hash input text
-
--- the words ask for something
-abbrev pub Asks : List (List ℕ) → Type 0
-Asks words = (command : Command) × (hash : hash.Kind) × AsksFor words command hash
-
--- the input was read to its end, and the text that answers was put
-abbrev pub Answered : List (List ℕ) → Option (List ℕ) → Option (List ℕ) → SinkView → SinkView → Type 0
-Answered words rest rest' out out' =
-    (input text : List ℕ) × ReadsAll rest rest' input × IsAnswer words input text × Puts out out' text
-
--- why there is no answer; where the output failed, a front of the text that answers was put
-abbrev pub Refuses : List (List ℕ) → Option (List ℕ) → Option (List ℕ) → Type 0 → SinkView → SinkView → Refusal → Type 0
-Refuses words rest rest' may_fail out out' Usage = AsksForNothing words
-Refuses words rest rest' may_fail out out' InputFailed = Asks words × may_fail
-Refuses words rest rest' may_fail out out' OutputFailed =
-    (input text : List ℕ) × ReadsAll rest rest' input × IsAnswer words input text × PutsFront out out' text
-Refuses words rest rest' may_fail out out' OutOfMemory = Asks words
-Refuses words rest rest' may_fail out out' BadHeader = Asks words × (input : List ℕ) × ReadsAll rest rest' input × HasNoHeader input
-Refuses words rest rest' may_fail out out' ShortData = Asks words × (input : List ℕ) × ReadsAll rest rest' input × IsShort input
-Refuses words rest rest' may_fail out out' NotATree =
-    (hash : hash.Kind) × (input : List ℕ) × AsksFor words Tree hash × ReadsAll rest rest' input × IsOfAnotherKind input
-Refuses words rest rest' may_fail out out' BadTree =
-    (hash : hash.Kind) × (input : List ℕ) × AsksFor words Tree hash × ReadsAll rest rest' input × IsBadTree hash input
-
--- nothing was read where the words ask for nothing
-abbrev pub Unread : Type 0 → Refusal → Type 0
-Unread unchanged Usage = unchanged
-Unread unchanged _ = Unit {0}
+-- why nothing is told: the first bad line of the input; the input failed; the output failed, and a front of the text that tells was put; or
+-- memory was wanting
+abbrev pub RefusesEditing : List (List ℕ) → Option (List ℕ) → Option (List ℕ) → Type 0 → SinkView → SinkView → Fault → Type 0
+RefusesEditing words rest rest' may_fail out out' (fault.BadLine number) =
+    (hash : hash.Kind) × (script : List ℕ) × AsksForEdit words hash × ReadsAll rest rest' script × RefusesEdit hash script (editing.BadLine number)
+RefusesEditing words rest rest' may_fail out out' (fault.Refused refusal.InputFailed) = AsksToEdit words × may_fail
+RefusesEditing words rest rest' may_fail out out' (fault.Refused refusal.OutputFailed) =
+    (text : List ℕ) × IsTold words rest rest' text × PutsFront out out' text
+RefusesEditing words rest rest' may_fail out out' (fault.Refused refusal.OutOfMemory) = AsksToEdit words
+RefusesEditing words rest rest' may_fail out out' (fault.Refused _) = ⊥
 
 -- nothing was put on standard output, but where it failed
-abbrev pub Unwritten : Type 0 → Refusal → Type 0
-Unwritten unchanged OutputFailed = Unit {0}
-Unwritten unchanged _ = unchanged
-
--- the line was put, or a front of it for which there was no room
-abbrev pub Told : SinkView → SinkView → List ℕ → Type 0
-Told errors errors' line = Puts errors errors' line ⊎ PutsFront errors errors' line
+abbrev pub UnwrittenByEdit : Type 0 → Fault → Type 0
+UnwrittenByEdit unchanged (fault.BadLine number) = unchanged
+UnwrittenByEdit unchanged (fault.Refused it) = Unwritten unchanged it

@@ -1,24 +1,16 @@
--- What the words after the program's name ask for.
-use Rattle.std.specs.Prelude.{◌≡◌, ℕ, List, [], ◌∷◌, codes}
+-- Whether the words after the program's name ask for a script to be run.
+use Rattle.std.specs.Prelude.{◌≡◌, ℕ, List, ◌∷◌, codes}
 use Rattle.gixobj_base.specs.ids.hash.kind.Kind.{Kind}
-use Rattle.gixobj_base.specs.ids.hash.kind.Kind.TheVariants.{Sha1, Sha256}
-use Rattle.gixobj.specs.declared.words.Command.{Command}
-use Rattle.gixobj.specs.declared.words.Command.TheVariants.{Show, Tree}
+use Rattle.gixobj_loose.specs.Words.{hash_words}
 
--- the word of a command
-abbrev pub command_word : Command → List ℕ
-command_word Show = codes "show"
-command_word Tree = codes "tree"
+-- a script, by this kind of digest
+abbrev pub AsksForEdit : List (List ℕ) → Kind → Type 0
+AsksForEdit words hash = words ≡ codes "edit" ∷ hash_words hash
 
--- the words behind a command's: none for SHA-1
-abbrev pub hash_words : Kind → List (List ℕ)
-hash_words Sha1 = []
-hash_words Sha256 = codes "sha256" ∷ []
+-- a script, by some kind of digest
+abbrev pub AsksToEdit : List (List ℕ) → Type 0
+AsksToEdit words = (hash : Kind) × AsksForEdit words hash
 
--- this command, by this kind of digest
-abbrev pub AsksFor : List (List ℕ) → Command → Kind → Type 0
-AsksFor words command hash = words ≡ command_word command ∷ hash_words hash
-
--- nothing that the program does
-abbrev pub AsksForNothing : List (List ℕ) → Type 0
-AsksForNothing words = (command : Command) (hash : Kind) → AsksFor words command hash → ⊥
+-- anything else
+abbrev pub AsksForNoEdit : List (List ℕ) → Type 0
+AsksForNoEdit words = (hash : Kind) → AsksForEdit words hash → ⊥

@@ -1,33 +1,38 @@
 //! The program, over any reader and any two writers.
-ghost use Rattle.std.specs.Prelude.{◌≡◌, ◌≢◌, map, OnOk, IfErr, IfOk, ⊤};
+ghost use Rattle.std.specs.Prelude.{◌≡◌, ◌≢◌, map, OnOk, IfErr, ⊤};
 ghost use Rattle.std.specs.String.{string_bytes};
-ghost use Rattle.gixobj.specs.Engine.{Answered, IsTextFor, Refuses, RefusesText, Told, Unread, Unwritten};
+ghost use Rattle.gixobj.specs.Engine.{Edited, RefusesEditing, UnwrittenByEdit};
+ghost use Rattle.gixobj.specs.Faults.{fault_line, fault_status};
+ghost use Rattle.gixobj.specs.Words.{AsksForEdit, AsksForNoEdit, AsksToEdit};
+ghost use Rattle.gixobj.specs.declared.fault.Fault.{Fault};
 ghost use Rattle.gixobj_base.specs.Streams.{writer_view};
-ghost use Rattle.gixobj.specs.Refusal.{line_of, status_of};
-ghost use Rattle.gixobj.specs.declared.refusal.Refusal.{Refusal};
+ghost use Rattle.gixobj_loose.specs.Engine.{Answered, Refuses, Told, Unread, Unwritten};
+ghost use Rattle.gixobj_loose.specs.Refusal.{line_of, status_of};
+ghost use Rattle.gixobj_loose.specs.declared.refusal.Refusal.{Refusal};
 
 #[cfg(test)]
 mod tests;
 
-use crate::input::read_all;
-use crate::refusal::Refusal;
-use crate::show::show;
-use crate::tree::listing;
-use crate::words::{Command, asked};
+use crate::fault::{Fault, tell_fault};
+use crate::words::asked_to_edit;
 use gixobj_base::hash;
 use gixobj_base::streams::{FromRead, Sink, Source, ToWrite};
-use smallvec::SmallVec;
+use gixobj_edit::edit;
+use gixobj_loose::Refusal;
+use gixobj_loose::input::read_all;
 use std::alloc::Global;
 use std::io::{Read, Write};
 
 /// Does what the words after the program's name ask for, and answers the exit status.
 ///
-/// `show` and `tree` read all of the input, by SHA-1, or with a second word `sha256` by SHA-256.
+/// `show`, `tree` and `edit` read all of the input, by SHA-1, or with a second word `sha256` by SHA-256.
 /// `show` writes the line `<kind> <size> <id>` of the loose object that the input begins with, and
-/// `tree` a line `<mode> <kind> <id> <name>` for each entry of the loose tree: status 0. Any other
-/// words: a line on how to use the program, status 2, with nothing read. Else a line that says what
-/// is wrong, status 1: `bad header`, `short data`, for `tree` also `not a tree` and `bad tree`,
-/// `input failed`, `output failed` or `out of memory`.
+/// `tree` a line `<mode> <kind> <id> <name>` for each entry of the loose tree; `edit` runs the script of edits
+/// that the input is on the empty tree, and writes a line for what came of each, and last the number of
+/// lookups: status 0. Any other words: a line on how to use the program, status 2, with nothing read. Else a
+/// line that says what is wrong, status 1: for `show` and `tree` `bad header`, `short data`, for `tree` also
+/// `not a tree` and `bad tree`; for `edit` `line N`, the number of the first line that is no command's, and then
+/// nothing is run; for all three `input failed`, `output failed` or `out of memory`.
 pub fn engine<R: Read, O: Write, E: Write>(
     alloc: Global,
     words: &[String],
@@ -35,20 +40,31 @@ pub fn engine<R: Read, O: Write, E: Write>(
     output: &mut O,
     errors: &mut E,
 ) -> u8
-    ensures answer { result ≡ 0 → Answered (map string_bytes words.now) (R.remaining input.old) (R.remaining input.new) (writer_view (O.contents output.old)) (writer_view (O.contents output.new)) }
-    ensures no_error { result ≡ 0 → errors.new ≡ errors.old }
-    ensures refusal { result ≢ 0 → (refusal : Refusal) × (result ≡ status_of refusal)
+    ensures answer { result ≡ 0 → AsksForNoEdit (map string_bytes words.now)
+        → Answered (map string_bytes words.now) (R.remaining input.old) (R.remaining input.new) (writer_view (O.contents output.old)) (writer_view (O.contents output.new)) }
+    ensures refusal { result ≢ 0 → AsksForNoEdit (map string_bytes words.now) → (refusal : Refusal) × (result ≡ status_of refusal)
         × Refuses (map string_bytes words.now) (R.remaining input.old) (R.remaining input.new) ⊤ (writer_view (O.contents output.old)) (writer_view (O.contents output.new)) refusal
         × Told (writer_view (E.contents errors.old)) (writer_view (E.contents errors.new)) (line_of refusal)
         × Unread (input.new ≡ input.old) refusal × Unwritten (output.new ≡ output.old) refusal }
+    ensures edited { result ≡ 0 → AsksToEdit (map string_bytes words.now)
+        → Edited (map string_bytes words.now) (R.remaining input.old) (R.remaining input.new) (writer_view (O.contents output.old)) (writer_view (O.contents output.new)) }
+    ensures fault { result ≢ 0 → AsksToEdit (map string_bytes words.now) → (fault : Fault) × (result ≡ fault_status fault)
+        × RefusesEditing (map string_bytes words.now) (R.remaining input.old) (R.remaining input.new) ⊤ (writer_view (O.contents output.old)) (writer_view (O.contents output.new)) fault
+        × Told (writer_view (E.contents errors.old)) (writer_view (E.contents errors.new)) (fault_line fault)
+        × UnwrittenByEdit (output.new ≡ output.old) fault }
+    ensures no_error { result ≡ 0 → errors.new ≡ errors.old }
 {
-    run(
-        alloc,
-        words,
-        &mut FromRead(input),
-        &mut ToWrite(output),
-        &mut ToWrite(errors),
-    )
+    match asked_to_edit(words) {
+        Some(hash) => run_script(
+            alloc,
+            words,
+            hash,
+            &mut FromRead(input),
+            &mut ToWrite(output),
+            &mut ToWrite(errors),
+        ),
+        None => gixobj_loose::engine::engine(alloc, words, input, output, errors),
+    }
 }
 
 /// [`engine`] over a source and two sinks, which say when they may fail: over a slice and two
@@ -60,66 +76,75 @@ pub fn run<S: Source, O: Sink, E: Sink>(
     output: &mut O,
     errors: &mut E,
 ) -> u8
-    ensures answer { result ≡ 0 → Answered (map string_bytes words.now) (S.rest input.old) (S.rest input.new) (O.view output.old) (O.view output.new) }
-    ensures no_error { result ≡ 0 → errors.new ≡ errors.old }
-    ensures refusal { result ≢ 0 → (refusal : Refusal) × (result ≡ status_of refusal)
+    ensures answer { result ≡ 0 → AsksForNoEdit (map string_bytes words.now)
+        → Answered (map string_bytes words.now) (S.rest input.old) (S.rest input.new) (O.view output.old) (O.view output.new) }
+    ensures refusal { result ≢ 0 → AsksForNoEdit (map string_bytes words.now) → (refusal : Refusal) × (result ≡ status_of refusal)
         × Refuses (map string_bytes words.now) (S.rest input.old) (S.rest input.new) (S.may_fail input.old) (O.view output.old) (O.view output.new) refusal
         × Told (E.view errors.old) (E.view errors.new) (line_of refusal)
         × Unread (input.new ≡ input.old) refusal × Unwritten (output.new ≡ output.old) refusal }
+    ensures edited { result ≡ 0 → AsksToEdit (map string_bytes words.now)
+        → Edited (map string_bytes words.now) (S.rest input.old) (S.rest input.new) (O.view output.old) (O.view output.new) }
+    ensures fault { result ≢ 0 → AsksToEdit (map string_bytes words.now) → (fault : Fault) × (result ≡ fault_status fault)
+        × RefusesEditing (map string_bytes words.now) (S.rest input.old) (S.rest input.new) (S.may_fail input.old) (O.view output.old) (O.view output.new) fault
+        × Told (E.view errors.old) (E.view errors.new) (fault_line fault)
+        × UnwrittenByEdit (output.new ≡ output.old) fault }
+    ensures no_error { result ≡ 0 → errors.new ≡ errors.old }
     ensures same_loans { (S.loan input.new ≡ S.loan input.old) × (O.loan output.new ≡ O.loan output.old) × (E.loan errors.new ≡ E.loan errors.old) }
 {
-    match answer(alloc, words, input, output) {
-        Ok(()) => 0,
-        Err(refusal) => tell(refusal, errors),
+    match asked_to_edit(words) {
+        Some(hash) => run_script(alloc, words, hash, input, output, errors),
+        None => gixobj_loose::engine::run(alloc, words, input, output, errors),
     }
 }
 
-/// Reads the input, and writes the text that the words ask for.
-fn answer<S: Source, O: Sink>(
+/// Runs a script, and says what is wrong where nothing is told of it. The words ask for that.
+fn run_script<S: Source, O: Sink, E: Sink>(
     alloc: Global,
     words: &[String],
+    hash: hash::Kind,
     input: &mut S,
     output: &mut O,
-) -> Result<(), Refusal>
-    ensures answer { OnOk result (Answered (map string_bytes words.now) (S.rest input.old) (S.rest input.new) (O.view output.old) (O.view output.new)) }
-    ensures refusal { IfErr result (Refuses (map string_bytes words.now) (S.rest input.old) (S.rest input.new) (S.may_fail input.old) (O.view output.old) (O.view output.new)) }
-    ensures unread { IfErr result (Unread (input.new ≡ input.old)) }
-    ensures unwritten { IfErr result (Unwritten (output.new ≡ output.old)) }
+    errors: &mut E,
+) -> u8
+    requires asked { AsksForEdit (map string_bytes words.now) hash }
+    ensures edited { result ≡ 0 → Edited (map string_bytes words.now) (S.rest input.old) (S.rest input.new) (O.view output.old) (O.view output.new) }
+    ensures fault { result ≢ 0 → (fault : Fault) × (result ≡ fault_status fault)
+        × RefusesEditing (map string_bytes words.now) (S.rest input.old) (S.rest input.new) (S.may_fail input.old) (O.view output.old) (O.view output.new) fault
+        × Told (E.view errors.old) (E.view errors.new) (fault_line fault)
+        × UnwrittenByEdit (output.new ≡ output.old) fault }
+    ensures no_error { result ≡ 0 → errors.new ≡ errors.old }
+    ensures same_loans { (S.loan input.new ≡ S.loan input.old) × (O.loan output.new ≡ O.loan output.old) × (E.loan errors.new ≡ E.loan errors.old) }
+{
+    match edited(alloc, words, hash, input, output) {
+        Ok(()) => 0,
+        Err(fault) => tell_fault(alloc, fault, errors),
+    }
+}
+
+/// Reads a script, runs it, and writes what came of it. The words ask for that.
+fn edited<S: Source, O: Sink>(
+    alloc: Global,
+    words: &[String],
+    hash: hash::Kind,
+    input: &mut S,
+    output: &mut O,
+) -> Result<(), Fault>
+    requires asked { AsksForEdit (map string_bytes words.now) hash }
+    ensures told { OnOk result (Edited (map string_bytes words.now) (S.rest input.old) (S.rest input.new) (O.view output.old) (O.view output.new)) }
+    ensures refusal { IfErr result (RefusesEditing (map string_bytes words.now) (S.rest input.old) (S.rest input.new) (S.may_fail input.old) (O.view output.old) (O.view output.new)) }
+    ensures unwritten { IfErr result (UnwrittenByEdit (output.new ≡ output.old)) }
     ensures same_loans { (S.loan input.new ≡ S.loan input.old) × (O.loan output.new ≡ O.loan output.old) }
 {
-    let Some((command, hash)) = asked(words) else {
-        return Err(Refusal::Usage);
+    let script = match read_all(alloc, input) {
+        Ok(script) => script,
+        Err(refusal) => return Err(Fault::Refused(refusal)),
     };
-    let bytes = read_all(alloc, input)?;
-    let text = text_for(alloc, command, hash, bytes.as_slice())?;
+    let text = match edit(alloc, script.as_slice(), hash) {
+        Ok(text) => text,
+        Err(error) => return Err(error.into()),
+    };
     match output.put(text.as_slice()) {
         Ok(()) => Ok(()),
-        Err(_) => Err(Refusal::OutputFailed),
+        Err(_) => Err(Fault::Refused(Refusal::OutputFailed)),
     }
-}
-
-/// What a command makes of its input, by this kind of digest. The line of `show` takes no memory.
-fn text_for(
-    alloc: Global,
-    command: Command,
-    hash: hash::Kind,
-    input: &[u8],
-) -> Result<SmallVec<u8, 96>, Refusal>
-    ensures text { IfOk result (λ text. IsTextFor command hash input.now text.items) }
-    ensures refusal { IfErr result (RefusesText command hash input.now) }
-{
-    match command {
-        Command::Show => Ok(show(alloc, hash, input)?.line(alloc)),
-        Command::Tree => Ok(SmallVec::from_vec(listing(alloc, hash, input)?)),
-    }
-}
-
-/// Says what is wrong, and answers the exit status. Where that can't be said, the status alone says it.
-pub fn tell<E: Sink>(refusal: Refusal, errors: &mut E) -> u8
-    ensures status { result ≡ status_of refusal }
-    ensures told { Told (E.view errors.old) (E.view errors.new) (line_of refusal) }
-    ensures same_loan { E.loan errors.new ≡ E.loan errors.old }
-{
-    let _ = errors.put(refusal.line());
-    refusal.status()
 }

@@ -1,22 +1,19 @@
 //! `gixobj show [sha256]`: tells what a loose object is, from its uncompressed bytes on standard
 //! input, as `<kind> <size> <id>`. `gixobj tree [sha256]`: lists the entries of a loose tree, a line
-//! `<mode> <kind> <id> <name>` each.
+//! `<mode> <kind> <id> <name>` each. `gixobj edit [sha256]`: runs a script of edits on an empty tree, and
+//! tells what came of each.
 #![tactic(auto)]
 
-mod engine;
-mod input;
-mod object;
-mod refusal;
-#[cfg(test)]
-mod samples;
-mod show;
-mod tree;
-mod words;
+pub mod engine;
+pub mod fault;
+pub mod store;
+pub mod words;
 
-use engine::{engine, tell};
+use engine::engine;
 use gixobj_base::streams::ToWrite;
+use gixobj_loose::engine::tell;
+use gixobj_loose::words::words_of_process;
 use std::process::ExitCode;
-use words::words_of_process;
 
 fn main(rt: HostRuntime) -> ExitCode {
     let mut errors = rt.stderr();

@@ -8,6 +8,8 @@ mod existing;
 #[cfg(test)]
 mod failing;
 #[cfg(test)]
+mod growths;
+#[cfg(test)]
 mod never;
 #[cfg(test)]
 mod paths;

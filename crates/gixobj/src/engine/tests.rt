@@ -1,287 +1,102 @@
-//! Whole runs of the program, over readers and writers of memory that may fail.
+//! Whole runs of the program over memory. Ids are those that `git mktree --missing` answers.
 
-use super::{engine, run};
-use crate::samples::{ONE_ENTRY, answer_from, answer_of, words_in};
-use std::io;
-use std::io::{ErrorKind, Read, Write};
+use super::engine;
+use std::alloc::{AllocError, Global};
 use std::test::Fail;
+
+const NESTED: &str = "upsert blob 83baae61804e65cc73a7201a7252750c76066a30 bak/test.txt
+upsert blob fa49b077972391ad58037050f2a75f74e3671e92 new.txt
+upsert blob 1f7a7a472abf3dd9643fd615f6da379c4acb3e3a test.txt
+write
+";
+
+const NESTED_LINES: &str = "ok
+ok
+ok
+wrote 3c4e9cd789d88d8d89c1073707c3585e41b0e614 2
+lookups 0
+";
+
+const LEAF: &str = "upsert blob 83baae61804e65cc73a7201a7252750c76066a30 a/b
+leaf a
+remove a
+write";
+
+const LEAF_LINES: &str = "ok
+refused 4 a
+ok
+wrote 4b825dc642cb6eb9a060e54bf8d69288fbee4904 1
+lookups 0
+";
+
+const SHA256_LINES: &str = "ok
+wrote 6ef19b41225c5369f1c104d45d8d85efa9b057b53b14b4b9b939dd74decc5321 1
+lookups 0
+";
 
 const USAGE: &str = "usage: gixobj show|tree|edit [sha256]\n";
 
-/// A reader that gives at most `step` bytes a time, and then fails or ends.
-#[derive(Drop)]
-struct Stepping<'a> {
-    rest: &'a [u8],
-    step: usize,
-    fails: bool,
+/// The words of a line.
+fn words_in(alloc: Global, line: &str) -> Result<Vec<String>, AllocError> {
+    line.split_whitespace()
+        .map(|word| String::from_str(alloc, word))
+        .try_collect(alloc)
 }
 
-impl Read for Stepping<'_> {
-    fn read(&mut self, buf: &mut [u8]) -> io::Result<usize> {
-        if self.rest.is_empty() && self.fails {
-            return Err(io::Error::from(ErrorKind::ConnectionReset));
-        }
-        let count = self.step.min(self.rest.len()).min(buf.len());
-        let (front, rest) = self.rest.split_at(count);
-        buf[..count].copy_from_slice(front);
-        self.rest = rest;
-        Ok(count)
-    }
-}
-
-/// A reader that is interrupted once before each byte.
-#[derive(Drop)]
-struct Interrupted<'a> {
-    rest: &'a [u8],
-    is_next: bool,
-}
-
-impl Read for Interrupted<'_> {
-    fn read(&mut self, buf: &mut [u8]) -> io::Result<usize> {
-        self.is_next = !self.is_next;
-        if self.is_next {
-            return Err(io::Error::from(ErrorKind::Interrupted));
-        }
-        let count = self.rest.len().min(buf.len()).min(1);
-        let (front, rest) = self.rest.split_at(count);
-        buf[..count].copy_from_slice(front);
-        self.rest = rest;
-        Ok(count)
-    }
-}
-
-/// A writer that keeps what it takes, as much as it has room for.
-#[derive(Drop)]
-struct Narrow {
-    held: Vec<u8>,
-    room: usize,
-}
-
-impl Write for Narrow {
-    fn write(&mut self, buf: &[u8]) -> io::Result<usize> {
-        let count = self.room.min(buf.len());
-        if count == 0 {
-            return Err(io::Error::from(ErrorKind::StorageFull));
-        }
-        self.held.extend_from_slice(&buf[..count])?;
-        self.room -= count;
-        Ok(count)
-    }
-
-    fn flush(&mut self) -> io::Result<()> {
-        Ok(())
-    }
-}
-
-/// A writer that has no room.
-#[derive(Drop)]
-struct Full;
-
-impl Write for Full {
-    fn write(&mut self, _buf: &[u8]) -> io::Result<usize> {
-        Err(io::Error::from(ErrorKind::StorageFull))
-    }
-
-    fn flush(&mut self) -> io::Result<()> {
-        Ok(())
-    }
-}
-
-#[test]
-fn show_objects_and_faults(rt: HostRuntime) -> Result<(), Fail> {
-    let alloc = rt.alloc();
-    let hello = "blob 6 ce013625030ba8dba906f756967f9e9ca394464a\n";
-    let hello_sha256 = "blob 6 2cf8d83d9ee29543b34a87727421fdecb7e3f3a183d337639025de576db9ebb4\n";
-    let runs: [(&str, &[u8], u8, &str, &str); 20] = [
-        ("show", b"blob 6\0hello\n", 0, hello, ""),
-        ("show", b"blob 6\0hello\nand more", 0, hello, ""),
-        ("show sha256", b"blob 6\0hello\n", 0, hello_sha256, ""),
-        (
-            "show",
-            b"blob +0\0",
-            0,
-            "blob 0 e69de29bb2d1d6434b8b29ae775ad8c2e48c5391\n",
-            "",
-        ),
-        (
-            "show",
-            b"tree -0\0rest",
-            0,
-            "tree 0 4b825dc642cb6eb9a060e54bf8d69288fbee4904\n",
-            "",
-        ),
-        ("show", b"", 1, "", "gixobj: bad header\n"),
-        ("show", b"blob 6", 1, "", "gixobj: bad header\n"),
-        ("show", b"blub 6\0hello\n", 1, "", "gixobj: bad header\n"),
-        ("show", b"blob -6\0hello\n", 1, "", "gixobj: bad header\n"),
-        ("show", b"blob 7\0hello\n", 1, "", "gixobj: short data\n"),
-        (
-            "show sha256",
-            b"blob 18446744073709551615\0",
-            1,
-            "",
-            "gixobj: short data\n",
-        ),
-        ("", b"blob 6\0hello\n", 2, "", USAGE),
-        ("edit", b"", 2, "", USAGE),
-        ("show sha1", b"blob 6\0hello\n", 2, "", USAGE),
-        ("tree sha1", b"tree 0\0", 2, "", USAGE),
-        ("tree tree", b"tree 0\0", 2, "", USAGE),
-        ("sha256 tree", b"tree 0\0", 2, "", USAGE),
-        ("Tree", b"tree 0\0", 2, "", USAGE),
-        ("show tree", b"tree 0\0", 2, "", USAGE),
-        ("show sha256 sha256", b"blob 6\0hello\n", 2, "", USAGE),
-    ];
-    for (line, input, status, output, errors) in runs {
-        let got = answer_of(alloc, line, input)?;
-        assert_eq!(rt; got.0, status, "{line} {input:?}");
-        assert_eq!(rt; got.1.as_slice(), output.as_bytes(), "{line} {input:?}");
-        assert_eq!(rt; got.2.as_slice(), errors.as_bytes(), "{line} {input:?}");
-    }
-    Ok(())
-}
-
-/// Inputs of each command, and what is written of each on standard output and on standard error.
-const READ: [(&str, &[u8], &str, &str); 4] = [
-    (
-        "show",
-        b"blob 6\0hello\n",
-        "blob 6 ce013625030ba8dba906f756967f9e9ca394464a\n",
-        "",
-    ),
-    (
-        "tree",
-        ONE_ENTRY,
-        "100644 blob 83baae61804e65cc73a7201a7252750c76066a30 test.txt\n",
-        "",
-    ),
-    ("tree", b"tree", "", "gixobj: bad header\n"),
-    ("tree", b"tree 6\0hello\n", "", "gixobj: bad tree\n"),
-];
-
-#[test]
-fn readers_in_steps(rt: HostRuntime) -> Result<(), Fail> {
-    let alloc = rt.alloc();
-    for (line, object, output, errors) in READ {
-        for step in [1, 5, 4096] {
-            let mut reader = Stepping {
-                rest: object,
-                step,
-                fails: false,
-            };
-            let got = answer_from(alloc, line, &mut reader)?;
-            assert_eq!(rt; got.1.as_slice(), output.as_bytes(), "{line} {object:?}");
-            assert_eq!(rt; got.2.as_slice(), errors.as_bytes(), "{line} {object:?}");
-        }
-    }
-    Ok(())
-}
-
-#[test]
-fn readers_that_fail(rt: HostRuntime) -> Result<(), Fail> {
-    let alloc = rt.alloc();
-    for (line, object, _, _) in READ {
-        for step in [1, 5, 4096] {
-            let mut reader = Stepping {
-                rest: object,
-                step,
-                fails: true,
-            };
-            let got = answer_from(alloc, line, &mut reader)?;
-            assert_eq!(rt; got.0, 1, "{line} {object:?}");
-            assert!(rt; got.1.is_empty(), "{line} {object:?}");
-            assert_eq!(rt; got.2.as_slice(), b"gixobj: input failed\n".as_slice());
-        }
-    }
-    Ok(())
-}
-
-#[test]
-fn interrupted_readers(rt: HostRuntime) -> Result<(), Fail> {
-    let alloc = rt.alloc();
-    for (line, object, output, errors) in READ {
-        let mut reader = Interrupted {
-            rest: object,
-            is_next: false,
-        };
-        let got = answer_from(alloc, line, &mut reader)?;
-        assert_eq!(rt; got.1.as_slice(), output.as_bytes(), "{line} {object:?}");
-        assert_eq!(rt; got.2.as_slice(), errors.as_bytes(), "{line} {object:?}");
-    }
-    Ok(())
-}
-
-#[test]
-fn writers_that_fail(rt: HostRuntime) -> Result<(), Fail> {
-    let alloc = rt.alloc();
-    let runs: [(&str, &[u8], u8, &str); 6] = [
-        ("show", b"blob 6\0hello\n", 1, "gixobj: output failed\n"),
-        ("show", b"", 1, "gixobj: bad header\n"),
-        ("tree", ONE_ENTRY, 1, "gixobj: output failed\n"),
-        ("tree", b"tree 6\0hello\n", 1, "gixobj: bad tree\n"),
-        ("tree", b"tree 0\0", 0, ""),
-        ("", b"", 2, USAGE),
-    ];
-    for (line, object, status, errors) in runs {
-        let words = words_in(alloc, line)?;
-        let mut refused = Vec::new(alloc);
-        let mut rest = object;
-        let got = engine(alloc, words.as_slice(), &mut rest, &mut Full, &mut refused);
-        assert_eq!(rt; got, status, "{line} {object:?}");
-        assert_eq!(rt; refused.as_slice(), errors.as_bytes(), "{line} {object:?}");
-        let mut rest = object;
-        let got = engine(alloc, words.as_slice(), &mut rest, &mut Full, &mut Full);
-        assert_eq!(rt; got, status, "{line} {object:?}");
-    }
-    Ok(())
-}
-
-#[test]
-fn a_writer_that_fails_in_mid_line(rt: HostRuntime) -> Result<(), Fail> {
-    let alloc = rt.alloc();
-    let words = words_in(alloc, "tree")?;
-    let line = b"100644 blob 83baae61804e65cc73a7201a7252750c76066a30 test.txt\n".as_slice();
-    for room in [1, 12, 61] {
-        let mut object = ONE_ENTRY;
-        let mut narrow = Narrow {
-            held: Vec::new(alloc),
-            room,
-        };
-        let mut refused = Vec::new(alloc);
-        let status = engine(
-            alloc,
-            words.as_slice(),
-            &mut object,
-            &mut narrow,
-            &mut refused,
-        );
-        assert_eq!(rt; status, 1);
-        assert!(rt; line.starts_with(narrow.held.as_slice()));
-        assert_eq!(rt; narrow.held.len(), room);
-        assert_eq!(rt; refused.as_slice(), b"gixobj: output failed\n".as_slice());
-    }
-    Ok(())
-}
-
-#[test]
-fn over_memory(rt: HostRuntime) -> Result<(), Fail> {
-    let alloc = rt.alloc();
-    let words = words_in(alloc, "show")?;
-    let mut object: &[u8] = b"blob 6\0hello\n";
-    let mut answered = Vec::new(alloc);
+/// What the program answers of an input: the status, and what it writes on its two outputs.
+fn answer_of(alloc: Global, line: &str, input: &str) -> Result<(u8, Vec<u8>, Vec<u8>), AllocError> {
+    let words = words_in(alloc, line)?;
+    let mut rest = input.as_bytes();
+    let mut told = Vec::new(alloc);
     let mut refused = Vec::new(alloc);
-    let status = run(
-        alloc,
-        words.as_slice(),
-        &mut object,
-        &mut answered,
-        &mut refused,
-    );
-    assert_eq!(rt; status, 0);
-    assert_eq!(rt;
-        answered.as_slice(),
-        b"blob 6 ce013625030ba8dba906f756967f9e9ca394464a\n".as_slice()
-    );
-    assert!(rt; refused.is_empty());
+    let status = engine(alloc, words.as_slice(), &mut rest, &mut told, &mut refused);
+    Ok((status, told, refused))
+}
+
+#[test]
+fn scripts_and_what_is_told(rt: HostRuntime) -> Result<(), Fail> {
+    let alloc = rt.alloc();
+    let runs: [(&str, &str, &str); 5] = [
+        ("edit", NESTED, NESTED_LINES),
+        ("edit", LEAF, LEAF_LINES),
+        ("edit", "", "lookups 0\n"),
+        ("edit sha256", "root\nwrite", SHA256_LINES),
+        (
+            "show",
+            "blob 6\0hello\n",
+            "blob 6 ce013625030ba8dba906f756967f9e9ca394464a\n",
+        ),
+    ];
+    for (line, input, told) in runs {
+        let got = answer_of(alloc, line, input)?;
+        assert_eq!(rt; got.0, 0, "{line} {input}");
+        assert_eq!(rt; got.1.as_slice(), told.as_bytes(), "{line} {input}");
+        assert!(rt; got.2.is_empty(), "{line} {input}");
+    }
+    Ok(())
+}
+
+#[test]
+fn faults(rt: HostRuntime) -> Result<(), Fail> {
+    let alloc = rt.alloc();
+    let runs: [(&str, &str, u8, &str); 6] = [
+        ("edit", "write\nfoo", 1, "gixobj: line 2\n"),
+        (
+            "edit",
+            "\n\nwrite\nupsert blob 00 a\n",
+            1,
+            "gixobj: line 4\n",
+        ),
+        ("edit sha1", "write\n", 2, USAGE),
+        ("edit sha256 sha256", "write\n", 2, USAGE),
+        ("tree", "blob 0\0", 1, "gixobj: not a tree\n"),
+        ("", "write\n", 2, USAGE),
+    ];
+    for (line, input, status, refused) in runs {
+        let got = answer_of(alloc, line, input)?;
+        assert_eq!(rt; got.0, status, "{line} {input}");
+        assert!(rt; got.1.is_empty(), "{line} {input}");
+        assert_eq!(rt; got.2.as_slice(), refused.as_bytes(), "{line} {input}");
+    }
     Ok(())
 }

@@ -1,0 +1,3 @@
+mod FewItems
+mod FirstEntry
+mod Refused

@@ -1,0 +1,22 @@
+//! The commands `show [sha256]` and `tree [sha256]` of the program `gixobj` alone, which stand on few of its
+//! crates and so are soon built.
+#![tactic(auto)]
+
+use gixobj_base::streams::ToWrite;
+use gixobj_loose::engine::{engine, tell};
+use gixobj_loose::words::words_of_process;
+use std::process::ExitCode;
+
+fn main(rt: HostRuntime) -> ExitCode {
+    let mut errors = rt.stderr();
+    ExitCode::from(match words_of_process(&rt) {
+        Ok(words) => engine(
+            rt.alloc(),
+            words.as_slice(),
+            &mut rt.reader(),
+            &mut rt.stdout(),
+            &mut errors,
+        ),
+        Err(refusal) => tell(refusal, &mut ToWrite(&mut errors)),
+    })
+}
