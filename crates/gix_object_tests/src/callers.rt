@@ -4,14 +4,16 @@ use bstr::{BStr, BString};
 use gix_object::find::Never;
 use gix_object::hash::{Kind, ObjectId};
 use gix_object::tree::EntryKind;
+use gix_object::tree::editor::{Edit, Editor, Error, WriteError, Written};
 use gix_object::{CommitRef, Tree, WriteTo, compute_hash, encode};
 use gixobj_callers::auditor::{place_of, value_of, values_of};
 use gixobj_callers::checkout::{Planned, with_entries_at};
-use gixobj_callers::importer::owned_copy_of;
+use gixobj_callers::importer::{ImportError, import_files, owned_copy_of};
 use gixobj_callers::planner::with_entry;
 use gixobj_callers::store::{CopyError, copy_of};
 use gixobj_callers::walker::{ends_behind_errors, message_of, parents_of, tree_of};
-use std::alloc::Global;
+use gixobj_store::Memory;
+use std::alloc::{AllocError, Global};
 use std::test::Fail;
 
 const TREE: &[u8] = b"4b825dc642cb6eb9a060e54bf8d69288fbee4904";
@@ -119,5 +121,81 @@ fn audited(rt: HostRuntime) -> Result<(), Fail> {
     assert_eq!(rt; values_of(alloc, &commit, "x")?.len(), 1);
     let owned = commit.into_owned(alloc)?;
     assert!(rt; place_of(&owned, "gpgsig") == Some(1));
+    Ok(())
+}
+
+fn path_of(alloc: Global, names: &[&str]) -> Result<Vec<BString>, AllocError> {
+    let mut path = Vec::new(alloc);
+    for name in names {
+        path.push(BString::from_slice(alloc, name.as_bytes())?)?;
+    }
+    Ok(path)
+}
+
+/// A file that is put at a path.
+fn put(alloc: Global, names: &[&str], hex: &[u8]) -> Result<Edit, Fail> {
+    Ok(Edit::Upsert {
+        path: path_of(alloc, names)?,
+        kind: EntryKind::Blob,
+        id: ObjectId::from_hex(hex).ok_or("an id")?,
+    })
+}
+
+fn import(
+    alloc: Global,
+    editor: &mut Editor<Memory>,
+    edits: Vec<Edit>,
+) -> Result<Written, ImportError<encode::Error>> {
+    import_files(alloc, editor, edits, |tree: &Tree| id_of(alloc, tree))
+}
+
+/// What `git mktree --missing` answers for `040000 tree f09792be40f18f537c28b624b7bc7771f25082e1`, a tab and `a`, and
+/// `100644 blob`, the second id, a tab and `c`; the tree `a` is what it answers for `100644 blob`, the first id, a tab
+/// and `b`.
+const IMPORTED: &[u8] = b"4308448a0c406025f0a267505e3259565bf6351e";
+
+/// What it answers in the same way for the files `a/b` of the first id and `a/d` of the second.
+const GONE_ON: &[u8] = b"ed09f01c0a6d6684b098b8d3591ada3fb12b32f3";
+
+#[test]
+fn imported(rt: HostRuntime) -> Result<(), Fail> {
+    let alloc = rt.alloc();
+    let mut editor = Editor::new(Tree::empty(alloc), Memory::new(alloc), Kind::Sha1);
+    let near = put(alloc, &["c"], SECOND)?;
+    let far = put(alloc, &["a", "b"], FIRST)?;
+    let written = import(alloc, &mut editor, vec![in alloc; far, near]?)?;
+    assert!(rt; ObjectId::from_hex(IMPORTED) == Some(written.id));
+    assert_eq!(rt; written.trees.len(), 2);
+    let more = put(alloc, &["a", "d"], SECOND)?;
+    let path = path_of(alloc, &["c"])?;
+    let less = Edit::Remove { path };
+    let written = import(alloc, &mut editor, vec![in alloc; more, less]?)?;
+    assert!(rt; ObjectId::from_hex(GONE_ON) == Some(written.id));
+    assert_eq!(rt; written.trees.len(), 2);
+    Ok(())
+}
+
+#[test]
+fn not_imported(rt: HostRuntime) -> Result<(), Fail> {
+    let alloc = rt.alloc();
+    let mut editor = Editor::new(Tree::empty(alloc), Memory::new(alloc), Kind::Sha1);
+    let near = put(alloc, &["c"], SECOND)?;
+    let answer = import(alloc, &mut editor, vec![in alloc; near, Edit::Write]?);
+    assert!(rt; matches!(&answer, Err(ImportError::HoldsWrite)));
+    let near = put(alloc, &["c"], SECOND)?;
+    let slashed = put(alloc, &["a/b"], FIRST)?;
+    let answer = import(alloc, &mut editor, vec![in alloc; near, slashed]?);
+    assert!(rt;
+        matches!(
+            &answer,
+            Err(ImportError::Edit {
+                index: 1,
+                error: Error::SlashInPathComponent
+            })
+        )
+    );
+    let zero = put(alloc, &["\0"], FIRST)?;
+    let answer = import(alloc, &mut editor, vec![in alloc; zero]?);
+    assert!(rt; matches!(&answer, Err(ImportError::Write(WriteError::Out(_)))));
     Ok(())
 }

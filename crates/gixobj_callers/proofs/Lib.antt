@@ -1,5 +1,7 @@
 mod Commits
 mod Histories
+mod Imported
+mod Importing
 mod Listed
 mod PutIn
 mod Refusals

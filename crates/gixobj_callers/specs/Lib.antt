@@ -1,5 +1,6 @@
 pub mod Ancestors
 pub mod Checkouts
 pub mod Copies
+pub mod Imports
 pub mod Shelves
 pub mod Told

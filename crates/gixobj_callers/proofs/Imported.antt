@@ -1,0 +1,78 @@
+-- What edits that come through, and a write behind them, make of the files and of the store.
+use Rattle.std.proofs.Common.{◌≡◌, ◌∙◌, ℕ, List, [], ◌∷◌, ap, subst, sym}
+use Rattle.gixobj_callers.specs.Imports.{AreDone, Decides, IsWriteBehind, import_steps, steps_if_done}
+use Rattle.gixobj_callers.proofs.Histories.{history_append, same_history}
+use Rattle.gixobj_commands.specs.declared.command.Edit.{Edit}
+use Rattle.gixobj_commands.specs.declared.command.Edit.TheVariants as edit
+use Rattle.gixobj_data.specs.Stores.{Objects}
+use Rattle.gixobj_directories.proofs.NamedTrees.{trees_of}
+use Rattle.gixobj_directories.specs.Openings.{AreTreesOf}
+use Rattle.gixobj_directories.specs.declared.write.Written.{Written}
+use Rattle.gixobj_files.proofs.EditedFiles.{same_refl, same_sym, same_trans}
+use Rattle.gixobj_files.specs.Files.{NamedFiles, SameFiles, Table, Trees}
+use Rattle.gixobj_files.specs.History.{History}
+use Rattle.gixobj_files.specs.State.{EditorFiles, State}
+use Rattle.gixobj_files.specs.Tables.{AgreesWithPairs, AgreesWithStore}
+use Rattle.gixobj_keeping.specs.Keeping.{with_trees}
+use Rattle.gixobj_runs.specs.Commands.{at_root}
+use Rattle.gixobj_runs.specs.Replies.{Answers, IsEditReply, Meaning}
+use Rattle.gixobj_runs.specs.RunTables.{AgreesWithObjects}
+use Rattle.gixobj_runs.specs.declared.reply.EditReply.{EditReply}
+use Rattle.gixobj_runs.specs.declared.reply.EditReply.TheVariants as edit_reply
+
+-- what agrees with the objects agrees with their trees
+agrees_with_trees : (T : Table) (objects : Objects) (trees : Trees) → AreTreesOf objects trees → AgreesWithObjects T objects → AgreesWithStore T trees
+agrees_with_trees T objects trees fits agrees = λ id entries asked is. agrees id entries asked ((fits id entries).0 is)
+
+module _ {S E : Type 0} (means : Meaning S) (answers : Answers E) where
+  edit_stays : (old new : State S) (it : Edit) → IsEditReply means answers at_root old it edit_reply.Done new → new.store ≡ old.store
+  edit_stays old new (edit.Upsert path kind id) done = let trees = trees_of (means.objects old.store) in ap (λ (s : State S). s.store) (done trees.0 trees.1).rest
+  edit_stays old new (edit.Remove path) done = let trees = trees_of (means.objects old.store) in ap (λ (s : State S). s.store) (done trees.0 trees.1).rest
+  edit_stays old new (edit.RemoveLeaf path) done = let trees = trees_of (means.objects old.store) in ap (λ (s : State S). s.store) (done trees.0 trees.1).removed.rest
+  edit_stays old new edit.Write done = absurd done
+
+  -- the store stays as it is
+  edits_stay : (old new : State S) (edits : List Edit) → AreDone means answers old edits new → new.store ≡ old.store
+  edits_stay old new [] done = ap (λ (s : State S). s.store) done
+  edits_stay old new (it ∷ edits) (between, first, done) = edits_stay between new edits done ∙ edit_stays old between it first
+
+  module _ (T : Table) (n : ℕ) where
+    edit_files : (old new : State S) (it : Edit) → IsEditReply means answers at_root old it edit_reply.Done new → AgreesWithObjects T (means.objects old.store)
+        → SameFiles (EditorFiles T n new) (History T n (steps_if_done it) (EditorFiles T n old))
+    edit_files old new (edit.Upsert path kind id) done agrees =
+        let trees = trees_of (means.objects old.store) in (done trees.0 trees.1).files T n (agrees_with_trees T (means.objects old.store) trees.0 trees.1 agrees)
+    edit_files old new (edit.Remove path) done agrees =
+        let trees = trees_of (means.objects old.store) in (done trees.0 trees.1).files T n (agrees_with_trees T (means.objects old.store) trees.0 trees.1 agrees)
+    edit_files old new (edit.RemoveLeaf path) done agrees =
+        let trees = trees_of (means.objects old.store) in (done trees.0 trees.1).removed.files T n (agrees_with_trees T (means.objects old.store) trees.0 trees.1 agrees)
+    edit_files old new edit.Write done agrees = absurd done
+
+    -- the files are those of the steps
+    edits_files : (old new : State S) (edits : List Edit) → AreDone means answers old edits new → AgreesWithObjects T (means.objects old.store)
+        → SameFiles (EditorFiles T n new) (History T n (import_steps edits) (EditorFiles T n old))
+    edits_files old new [] done agrees = subst (λ (s : State S). SameFiles (EditorFiles T n s) (EditorFiles T n old)) (sym done) (same_refl (EditorFiles T n old))
+    edits_files old new (it ∷ edits) (between, first, done) agrees =
+        let later = edits_files between new edits done (subst (λ (s : S). AgreesWithObjects T (means.objects s)) (sym (edit_stays old between it first)) agrees) in
+        same_trans _ _ _ later
+        (same_trans _ _ _ (same_history T n (import_steps edits) (EditorFiles T n between) (History T n (steps_if_done it) (EditorFiles T n old)) (edit_files old between it first agrees))
+        (same_sym _ _ (history_append T n (steps_if_done it) (import_steps edits) (EditorFiles T n old))))
+
+    pub named_files : (old new : State S) (edits : List Edit) (written : Written) → IsWriteBehind means answers old edits (edit_reply.Written written) new
+        → AgreesWithObjects T (means.objects old.store) → AgreesWithPairs T written.trees.items → SameFiles (NamedFiles T n written.id) (History T n (import_steps edits) (EditorFiles T n old))
+    named_files old new edits written behind agrees pairs = same_trans _ _ _ (behind.write.written.files T n pairs) (edits_files old behind.edited edits behind.done agrees)
+
+    pub files_left : (old new : State S) (edits : List Edit) (written : Written) → IsWriteBehind means answers old edits (edit_reply.Written written) new
+        → AgreesWithPairs T written.trees.items → SameFiles (EditorFiles T n new) (NamedFiles T n written.id)
+    files_left old new edits written behind pairs =
+        let it = behind.write in
+        subst (λ (s : State S). SameFiles (EditorFiles T n s) (NamedFiles T n written.id)) (sym it.rest) (same_trans _ _ _ (it.written.same_files T n pairs) (same_sym _ _ (it.written.files T n pairs)))
+
+  -- the reply that decides says what went out
+  pub write_done : (old new : State S) (edits : List Edit) (index : ℕ) (its_reply : EditReply E) (written : Written) → Decides means answers old edits index its_reply new → its_reply ≡ edit_reply.Written written
+      → IsWriteBehind means answers old edits (edit_reply.Written written) new
+  write_done old new edits index its_reply written decides is = subst (λ (r : EditReply E). Decides means answers old edits index r new) is decides
+
+  pub all_kept : (old new : State S) (edits : List Edit) (written : Written) → IsWriteBehind means answers old edits (edit_reply.Written written) new
+      → means.objects new.store ≡ with_trees written.trees.items (means.objects old.store)
+  all_kept old new edits written behind =
+      behind.write.kept.0 ∙ ap (λ (s : S). with_trees written.trees.items (means.objects s)) (edits_stay old behind.edited edits behind.done)

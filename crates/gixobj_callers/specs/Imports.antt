@@ -1,0 +1,78 @@
+-- Imports: edits that all come through, one after the other, and then a write, all of whose trees the store keeps.
+use Rattle.std.specs.Prelude.{◌≡◌, ◌++◌, ◌∷◌, ℕ, Bool, true, false, Contains, List, [], flat_map, length, map}
+use Rattle.gixobj_base.specs.Mode.{mode_of_kind}
+use Rattle.gixobj_callers.specs.declared.importer.ImportError.{ImportError}
+use Rattle.gixobj_callers.specs.declared.importer.ImportError.TheVariants as import
+use Rattle.gixobj_commands.specs.declared.command.Command.{Command}
+use Rattle.gixobj_commands.specs.declared.command.Command.TheVariants as command
+use Rattle.gixobj_commands.specs.declared.command.Edit.{Edit}
+use Rattle.gixobj_commands.specs.declared.command.Edit.TheVariants as edit
+use Rattle.gixobj_directories.specs.Calls.{names_of}
+use Rattle.gixobj_editor.specs.declared.editor.error.Error.{Error}
+use Rattle.gixobj_files.specs.History.{Step, remove, upsert}
+use Rattle.gixobj_files.specs.State.{State}
+use Rattle.gixobj_runs.specs.Commands.{at_root}
+use Rattle.gixobj_runs.specs.Replies.{Answers, AreEditReplies, IsEditReply, IsRun, Meaning}
+use Rattle.gixobj_runs.specs.declared.reply.EditReply.{EditReply}
+use Rattle.gixobj_runs.specs.declared.reply.EditReply.TheVariants as edit_reply
+use Rattle.gixobj_runs.specs.declared.reply.Reply.{Reply}
+use Rattle.gixobj_runs.specs.declared.reply.Reply.TheVariants as reply
+
+-- what an edit that comes through does to the files; a write does nothing
+abbrev pub steps_if_done : Edit → List Step
+steps_if_done (edit.Upsert path kind id) = upsert (names_of path.items) (mode_of_kind kind) id ∷ []
+steps_if_done (edit.Remove path) = remove (names_of path.items) ∷ []
+steps_if_done (edit.RemoveLeaf path) = remove (names_of path.items) ∷ []
+steps_if_done edit.Write = []
+
+-- what all of the edits do, in order
+abbrev pub import_steps : List Edit → List Step
+import_steps edits = flat_map steps_if_done edits
+
+-- a command for each edit, and then one to write
+abbrev pub edits_and_write : List Edit → List Command
+edits_and_write edits = map command.Edit edits ++ command.Edit edit.Write ∷ []
+
+-- the edit came through
+abbrev pub is_done : {E : Type 0} → Reply E → Bool
+is_done (reply.Edit edit_reply.Done) = true
+is_done its_reply = false
+
+module _ {S E : Type 0} (means : Meaning S) (answers : Answers E) where
+  -- the edits come through, one after the other
+  abbrev pub AreDone : State S → List Edit → State S → Type 0
+  AreDone old edits new = AreEditReplies means answers at_root old edits (map (λ _. edit_reply.Done) edits) new
+
+  -- behind the edits, which come through, the write gets this reply
+  pub record IsWriteBehind (old : State S) (edits : List Edit) (its_reply : EditReply E) (new : State S) : Type 0 where
+    pub edited : State S
+    pub done : AreDone old edits edited
+    pub write : IsEditReply means answers at_root edited edit.Write its_reply new
+
+  -- the edit of this number is refused, those before it come through, and those behind it and the write are tried all the same
+  pub record IsRefusedAt (old : State S) (edits : List Edit) (index : ℕ) (error : Error) (new : State S) : Type 0 where
+    pub before : List Edit
+    pub refused : Edit
+    pub behind : List Edit
+    pub place : edits ≡ before ++ refused ∷ behind
+    pub number : length before ≡ index
+    pub reached : State S
+    pub done : AreDone old before reached
+    pub left : State S
+    pub refusal : IsEditReply means answers at_root reached refused (edit_reply.Refused error) left
+    pub replies : List (Reply E)
+    pub rest : IsRun means answers left (edits_and_write behind) replies new
+
+  -- what an import comes to where this reply, of this number, is the first that isn't that to an edit which came through
+  abbrev pub Decides : State S → List Edit → ℕ → EditReply E → State S → Type 0
+  Decides old edits index edit_reply.Done new = ⊥
+  Decides old edits index (edit_reply.Refused error) new = IsRefusedAt old edits index error new
+  Decides old edits index its_reply new = IsWriteBehind old edits its_reply new
+
+  -- why an import fails, and what it leaves
+  abbrev pub FailsImport : State S → List Edit → ImportError E → State S → Type 0
+  FailsImport old edits import.HoldsWrite new = Contains edits edit.Write × (new ≡ old)
+  FailsImport old edits (import.Edit index error) new = IsRefusedAt old edits index error new
+  FailsImport old edits (import.Write error) new = IsWriteBehind old edits (edit_reply.WriteRefused error) new
+  FailsImport old edits (import.NotKept written count error) new = IsWriteBehind old edits (edit_reply.NotKept written count error) new
+  FailsImport old edits import.OutOfMemory new = new ≡ old
