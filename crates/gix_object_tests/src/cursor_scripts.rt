@@ -13,12 +13,16 @@ use std::alloc::{AllocError, Global};
 use std::test::Fail;
 
 /// The files but those at the path and at its beginnings, where a directory is to be.
-fn assure(files: &mut Vec<Listed>, path: &[BString]) {
+pub(crate) fn assure(files: &mut Vec<Listed>, path: &[BString]) {
     files.retain(|file| !begins(path, &file.path));
 }
 
 /// A path behind a prefix.
-fn joined(alloc: Global, prefix: &[BString], path: &[BString]) -> Result<Vec<BString>, AllocError> {
+pub(crate) fn joined(
+    alloc: Global,
+    prefix: &[BString],
+    path: &[BString],
+) -> Result<Vec<BString>, AllocError> {
     let mut names = copy_of(alloc, prefix)?;
     for name in path {
         names.push(BString::from_slice(alloc, name.as_bytes())?)?;
@@ -27,7 +31,11 @@ fn joined(alloc: Global, prefix: &[BString], path: &[BString]) -> Result<Vec<BSt
 }
 
 /// Copies of the files below a prefix, by their paths from there.
-fn below(alloc: Global, files: &[Listed], prefix: &[BString]) -> Result<Vec<Listed>, AllocError> {
+pub(crate) fn below(
+    alloc: Global,
+    files: &[Listed],
+    prefix: &[BString],
+) -> Result<Vec<Listed>, AllocError> {
     let mut found = Vec::new(alloc);
     for file in files {
         if !begins(&file.path, prefix) {

@@ -14,4 +14,6 @@ mod public_paths;
 #[cfg(test)]
 mod readme;
 #[cfg(test)]
+mod run_scripts;
+#[cfg(test)]
 mod scripts;

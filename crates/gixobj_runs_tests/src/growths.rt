@@ -1,0 +1,193 @@
+//! The script of ten lines, whatever growth is refused on the way: want of memory is answered where it comes, the other
+//! answers stay, and what is given again with memory gets the answer that it gets with ample memory.
+
+use crate::failing::Failing;
+use crate::samples::{TEN_LINES, editor_over, id_of, names};
+use gixobj_base::hash::Kind as HashKind;
+use gixobj_base::{Tree, encode};
+use gixobj_editor::editor::{Editor, Error, WriteError, Written};
+use gixobj_keeping::{Keep, KeepError};
+use gixobj_runs::{Command, EditReply, Reply, run};
+use gixobj_script::read_script;
+use std::alloc::{AllocError, Global};
+use std::test::Fail;
+
+/// The answer to a command with ample memory.
+#[derive(Clone, Copy, Debug)]
+pub(crate) enum Ample {
+    /// The edit is done.
+    Done,
+    /// So many trees went out and are kept, the last of this id.
+    Wrote(&'static str, usize),
+    /// A name is empty.
+    EmptyName,
+}
+
+const ROOT: Ample = Ample::Wrote("3c4e9cd789d88d8d89c1073707c3585e41b0e614", 2);
+
+const BAK: Ample = Ample::Wrote("d8329fc1cc938780ffdd9f94e0d364e0ea74f579", 1);
+
+const LAST: Ample = Ample::Wrote("0155eb4229851634a0f03eb265b69f5a2d56f341", 1);
+
+/// The answers to the ten lines.
+pub(crate) const AMPLE: [Ample; 10] = [
+    Ample::Done,
+    Ample::Done,
+    Ample::Done,
+    ROOT,
+    Ample::Done,
+    ROOT,
+    BAK,
+    Ample::Done,
+    LAST,
+    Ample::EmptyName,
+];
+
+/// What a reply is.
+#[derive(Clone, Copy, Debug, PartialEq, Eq)]
+pub(crate) enum Outcome {
+    /// The answer with ample memory.
+    Ample,
+    /// Want of memory, before anything was handed out or changed.
+    Wanting,
+    /// Another answer.
+    Other,
+}
+
+/// Whether the id of a tree is wanting for memory alone.
+fn is_for_memory(refusal: &encode::Error) -> bool {
+    matches!(
+        refusal,
+        encode::Error::Writer(_) | encode::Error::OutOfMemory
+    )
+}
+
+/// Whether a reply is that with ample memory.
+pub(crate) fn is_ample(reply: &EditReply<encode::Error>, ample: Ample) -> bool {
+    match (reply, ample) {
+        (EditReply::Done, Ample::Done) => true,
+        (EditReply::Written(written), Ample::Wrote(id, count)) => names(written, id, count),
+        (EditReply::Refused(Error::EmptyPathComponent), Ample::EmptyName) => true,
+        _ => false,
+    }
+}
+
+/// What a reply is that isn't about trees handed out but not kept.
+pub(crate) fn outcome_of(reply: &EditReply<encode::Error>, ample: Ample) -> Outcome {
+    match reply {
+        EditReply::Refused(Error::OutOfMemory) => Outcome::Wanting,
+        EditReply::WriteRefused(WriteError::OutOfMemory) => Outcome::Wanting,
+        EditReply::WriteRefused(WriteError::Out(refusal)) if is_for_memory(refusal) => {
+            Outcome::Wanting
+        }
+        reply if is_ample(reply, ample) => Outcome::Ample,
+        _ => Outcome::Other,
+    }
+}
+
+/// What comes of trees that went out and weren't all kept for want of memory: the caller has the rest kept.
+fn kept_after_all(
+    editor: &mut Editor<Failing>,
+    written: &Written,
+    count: usize,
+    ample: Ample,
+) -> Outcome {
+    let Ample::Wrote(id, wanted) = ample else {
+        return Outcome::Other;
+    };
+    if !names(written, id, wanted) {
+        return Outcome::Other;
+    }
+    for (id, tree) in written.trees.iter().skip(count) {
+        if editor.store_mut().keep(*id, tree).is_err() {
+            return Outcome::Other;
+        }
+    }
+    Outcome::Ample
+}
+
+/// What the reply to one edit or write is.
+fn judged(editor: &mut Editor<Failing>, reply: &EditReply<encode::Error>, ample: Ample) -> Outcome {
+    match reply {
+        EditReply::NotKept(written, count, KeepError::OutOfMemory) => {
+            kept_after_all(editor, written, *count, ample)
+        }
+        reply => outcome_of(reply, ample),
+    }
+}
+
+/// What the replies to one command are.
+fn judged_all(
+    editor: &mut Editor<Failing>,
+    replies: &[Reply<encode::Error>],
+    ample: Ample,
+) -> Outcome {
+    match replies {
+        [Reply::Edit(reply)] => judged(editor, reply, ample),
+        [Reply::AtRefused(Error::OutOfMemory)] => Outcome::Wanting,
+        [Reply::At(replies)] => match replies.as_slice() {
+            [reply] => judged(editor, reply, ample),
+            _ => Outcome::Other,
+        },
+        _ => Outcome::Other,
+    }
+}
+
+/// The commands of a script.
+pub(crate) fn commands_of(alloc: Global, script: &str) -> Result<Vec<Command>, AllocError> {
+    match read_script(alloc, script.as_bytes(), HashKind::Sha1) {
+        Ok(commands) => Ok(commands),
+        Err(_) => Err(AllocError),
+    }
+}
+
+/// What comes of the command of a line, given alone.
+fn comes_of(
+    alloc: Global,
+    editor: &mut Editor<Failing>,
+    line: &str,
+    ample: Ample,
+) -> Result<Outcome, AllocError> {
+    let commands = commands_of(alloc, line)?;
+    match run(alloc, editor, commands, |tree: &Tree| id_of(alloc, tree)) {
+        Ok(replies) => Ok(judged_all(editor, &replies, ample)),
+        Err(_) => Ok(Outcome::Wanting),
+    }
+}
+
+/// Whether the command of a line gets its answer, at once or when it is given again for want of memory.
+fn gets(
+    alloc: Global,
+    editor: &mut Editor<Failing>,
+    line: &str,
+    ample: Ample,
+) -> Result<bool, AllocError> {
+    match comes_of(alloc, editor, line, ample)? {
+        Outcome::Ample => Ok(true),
+        Outcome::Wanting => Ok(comes_of(alloc, editor, line, ample)? == Outcome::Ample),
+        Outcome::Other => Ok(false),
+    }
+}
+
+/// Whether each command gets its answer. At most one lookup was made again, and each that is told was made.
+fn all_get(alloc: Global) -> Result<bool, AllocError> {
+    let mut editor = editor_over(alloc, &[], &[]);
+    for (line, ample) in TEN_LINES.lines().zip(AMPLE) {
+        if !gets(alloc, &mut editor, line, ample)? {
+            return Ok(false);
+        }
+    }
+    let lookups = editor.lookups();
+    Ok(lookups == editor.store_mut().lookups() && (2..4).contains(&lookups))
+}
+
+#[test]
+fn each_command_whatever_is_refused(rt: HostRuntime) -> Result<(), Fail> {
+    let alloc = rt.alloc();
+    let same = match all_get(alloc) {
+        Ok(same) => same,
+        Err(_) => all_get(alloc)?,
+    };
+    assert!(rt; same);
+    Ok(())
+}
