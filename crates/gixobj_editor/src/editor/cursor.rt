@@ -29,6 +29,18 @@ use gixobj_ids::hash::ObjectId;
 use gixobj_trees::Tree;
 use gixobj_trees::tree::{Entry, EntryKind};
 use std::alloc::AllocError;
+use std::marker::Model;
+
+/// Has no size and says nothing. A cursor has it because the checker lets a call lend its receiver back, as
+/// [`Cursor::upsert`] does, where that is seen as a value of its own.
+#[derive(Drop)]
+struct LentBack {}
+
+impl Model for LentBack {
+    ghost Value = { Unit {0} };
+
+    ghost view = { λ _. tt };
+}
 
 /// A cursor of an editor: its paths go on from the directory at the prefix, which is open.
 ///
@@ -36,6 +48,7 @@ use std::alloc::AllocError;
 pub struct Cursor<'a, S> {
     editor: &'a mut Editor<S>,
     prefix: &'a [BString],
+    lent_back: LentBack,
     ghost is_open: { open_dirs editor.now (names_of prefix.now) ≢ None },
 }
 
@@ -46,6 +59,7 @@ impl<S> Drop for Cursor<'_, S> {
         let Cursor {
             editor: _,
             prefix: _,
+            lent_back: _,
         } = self;
     }
 }
@@ -62,6 +76,7 @@ impl<S> Editor<S> {
         Cursor {
             editor: self,
             prefix: &[],
+            lent_back: LentBack {},
         }
     }
 }
@@ -87,6 +102,7 @@ impl<S: Find> Editor<S> {
         Ok(Cursor {
             editor: self,
             prefix,
+            lent_back: LentBack {},
         })
     }
 
@@ -174,17 +190,23 @@ fn without_a_single_empty_name(path: &[BString]) -> &[BString]
 
 /// Editing
 impl<S: Find> Cursor<'_, S> {
-    /// As [`Cursor::try_upsert`].
-    pub fn upsert(&mut self, path: &[BString], kind: EntryKind, id: ObjectId) -> Result<(), Error>
-        ensures same_reference { self.new.editor.ghost_name ≡ self.old.editor.ghost_name }
-        ensures prefix { self.new.prefix.now ≡ self.old.prefix.now }
-        ensures upserted { OnOk result ((trees : Trees) → AreTreesOf (S.objects self.old.editor.now.store) trees → IsUpserted trees self.old.editor.now (from_root (names_of self.old.prefix.now) (names_of path.now)) (mode_of_kind kind) id self.new.editor.now) }
-        ensures refused { OnErr result ((trees : Trees) → AreTreesOf (S.objects self.old.editor.now.store) trees → IsRefused trees self.old.editor.now (from_root (names_of self.old.prefix.now) (names_of path.now)) self.new.editor.now) }
+    /// As [`Cursor::try_upsert`]; what a refusal leaves, and what the cursor is behind a chain of calls, that one says to
+    /// a caller.
+    pub fn upsert(
+        &mut self,
+        path: &[BString],
+        kind: EntryKind,
+        id: ObjectId,
+    ) -> Result<&mut Self, Error>
+        ensures same_reference { IfOk result (λ it. it.ghost_name ≡ self.entry.ghost_name) }
+        ensures same_editor { IfOk result (λ it. it.now.editor.ghost_name ≡ self.old.editor.ghost_name) }
+        ensures prefix { IfOk result (λ it. it.now.prefix.now ≡ self.old.prefix.now) }
+        ensures upserted { IfOk result (λ it. (trees : Trees) → AreTreesOf (S.objects self.old.editor.now.store) trees → IsUpserted trees self.old.editor.now (from_root (names_of self.old.prefix.now) (names_of path.now)) (mode_of_kind kind) id it.now.editor.now) }
         ensures refusal { IfErr result (λ error. (trees : Trees) → AreTreesOf (S.objects self.old.editor.now.store) trees → RefusesFromRoot (names_of path.now)
             (RefusesUpsert (S.objects self.old.editor.now.store) (S.may_fail self.old.editor.now.store) trees (open_dirs self.old.editor.now) (from_root (names_of self.old.prefix.now) (names_of path.now))) error) }
-        ensures unasked { IfErr result (λ error. IsForAName error → self.new.editor.now ≡ self.old.editor.now) }
     {
-        self.try_upsert(path, kind, id)
+        self.try_upsert(path, kind, id)?;
+        Ok(self)
     }
 
     /// As [`Editor::try_upsert`], at a path that goes on from the prefix. Without names nothing changes, and
@@ -209,16 +231,18 @@ impl<S: Find> Cursor<'_, S> {
         self.editor.try_upsert(&path, kind, id)
     }
 
-    /// As [`Cursor::try_remove`].
-    pub fn remove(&mut self, path: &[BString]) -> Result<(), Error>
-        ensures same_reference { self.new.editor.ghost_name ≡ self.old.editor.ghost_name }
-        ensures prefix { self.new.prefix.now ≡ self.old.prefix.now }
-        ensures removed { OnOk result ((trees : Trees) → AreTreesOf (S.objects self.old.editor.now.store) trees → IsRemoved IsNoTree trees self.old.editor.now (from_root (names_of self.old.prefix.now) (names_of path.now)) self.new.editor.now) }
-        ensures refused { OnErr result ((trees : Trees) → AreTreesOf (S.objects self.old.editor.now.store) trees → IsRefused trees self.old.editor.now (from_root (names_of self.old.prefix.now) (names_of path.now)) self.new.editor.now) }
+    /// As [`Cursor::try_remove`]; what a refusal leaves, and what the cursor is behind a chain of calls, that one says to
+    /// a caller.
+    pub fn remove(&mut self, path: &[BString]) -> Result<&mut Self, Error>
+        ensures same_reference { IfOk result (λ it. it.ghost_name ≡ self.entry.ghost_name) }
+        ensures same_editor { IfOk result (λ it. it.now.editor.ghost_name ≡ self.old.editor.ghost_name) }
+        ensures prefix { IfOk result (λ it. it.now.prefix.now ≡ self.old.prefix.now) }
+        ensures removed { IfOk result (λ it. (trees : Trees) → AreTreesOf (S.objects self.old.editor.now.store) trees → IsRemoved IsNoTree trees self.old.editor.now (from_root (names_of self.old.prefix.now) (names_of path.now)) it.now.editor.now) }
         ensures refusal { IfErr result (λ error. (trees : Trees) → AreTreesOf (S.objects self.old.editor.now.store) trees → RefusesFromRoot (names_of path.now)
             (RefusesRemoval IsNoTree (S.objects self.old.editor.now.store) (S.may_fail self.old.editor.now.store) trees (open_dirs self.old.editor.now) (from_root (names_of self.old.prefix.now) (names_of path.now))) error) }
     {
-        self.try_remove(path)
+        self.try_remove(path)?;
+        Ok(self)
     }
 
     /// As [`Editor::try_remove`], at a path that goes on from the prefix. Without names nothing changes, and
@@ -237,16 +261,18 @@ impl<S: Find> Cursor<'_, S> {
         self.editor.try_remove(&path)
     }
 
-    /// As [`Cursor::try_remove_leaf`].
-    pub fn remove_leaf(&mut self, path: &[BString]) -> Result<(), Error>
-        ensures same_reference { self.new.editor.ghost_name ≡ self.old.editor.ghost_name }
-        ensures prefix { self.new.prefix.now ≡ self.old.prefix.now }
-        ensures removed { OnOk result ((trees : Trees) → AreTreesOf (S.objects self.old.editor.now.store) trees → IsLeafRemoved trees self.old.editor.now (from_root (names_of self.old.prefix.now) (names_of path.now)) self.new.editor.now) }
-        ensures refused { OnErr result ((trees : Trees) → AreTreesOf (S.objects self.old.editor.now.store) trees → IsRefused trees self.old.editor.now (from_root (names_of self.old.prefix.now) (names_of path.now)) self.new.editor.now) }
+    /// As [`Cursor::try_remove_leaf`]; what a refusal leaves, and what the cursor is behind a chain of calls, that one says to
+    /// a caller.
+    pub fn remove_leaf(&mut self, path: &[BString]) -> Result<&mut Self, Error>
+        ensures same_reference { IfOk result (λ it. it.ghost_name ≡ self.entry.ghost_name) }
+        ensures same_editor { IfOk result (λ it. it.now.editor.ghost_name ≡ self.old.editor.ghost_name) }
+        ensures prefix { IfOk result (λ it. it.now.prefix.now ≡ self.old.prefix.now) }
+        ensures removed { IfOk result (λ it. (trees : Trees) → AreTreesOf (S.objects self.old.editor.now.store) trees → IsLeafRemoved trees self.old.editor.now (from_root (names_of self.old.prefix.now) (names_of path.now)) it.now.editor.now) }
         ensures refusal { IfErr result (λ error. (trees : Trees) → AreTreesOf (S.objects self.old.editor.now.store) trees → RefusesFromRoot (names_of path.now)
             (RefusesLeafRemoval (S.objects self.old.editor.now.store) (S.may_fail self.old.editor.now.store) trees (open_dirs self.old.editor.now) (from_root (names_of self.old.prefix.now) (names_of path.now))) error) }
     {
-        self.try_remove_leaf(path)
+        self.try_remove_leaf(path)?;
+        Ok(self)
     }
 
     /// As [`Editor::try_remove_leaf`], at a path that goes on from the prefix. Without names nothing changes,

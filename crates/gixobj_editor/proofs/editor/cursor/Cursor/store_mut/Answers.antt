@@ -13,7 +13,7 @@ returns g c = (
     λ w.
         let old = c.args.self.now in
         let at : (p : open_dirs old.editor.now (names_of old.prefix.now) ≢ None) → Cursor g.row.S.Denot =
-        λ p. record { editor = at_last old.editor (with_store old.editor.now w); prefix = old.prefix; is_open = p } in
+        λ p. record { editor = at_last old.editor (with_store old.editor.now w); prefix = old.prefix; lent_back = old.lent_back; is_open = p } in
         let one : IsProp (open_dirs old.editor.now (names_of old.prefix.now) ≢ None) = hlevel in
         ap at (one _ _),
   ),
