@@ -27,6 +27,13 @@ pub record IsTold {S E : Type 0} (means : Meaning S) (answers : Answers E) (hash
   pub ran : IsRun means answers old commands replies new
   pub tells : text ≡ lines_of (answers_to_all replies) new.lookups
 
+-- the script is that of commands, and these were run on the old state and left the new one
+pub record WasRun {S E : Type 0} (means : Meaning S) (answers : Answers E) (hash : hash.Kind) (script : List ℕ) (old new : State S) : Type 0 where
+  pub commands : List Command
+  pub replies : List (Reply E)
+  pub reads : IsScript hash script (map command_view commands)
+  pub ran : IsRun means answers old commands replies new
+
 -- what the store in memory means: no lookup fails
 abbrev pub memory_means : Meaning Memory
 memory_means = record { objects = memory_objects; may_fail = λ store id. false }

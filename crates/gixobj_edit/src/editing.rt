@@ -1,13 +1,10 @@
 //! Scripts, run on an editor and told.
-ghost use Rattle.std.specs.Prelude.{◌≡◌, ℕ, IfErr, IfOk};
+ghost use Rattle.std.specs.Prelude.{◌≡◌, ◌⊎◌, ℕ, IfErr, IfOk, OnErr};
 ghost use Rattle.std.specs.Fn.{FnReturnsAt};
 ghost use Rattle.gixobj_edit.specs.Digests.{IsAnsweredDigest};
-ghost use Rattle.gixobj_edit.specs.Edits.{IsEdit, IsTold, RefusesEdit};
+ghost use Rattle.gixobj_edit.specs.Edits.{IsEdit, IsTold, RefusesEdit, WasRun};
 ghost use Rattle.gixobj_edit.specs.declared.editing.EditError.TheVariants as editing;
 ghost use Rattle.gixobj_runs.specs.Replies.{IsCallable};
-
-#[cfg(test)]
-mod tests;
 
 use crate::digest::digest_of;
 use crate::telling::answers_of;
@@ -80,7 +77,7 @@ pub fn edit(alloc: Global, script: &[u8], hash: Kind) -> Result<Vec<u8>, EditErr
 ///
 /// `BadLine` says which line is the first that is neither empty nor a command's: then nothing is run. `OutOfMemory`
 /// where memory was wanting: for a command before any bad line, or, where no line is bad, for the replies and what
-/// is told of them.
+/// is told of them. Then nothing was run, or the whole script was, and there was no memory to tell it.
 pub fn edit_on<S: Keep, E: Drop, F: Fn(&Tree) -> Result<ObjectId, E> + Drop>(
     alloc: Global,
     editor: &mut Editor<S>,
@@ -92,6 +89,7 @@ pub fn edit_on<S: Keep, E: Drop, F: Fn(&Tree) -> Result<ObjectId, E> + Drop>(
     ensures told { IfOk result (λ text. IsTold (record { objects = S.objects; may_fail = S.may_fail }) (λ tree answer. FnReturnsAt F.Fn out tree answer) hash script.now editor.old text.items editor.new) }
     ensures refusal { IfErr result (RefusesEdit hash script.now) }
     ensures not_run { IfErr result (λ error. (number : ℕ) → error ≡ editing.BadLine number → editor.new ≡ editor.old) }
+    ensures left { OnErr result ((editor.new ≡ editor.old) ⊎ WasRun (record { objects = S.objects; may_fail = S.may_fail }) (λ tree answer. FnReturnsAt F.Fn out tree answer) hash script.now editor.old editor.new) }
 {
     let commands = read_script(alloc, script, hash)?;
     let replies = run(alloc, editor, commands, out)?;

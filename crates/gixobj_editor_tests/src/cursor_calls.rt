@@ -20,10 +20,12 @@ fn edited(alloc: Global, editor: &mut Editor<Memory>) -> Result<(), Error> {
         path_of(alloc, b"d")?,
     );
     let mut cursor = editor.cursor_at(&directory)?;
-    cursor.upsert(&c, EntryKind::Blob, FILE)?;
-    cursor.upsert(&d, EntryKind::Blob, FILE)?;
-    cursor.remove(&b)?;
-    cursor.remove_leaf(&d)
+    cursor
+        .upsert(&c, EntryKind::Blob, FILE)?
+        .upsert(&d, EntryKind::Blob, FILE)?
+        .remove(&b)?
+        .remove_leaf(&d)?;
+    Ok(())
 }
 
 #[test]

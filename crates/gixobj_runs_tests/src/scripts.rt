@@ -1,10 +1,10 @@
 //! Scripts and the commands that they are, told again with each name of a path in angle brackets; and bad lines.
 
-use super::{ScriptError, read_script};
 use bstr::BString;
-use gixobj_commands::{Command, Edit};
-use gixobj_ids::hash::Kind;
-use gixobj_trees::tree::EntryMode;
+use gixobj_base::hash::Kind;
+use gixobj_base::tree::EntryMode;
+use gixobj_runs::{Command, Edit};
+use gixobj_script::{ScriptError, read_script};
 use std::alloc::{AllocError, Global};
 use std::test::Fail;
 

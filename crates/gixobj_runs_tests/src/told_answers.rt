@@ -1,8 +1,8 @@
 //! The lines of answers.
 
-use super::{Answer, Refusal, answer_lines};
 use bstr::BString;
-use gixobj_ids::hash::ObjectId;
+use gixobj_base::hash::ObjectId;
+use gixobj_script::{Answer, Refusal, answer_lines};
 use std::test::Fail;
 
 const WITH_THREE: &[u8] = b"3c4e9cd789d88d8d89c1073707c3585e41b0e614";

@@ -1,7 +1,7 @@
 //! Scripts and what is printed of them. Ids are those that `git mktree --missing` answers.
 
-use super::{EditError, edit};
-use gixobj_ids::hash::Kind;
+use gixobj_base::hash::Kind;
+use gixobj_edit::{EditError, edit};
 use std::alloc::Global;
 use std::test::Fail;
 

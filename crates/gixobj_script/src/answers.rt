@@ -3,9 +3,6 @@ ghost use Rattle.std.specs.Prelude.{◌≡◌, ◌++◌, codes, IfOk, OnOk};
 ghost use Rattle.gixobj_script.specs.Answers.{answer_text, lines_of, refusal_text};
 ghost use Rattle.gixobj_script.specs.Lines.{word_and};
 
-#[cfg(test)]
-mod tests;
-
 use bstr::BString;
 use gixobj_ids::OutOfMemory;
 use gixobj_ids::hash::ObjectId;

@@ -3,9 +3,6 @@ ghost use Rattle.std.specs.Prelude.{◌≡◌, ◌≢◌, ◌++◌, [], map, IfE
 ghost use Rattle.gixobj_commands.specs.Views.{command_view};
 ghost use Rattle.gixobj_script.specs.Scripts.{IsScript, PutsLine, RefusesLine, RefusesScript};
 
-#[cfg(test)]
-mod tests;
-
 use crate::line::read_command;
 use gixobj_commands::Command;
 use gixobj_ids::OutOfMemory;
