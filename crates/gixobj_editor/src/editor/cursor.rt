@@ -32,7 +32,7 @@ use std::alloc::AllocError;
 use std::marker::Model;
 
 /// Has no size and says nothing. A cursor has it because the checker lets a call lend its receiver back, as
-/// [`Cursor::upsert`] does, where that is seen as a value of its own.
+/// [`Cursor::upsert`] does, only where that is seen as a value of its own.
 #[derive(Drop)]
 struct LentBack {}
 
