@@ -222,13 +222,14 @@ fn finds_the_empty_blob(alloc: Global, store: &Failing, kind: HashKind) -> bool 
     }
 }
 
-/// The empty tree and the empty blob are found without the store, which would fail.
+/// The empty tree and the empty blob are found without the store, which would fail at each lookup.
 #[test]
 fn empty_objects(rt: HostRuntime) -> Result<(), Fail> {
-    let (store, _) = store_of(rt.alloc(), Kind::Blob, b"", true)?;
+    let alloc = rt.alloc();
+    let store = Failing::new(alloc, Memory::new(alloc), vec![in alloc; 1, 2, 3, 4]?);
     for kind in [HashKind::Sha1, HashKind::Sha256] {
-        assert!(rt; finds_the_empty_tree(rt.alloc(), &store, kind), "{kind:?}");
-        assert!(rt; finds_the_empty_blob(rt.alloc(), &store, kind), "{kind:?}");
+        assert!(rt; finds_the_empty_tree(alloc, &store, kind), "{kind:?}");
+        assert!(rt; finds_the_empty_blob(alloc, &store, kind), "{kind:?}");
     }
     assert!(rt; store.lookups() == 0);
     Ok(())

@@ -12,6 +12,8 @@ mod growths;
 #[cfg(test)]
 mod never;
 #[cfg(test)]
+mod one_store;
+#[cfg(test)]
 mod paths;
 #[cfg(test)]
 mod recording;

@@ -5,7 +5,7 @@ use crate::samples::{KINDS, id_of_bytes, is_id, text_of};
 use bstr::BString;
 use gix_object::hash::{Kind as HashKind, ObjectId};
 use gix_object::tree::{Entry, EntryKind};
-use gix_object::{Kind, ObjectRef, Tree, Write, WriteTo, encode, write};
+use gix_object::{BlobRef, Kind, ObjectRef, Tree, Write, WriteTo, encode, write};
 use std::alloc::{AllocError, Global};
 use std::rc::Rc;
 use std::test::Fail;
@@ -111,12 +111,14 @@ fn nothing_of_what_cannot_be_written(rt: HostRuntime) -> Result<(), Fail> {
     Ok(())
 }
 
-/// The streams of three contents.
-fn streams(alloc: Global) -> Result<[Stream; 3], AllocError> {
+/// The streams of two contents, two streams and a blob.
+fn streams(alloc: Global) -> Result<[Stream; 5], AllocError> {
     Ok([
         stream(alloc, Kind::Tag, b"a")?,
         stream(alloc, Kind::Blob, b"bc")?,
         stream(alloc, Kind::Tree, b"def")?,
+        stream(alloc, Kind::Commit, b"g")?,
+        stream(alloc, Kind::Blob, b"hi")?,
     ])
 }
 
@@ -128,17 +130,37 @@ fn has_streams(alloc: Global, store: &Recorder) -> bool {
     }
 }
 
-#[test]
-fn contents(rt: HostRuntime) {
-    let (alloc, known) = (rt.alloc(), id_of_bytes(1));
-    let store = Recorder::new(alloc);
-    let borrowed = &store;
-    let plain = borrowed.write_buf(alloc, Kind::Tag, b"a");
-    assert!(rt; is_id(plain, ObjectId::null(HashKind::Sha1)));
-    let with_id = borrowed.write_buf_with_known_id(alloc, Kind::Blob, b"bc", known);
-    assert!(rt; is_id(with_id, known));
+/// Whether a store answers the null id to a content, and to one whose id is known that id.
+fn takes_contents<W: Write>(alloc: Global, store: &W) -> bool {
+    let known = id_of_bytes(1);
+    let plain = store.write_buf(alloc, Kind::Tag, b"a");
+    let with_id = store.write_buf_with_known_id(alloc, Kind::Blob, b"bc", known);
+    is_id(plain, ObjectId::null(HashKind::Sha1)) && is_id(with_id, known)
+}
+
+/// Whether it answers so to streams.
+fn takes_streams<W: Write>(alloc: Global, store: &W) -> bool {
+    let known = id_of_bytes(1);
     let mut stream = b"def".as_slice();
-    let streamed = borrowed.write_stream_with_known_id(alloc, Kind::Tree, 3, &mut stream, known);
-    assert!(rt; is_id(streamed, known));
+    let with_id = store.write_stream_with_known_id(alloc, Kind::Tree, 3, &mut stream, known);
+    let mut stream = b"g".as_slice();
+    let plain = store.write_stream(alloc, Kind::Commit, 1, &mut stream);
+    is_id(plain, ObjectId::null(HashKind::Sha1)) && is_id(with_id, known)
+}
+
+/// Whether it answers the null id to an object.
+fn takes_a_blob<W: Write>(alloc: Global, store: &W) -> bool {
+    let blob = BlobRef::from_bytes(b"hi");
+    is_id(store.write(alloc, &blob), ObjectId::null(HashKind::Sha1))
+}
+
+/// What is handed to a store that is borrowed, by each call.
+#[test]
+fn to_a_borrowed_store(rt: HostRuntime) {
+    let alloc = rt.alloc();
+    let store = Recorder::new(alloc);
+    assert!(rt; takes_contents(alloc, &&store));
+    assert!(rt; takes_streams(alloc, &&store));
+    assert!(rt; takes_a_blob(alloc, &&store));
     assert!(rt; has_streams(alloc, &store));
 }
