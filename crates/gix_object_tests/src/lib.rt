@@ -8,6 +8,8 @@ mod cursor_scripts;
 #[cfg(test)]
 mod editor;
 #[cfg(test)]
+mod history;
+#[cfg(test)]
 mod listing;
 #[cfg(test)]
 mod public_paths;

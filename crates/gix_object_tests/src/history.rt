@@ -1,0 +1,120 @@
+//! A walk through a store of one's own: two commits, each with a tree, as `git` names them.
+
+use bstr::BString;
+use gix_object::hash::{Kind as HashKind, ObjectId};
+use gix_object::tree::Entry;
+use gix_object::{Data, Kind};
+use gixobj_callers::history::{Error, ancestor, entry_of};
+use gixobj_callers::shelf::Shelf;
+use std::alloc::{AllocError, Global};
+use std::test::Fail;
+
+/// What `git mktree --missing` answers for the file `test.txt` of the id `83baae61804e65cc73a7201a7252750c76066a30`.
+const BAK: &[u8] = b"d8329fc1cc938780ffdd9f94e0d364e0ea74f579";
+
+const BAK_TEXT: &[u8] = b"100644 test.txt\0\
+    \x83\xba\xae\x61\x80\x4e\x65\xcc\x73\xa7\x20\x1a\x72\x52\x75\x0c\x76\x06\x6a\x30";
+
+/// What it answers for that tree as `bak`, and two files.
+const ROOT: &[u8] = b"3c4e9cd789d88d8d89c1073707c3585e41b0e614";
+
+const ROOT_TEXT: &[u8] = b"40000 bak\0\
+    \xd8\x32\x9f\xc1\xcc\x93\x87\x80\xff\xdd\x9f\x94\xe0\xd3\x64\xe0\xea\x74\xf5\x79\
+    100644 new.txt\0\
+    \xfa\x49\xb0\x77\x97\x23\x91\xad\x58\x03\x70\x50\xf2\xa7\x5f\x74\xe3\x67\x1e\x92\
+    100644 test.txt\0\
+    \x1f\x7a\x7a\x47\x2a\xbf\x3d\xd9\x64\x3f\xd6\x15\xf6\xda\x37\x9c\x4a\xcb\x3e\x3a";
+
+/// What `git hash-object -t commit` answers for the first commit.
+const FIRST: &[u8] = b"bd428a258222b05846c102abd2c3ce6b7f34b5f8";
+
+const FIRST_TEXT: &[u8] = b"tree d8329fc1cc938780ffdd9f94e0d364e0ea74f579\n\
+    author A <a@b> 0 +0000\n\
+    committer A <a@b> 0 +0000\n\
+    \nfirst\n";
+
+/// What it answers for the second one.
+const SECOND: &[u8] = b"528c29ecfcd64f329e231522dc53495bf0e9b054";
+
+const SECOND_TEXT: &[u8] = b"tree 3c4e9cd789d88d8d89c1073707c3585e41b0e614\n\
+    parent bd428a258222b05846c102abd2c3ce6b7f34b5f8\n\
+    author A <a@b> 0 +0000\n\
+    committer A <a@b> 0 +0000\n\
+    \nsecond\n";
+
+/// What `git rev-parse` answers for `bak/test.txt` of the second commit.
+const VERSION_1: &[u8] = b"83baae61804e65cc73a7201a7252750c76066a30";
+
+/// The id that the hex digits spell; of others the null id.
+fn id(hex: &[u8]) -> ObjectId {
+    ObjectId::from_hex(hex).unwrap_or(ObjectId::null(HashKind::Sha1))
+}
+
+fn object(hex: &[u8], kind: Kind, text: &'static [u8]) -> (ObjectId, Data<'static>) {
+    (id(hex), Data::new(text, kind, HashKind::Sha1))
+}
+
+/// Both commits and both trees.
+fn objects() -> [(ObjectId, Data<'static>); 4] {
+    [
+        object(SECOND, Kind::Commit, SECOND_TEXT),
+        object(BAK, Kind::Tree, BAK_TEXT),
+        object(FIRST, Kind::Commit, FIRST_TEXT),
+        object(ROOT, Kind::Tree, ROOT_TEXT),
+    ]
+}
+
+#[test]
+fn ancestors(rt: HostRuntime) -> Result<(), Fail> {
+    let alloc = rt.alloc();
+    let objects = objects();
+    let store = Shelf { objects: &objects };
+    assert!(rt; ancestor(alloc, &store, id(SECOND), 0)? == id(SECOND));
+    assert!(rt; ancestor(alloc, &store, id(SECOND), 1)? == id(FIRST));
+    let orphan = ancestor(alloc, &store, id(SECOND), 2);
+    assert!(rt; matches!(&orphan, Err(Error::NoParent(_))));
+    Ok(())
+}
+
+fn names(alloc: Global, path: &[&str]) -> Result<Vec<BString>, AllocError> {
+    let mut names = Vec::new(alloc);
+    for name in path {
+        names.push(BString::from_slice(alloc, name.as_bytes())?)?;
+    }
+    Ok(names)
+}
+
+/// The entry at a path in the tree of a commit of these objects.
+fn at(alloc: Global, commit: &[u8], path: &[&str]) -> Result<Option<Entry>, Fail> {
+    let objects = objects();
+    let store = Shelf { objects: &objects };
+    Ok(entry_of(alloc, &store, id(commit), &names(alloc, path)?)?)
+}
+
+/// Whether the entry is that of the file in the inner tree.
+fn is_version_1(found: &Option<Entry>) -> bool {
+    match found {
+        Some(entry) => entry.oid == id(VERSION_1) && entry.filename.as_bytes() == b"test.txt",
+        None => false,
+    }
+}
+
+#[test]
+fn entries(rt: HostRuntime) -> Result<(), Fail> {
+    let alloc = rt.alloc();
+    assert!(rt; is_version_1(&at(alloc, SECOND, &["bak", "test.txt"])?));
+    assert!(rt; is_version_1(&at(alloc, FIRST, &["test.txt"])?));
+    assert!(rt; at(alloc, SECOND, &["bak", "new.txt"])?.is_none());
+    Ok(())
+}
+
+/// A tree is no commit.
+#[test]
+fn no_commit(rt: HostRuntime) -> Result<(), Fail> {
+    let alloc = rt.alloc();
+    let objects = objects();
+    let store = Shelf { objects: &objects };
+    let found = entry_of(alloc, &store, id(ROOT), &names(alloc, &["bak"])?);
+    assert!(rt; matches!(&found, Err(Error::Commit(_))));
+    Ok(())
+}
