@@ -14,9 +14,9 @@ fn has_one_entry(alloc: Global, text: &[u8]) -> bool {
     }
 }
 
-/// One entry has 29 bytes.
+/// One entry has 29 bytes; without the last one it is none.
 #[test]
-fn one_entry(rt: HostRuntime) {
+fn cut_entry(rt: HostRuntime) {
     assert!(rt; ENTRY.len() == 29);
     assert!(rt; has_one_entry(rt.alloc(), ENTRY));
     assert!(rt; is_refused(rt.alloc(), &ENTRY[..28]));

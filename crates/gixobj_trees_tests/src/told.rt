@@ -162,9 +162,9 @@ fn a_space_in_the_id(rt: HostRuntime) {
     }
 }
 
-/// Behind an error a reader is at its end.
+/// An entry without its last byte is told as one error, behind which the reader is at its end.
 #[test]
-fn a_byte_less(rt: HostRuntime) {
+fn cut_entry(rt: HostRuntime) {
     let mut told = TreeRefIter::from_bytes(&ENTRY[..28], Kind::Sha1);
     assert!(rt; matches!(&told.next(), Some(Err(decode::Error::Malformed))));
     assert!(rt; told.next().is_none());
