@@ -80,7 +80,8 @@ mod of_signature {
 
 mod of_stream_hash {
     pub use gix_object::stream_hash::{
-        Error, compute_slice_hash, compute_source_hash, compute_stream_hash,
+        Error, compute_slice_hash, compute_source_hash, compute_stream_hash, skip_source,
+        skip_stream,
     };
 }
 

@@ -2,8 +2,9 @@
 
 mod root {
     pub use gixobj_codec::{
-        Commit, CommitRef, CommitRefIter, Data, LooseDecodeError, Object, ObjectRef, Tag, TagRef,
-        TagRefIter, TreeRef, TreeRefIter, commit, data, laws, tag, tree,
+        Commit, CommitRef, CommitRefIter, Data, Exists, Find, FindHeader, FindObjectOrHeader,
+        LooseDecodeError, Object, ObjectRef, Store, Tag, TagRef, TagRefIter, TreeRef, TreeRefIter,
+        commit, data, find, laws, tag, tree,
     };
 }
 
@@ -20,6 +21,10 @@ mod of_data {
     pub use gixobj_codec::data::{Data, verify};
 }
 
+mod of_find {
+    pub use gixobj_codec::find::Error;
+}
+
 mod of_ref_iter {
     pub use gixobj_codec::commit::ref_iter::{CommitRefIter, ParentIds, Signatures, Token};
 }
@@ -31,6 +36,10 @@ mod of_laws {
         owned_forms_have_the_parts, owned_headers_are_found, owned_mergetags_are_found, readers,
         tokens,
     };
+}
+
+mod of_laws_of_stores {
+    pub use gixobj_codec::laws::an_object_is_put_in;
 }
 
 mod of_laws_of_tags {
@@ -49,7 +58,7 @@ mod of_laws_of_trees {
 }
 
 mod of_tree {
-    pub use gixobj_codec::tree::{EntryRef, TreeRef, TreeRefIter};
+    pub use gixobj_codec::tree::{EntryRef, TreeRef, TreeRefIter, next_entry};
 }
 
 mod of_tag {
