@@ -49,7 +49,8 @@ mod of_parse {
 
 mod of_stream_hash {
     pub use gixobj_base::stream_hash::{
-        Error, compute_slice_hash, compute_source_hash, compute_stream_hash,
+        Error, compute_slice_hash, compute_source_hash, compute_stream_hash, skip_source,
+        skip_stream,
     };
 }
 
