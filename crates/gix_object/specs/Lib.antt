@@ -1,4 +1,5 @@
 pub use Rattle.gixobj_directories.specs.Calls
+pub use Rattle.gixobj_directories.specs.Handing
 pub use Rattle.gixobj_directories.specs.Openings
 pub use Rattle.gixobj_editor.specs.Cursors
 pub use Rattle.gixobj_editor.specs.Upserts
@@ -15,6 +16,9 @@ pub use Rattle.gixobj_files.specs.State
 pub use Rattle.gixobj_files.specs.Tables
 pub use Rattle.gixobj_files.specs.Unopened
 pub use Rattle.gixobj_keeping.specs.Keeping
+pub use Rattle.gixobj_lookups.specs.Existing
+pub use Rattle.gixobj_lookups.specs.Nothing
+pub use Rattle.gixobj_lookups.specs.Writers
 pub use Rattle.gixobj_runs.specs.Commands
 pub use Rattle.gixobj_runs.specs.Replies
 pub use Rattle.gixobj_runs.specs.RunTables

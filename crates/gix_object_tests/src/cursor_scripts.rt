@@ -1,8 +1,8 @@
-//! Many edits by cursors, writes by cursors and by the editor, and new roots: each tree that is written has the files
+//! Many edits by cursors and by the editor, writes by both, and new roots: each tree that is written has the files
 //! of a plain list that went through the same.
 
 use crate::listing::Listed;
-use crate::scripts::{Numbers, begins, copy_of, drawn_path, forget, id_of, names, put, writes};
+use crate::scripts::{self, Numbers, begins, copy_of, drawn_path, forget, id_of, names, put, writes};
 use bstr::BString;
 use gix_object::Tree;
 use gix_object::hash::{Kind as HashKind, ObjectId};
@@ -173,7 +173,7 @@ fn begins_anew(
     writes(alloc, editor, files, table)
 }
 
-/// A step: mostly a visit, at times a write, and at times a write, a visit, and the root anew.
+/// A step: mostly a visit, at times an edit by the editor or a write, and at times a write, a visit, and the root anew.
 fn goes_on(
     alloc: Global,
     numbers: &mut Numbers,
@@ -184,6 +184,10 @@ fn goes_on(
     match numbers.draw() & 7 {
         0 => begins_anew(alloc, numbers, editor, files, table),
         1 | 2 => writes(alloc, editor, files, table),
+        3 => {
+            scripts::edit(alloc, numbers, editor, files)?;
+            Ok(true)
+        }
         _ => visits(alloc, numbers, editor, files, table),
     }
 }

@@ -112,7 +112,7 @@ pub(crate) fn id_of(alloc: Global, tree: &Tree) -> Result<ObjectId, encode::Erro
 }
 
 /// An edit, done to both.
-fn edit(
+pub(crate) fn edit(
     alloc: Global,
     numbers: &mut Numbers,
     editor: &mut Editor<Memory>,

@@ -2,8 +2,8 @@
 
 use crate::cursors::{Visit, all_visited, visited};
 use crate::rows::{EMPTY, Edit, Row, answered, empty_editor, id_of, path_of, writes};
+use crate::writes::went_out;
 use gixobj_base::Tree;
-use gixobj_base::hash::ObjectId;
 use gixobj_editor::editor::{Cursor, Editor, WriteError, Written};
 use gixobj_store::Memory;
 use std::alloc::Global;
@@ -18,19 +18,10 @@ fn written(alloc: Global, cursor: &mut Cursor<'_, Memory>) -> Option<Written> {
 
 /// Whether a write by a cursor hands out trees of these ids, in this order, the last one being its own.
 fn hands_out(alloc: Global, cursor: &mut Cursor<'_, Memory>, ids: &[&[u8]]) -> bool {
-    let Some(written) = written(alloc, cursor) else {
-        return false;
-    };
-    written.trees.len() == ids.len()
-        && written
-            .trees
-            .iter()
-            .zip(ids)
-            .all(|((id, _), hex)| ObjectId::from_hex(hex) == Some(*id))
-        && written
-            .trees
-            .last()
-            .is_some_and(|(id, _)| *id == written.id)
+    match written(alloc, cursor) {
+        Some(written) => went_out(&written, ids),
+        None => false,
+    }
 }
 
 /// Whether a write by a cursor at this directory hands out trees of these ids.
@@ -96,22 +87,51 @@ fn a_directory_twice_and_then_the_root(rt: HostRuntime) -> Result<(), Fail> {
     Ok(())
 }
 
-/// The ids of the trees that stand below a directory and its own, where the files are `a/x`, `b/y` and `c/d/z`.
+/// An editor of the files `a/x`, `b/y` and `c/d/z`.
+fn of_three_files(alloc: Global) -> Result<Editor<Memory>, Fail> {
+    let mut editor = empty_editor(alloc);
+    let rows: &[Row] = &[
+        (Edit::File, b"a x", 0, 0),
+        (Edit::File, b"b y", 0, 0),
+        (Edit::File, b"c d z", 0, 0),
+    ];
+    if !answered(alloc, &mut editor, rows)? {
+        return Err("three files")?;
+    }
+    Ok(editor)
+}
+
+/// The tree of the directory `c/d` of these files.
+const D: &[u8] = b"454696ff9405b4937895f817649e1c760a885202";
+
+/// The tree of the directory `c`.
+const C: &[u8] = b"3906cb5db1f32691b79896648a123b2f66f57291";
+
+/// Whether one cursor at the directory `c` writes twice: what is open in it and its own tree, and then that alone.
+fn writes_twice(alloc: Global, editor: &mut Editor<Memory>) -> Result<bool, Fail> {
+    let directory = path_of(alloc, b"c")?;
+    let mut cursor = editor.cursor_at(&directory)?;
+    Ok(hands_out(alloc, &mut cursor, &[D, C]) && hands_out(alloc, &mut cursor, &[C]))
+}
+
+#[test]
+fn one_cursor_twice(rt: HostRuntime) -> Result<(), Fail> {
+    let alloc = rt.alloc();
+    let mut editor = of_three_files(alloc)?;
+    assert!(rt; writes_twice(alloc, &mut editor)?);
+    Ok(())
+}
+
+/// The ids of the trees that stand below a directory and its own, where the files are these three.
 const HANDED_OUT: &[(&[u8], &[&[u8]])] = &[
-    (
-        b"c",
-        &[
-            b"454696ff9405b4937895f817649e1c760a885202",
-            b"3906cb5db1f32691b79896648a123b2f66f57291",
-        ],
-    ),
+    (b"c", &[D, C]),
     (
         b".",
         &[
             b"0d4cdcf5c3ac13df9449741710134272e11df12e",
             b"aa7e47cc94511f4ca50a7faa60726b87e790837c",
-            b"454696ff9405b4937895f817649e1c760a885202",
-            b"3906cb5db1f32691b79896648a123b2f66f57291",
+            D,
+            C,
             b"dee52efe74bd45860056702d892862bedc390b1b",
         ],
     ),
@@ -130,15 +150,7 @@ fn stops_and_goes_on(
     number: u8,
     ids: &[&[u8]],
 ) -> Result<bool, Fail> {
-    let mut editor = empty_editor(alloc);
-    let rows: &[Row] = &[
-        (Edit::File, b"a x", 0, 0),
-        (Edit::File, b"b y", 0, 0),
-        (Edit::File, b"c d z", 0, 0),
-    ];
-    if !answered(alloc, &mut editor, rows)? {
-        return Ok(false);
-    }
+    let mut editor = of_three_files(alloc)?;
     let directory = path_of(alloc, directory)?;
     let mut cursor = editor.cursor_at(&directory)?;
     Ok(stops_at(alloc, &mut cursor, number) && hands_out(alloc, &mut cursor, ids))

@@ -118,6 +118,7 @@ fn all_go(alloc: Global, cases: &[Case]) -> Result<bool, Fail> {
 
 /// Cursors at directories that are there, opened from the store where they aren't open.
 const IN_DIRECTORIES: &[Case] = &[
+    // cursor_keeps
     (
         Start::Stored,
         &[(b"a", 0, &[(Edit::File, b"c", 0), (Edit::Remove, b".", 0)])],

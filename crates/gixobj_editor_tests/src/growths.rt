@@ -58,7 +58,7 @@ fn empty_editor(alloc: Global) -> Editor<Memory> {
 }
 
 /// Whether a directory that was removed and made again has its new file alone.
-fn removed_then_again(alloc: Global) -> Result<bool, Error> {
+fn remove_then_again(alloc: Global) -> Result<bool, Error> {
     let mut editor = empty_editor(alloc);
     put(&mut editor, &path_of(alloc, &[b"a", b"b"])?)?;
     editor.try_remove(&path_of(alloc, &[b"a"])?)?;
@@ -141,11 +141,11 @@ fn cursor_keeps(alloc: Global) -> Option<bool> {
 }
 
 #[test]
-fn removed_then_again_whatever_is_refused(rt: HostRuntime) -> Result<(), Fail> {
+fn remove_then_again_whatever_is_refused(rt: HostRuntime) -> Result<(), Fail> {
     let alloc = rt.alloc();
-    let same = match removed_then_again(alloc) {
+    let same = match remove_then_again(alloc) {
         Ok(same) => same,
-        Err(_) => removed_then_again(alloc)?,
+        Err(_) => remove_then_again(alloc)?,
     };
     assert!(rt; same);
     Ok(())

@@ -177,6 +177,7 @@ pub(crate) const EMPTY: &[u8] = b"4b825dc642cb6eb9a060e54bf8d69288fbee4904";
 
 /// Rows on the empty root: the edits, the number of trees handed out, and the root's id.
 const ON_THE_EMPTY_ROOT: &[(&[Row], usize, &[u8])] = &[
+    // remove_then_again
     (
         &[
             (Edit::File, b"a b", 0, 0),
@@ -186,6 +187,7 @@ const ON_THE_EMPTY_ROOT: &[(&[Row], usize, &[u8])] = &[
         2,
         b"f80f23b9ec7e1c6321e5ec3c2551a24e9c7afab2",
     ),
+    // file_over_directory
     (
         &[
             (Edit::File, b"a", 0, 0),
@@ -195,11 +197,13 @@ const ON_THE_EMPTY_ROOT: &[(&[Row], usize, &[u8])] = &[
         1,
         b"a174ca35b059b230cfb0286a25e47794096f4848",
     ),
+    // null_placeholder, of a directory
     (
         &[(Edit::NullTree, b"p", 0, 0), (Edit::File, b"p f", 0, 0)],
         2,
         b"c48ac882a52bcb4d278b36a825bc500d270cd574",
     ),
+    // null_placeholder, of files
     (
         &[
             (Edit::File, b"g", 0, 0),
@@ -373,43 +377,6 @@ fn the_path_of_a_directory_is_told(rt: HostRuntime) -> Result<(), Fail> {
         return Err("a refused removal")?;
     };
     assert!(rt; rela_path.as_bytes() == b"a/b".as_slice());
-    Ok(())
-}
-
-/// Whether a write stops at its second tree, with the refusal of the closure.
-fn stops_at_the_second(alloc: Global, editor: &mut Editor<Memory>) -> bool {
-    let mut calls = 0u8;
-    let out = |tree: &Tree| {
-        if calls == 1 {
-            return Err(7u8);
-        }
-        calls = 1;
-        match id_of(alloc, tree) {
-            Ok(id) => Ok(id),
-            Err(_) => Err(8),
-        }
-    };
-    matches!(
-        editor.write(out),
-        Err(gixobj_editor::editor::WriteError::Out(7))
-    )
-}
-
-#[test]
-fn failed_out(rt: HostRuntime) -> Result<(), Fail> {
-    let alloc = rt.alloc();
-    let mut editor = empty_editor(alloc);
-    let rows: &[Row] = &[(Edit::File, b"a x", 0, 0), (Edit::File, b"b y", 0, 0)];
-    assert!(rt; answered(alloc, &mut editor, rows)?);
-    assert!(rt; stops_at_the_second(alloc, &mut editor));
-    assert!(rt;
-        writes(
-            alloc,
-            &mut editor,
-            3,
-            b"77bbb40fde4f7afc2609858ec55da053db6ba24f"
-        )
-    );
     Ok(())
 }
 

@@ -2,6 +2,7 @@
 
 use crate::failing::Failing;
 use bstr::BString;
+use gix_object::find::existing_object;
 use gix_object::hash::{Kind as HashKind, ObjectId};
 use gix_object::tree::editor::{Editor, Error};
 use gix_object::tree::{Entry, EntryKind};
@@ -36,6 +37,16 @@ fn path_of(alloc: Global, names: &[&[u8]]) -> Result<Vec<BString>, AllocError> {
     Ok(path)
 }
 
+/// An editor whose root has the directory `a` alone, by this id. The second lookup fails.
+fn editor_of(alloc: Global, store: Memory, id: ObjectId) -> Result<Editor<Failing>, Fail> {
+    let root = tree_of(alloc, EntryKind::Tree, b"a", id)?;
+    if !root.is_well_formed() {
+        return Err("a well-formed root")?;
+    }
+    let failing = vec![in alloc; 2u64]?;
+    Ok(Editor::new(root, Failing::new(alloc, store, failing), HashKind::Sha1))
+}
+
 /// An editor of the one file `a/b/c`, whose directories are stored. The second lookup fails.
 fn editor(alloc: Global) -> Result<Editor<Failing>, Fail> {
     let mut store = Memory::new(alloc);
@@ -43,12 +54,7 @@ fn editor(alloc: Global) -> Result<Editor<Failing>, Fail> {
     let inner = store.insert(Kind::Tree, HashKind::Sha1, &inner)?;
     let outer = text_of(alloc, &tree_of(alloc, EntryKind::Tree, b"b", inner)?)?;
     let outer = store.insert(Kind::Tree, HashKind::Sha1, &outer)?;
-    let root = tree_of(alloc, EntryKind::Tree, b"a", outer)?;
-    if !root.is_well_formed() {
-        return Err("a well-formed root")?;
-    }
-    let failing = vec![in alloc; 2u64]?;
-    Ok(Editor::new(root, Failing::new(alloc, store, failing), HashKind::Sha1))
+    editor_of(alloc, store, outer)
 }
 
 /// Whether an upsert at these names is refused for a lookup, and not otherwise.
@@ -99,5 +105,85 @@ fn not_asked_by_what_looks_nothing_up(rt: HostRuntime) -> Result<(), Fail> {
     assert!(rt; counted(&mut editor, 1));
     assert!(rt; looks_up_in_vain(alloc, &mut editor, &[b"a", b"e"])?);
     assert!(rt; counted(&mut editor, 2));
+    Ok(())
+}
+
+#[test]
+fn asked_by_a_removal(rt: HostRuntime) -> Result<(), Fail> {
+    let alloc = rt.alloc();
+    let mut editor = editor(alloc)?;
+    let path = path_of(alloc, &[b"a", b"b", b"c"])?;
+    let answer = editor.try_remove(&path);
+    assert!(rt; matches!(&answer, Err(Error::FindExistingObject(_))));
+    assert!(rt; counted(&mut editor, 2));
+    editor.try_remove(&path)?;
+    assert!(rt; counted(&mut editor, 3));
+    Ok(())
+}
+
+/// Whether the store doesn't have a directory, by the refusal of an edit.
+fn is_not_found(answer: &Result<(), Error>) -> bool {
+    matches!(
+        answer,
+        Err(Error::FindExistingObject(
+            existing_object::Error::NotFound { .. }
+        ))
+    )
+}
+
+#[test]
+fn asked_for_a_directory_that_is_not_there(rt: HostRuntime) -> Result<(), Fail> {
+    let alloc = rt.alloc();
+    let mut editor = editor_of(alloc, Memory::new(alloc), ObjectId::Sha1([3; 20]))?;
+    let answer = editor.try_remove(&path_of(alloc, &[b"a", b"b"])?);
+    assert!(rt; is_not_found(&answer));
+    assert!(rt; counted(&mut editor, 1));
+    editor.try_remove(&path_of(alloc, &[b"a"])?)?;
+    assert!(rt; writes(alloc, &mut editor));
+    assert!(rt; counted(&mut editor, 1));
+    Ok(())
+}
+
+/// Edits below a directory `e` that is put in by this id.
+fn edit_below(alloc: Global, editor: &mut Editor<Failing>, id: ObjectId) -> Result<(), Fail> {
+    let directory = path_of(alloc, &[b"e"])?;
+    let file = path_of(alloc, &[b"e", b"f"])?;
+    editor.try_upsert(&directory, EntryKind::Tree, id)?;
+    editor.try_remove_leaf(&file)?;
+    editor.try_remove(&file)?;
+    editor.try_upsert(&file, EntryKind::Blob, FILE)?;
+    Ok(())
+}
+
+#[test]
+fn not_asked_for_directories_without_files(rt: HostRuntime) -> Result<(), Fail> {
+    let alloc = rt.alloc();
+    let mut editor = editor(alloc)?;
+    edit_below(alloc, &mut editor, ObjectId::null(HashKind::Sha1))?;
+    assert!(rt; counted(&mut editor, 0));
+    edit_below(alloc, &mut editor, ObjectId::empty_tree(HashKind::Sha1))?;
+    assert!(rt; counted(&mut editor, 0));
+    Ok(())
+}
+
+/// Whether an edit is refused for a name.
+fn is_for_a_name(answer: &Result<(), Error>) -> bool {
+    matches!(
+        answer,
+        Err(Error::EmptyPathComponent | Error::SlashInPathComponent)
+    )
+}
+
+#[test]
+fn not_asked_for_bad_names(rt: HostRuntime) -> Result<(), Fail> {
+    let alloc = rt.alloc();
+    let mut editor = editor(alloc)?;
+    let empty = path_of(alloc, &[b"a", b""])?;
+    assert!(rt; is_for_a_name(&editor.try_upsert(&empty, EntryKind::Blob, FILE)));
+    let slashed = path_of(alloc, &[b"a", b"b/c"])?;
+    assert!(rt; is_for_a_name(&editor.try_upsert(&slashed, EntryKind::Blob, FILE)));
+    let first = path_of(alloc, &[b"", b"a"])?;
+    assert!(rt; is_for_a_name(&editor.try_remove(&first)));
+    assert!(rt; counted(&mut editor, 0));
     Ok(())
 }
