@@ -1,8 +1,7 @@
 -- Tables that agree with runs.
 use Rattle.std.proofs.Common.{◌≡◌, ◌≢◌, ◌⊎◌, inl, inr, ⊎_elim, All, ℕ, true, false, List, [], ◌∷◌, ◌∙◌, Some, ap, refl, subst, sym, take}
-use Rattle.std.proofs.lemmas.List.Elements.{All-append, All-head, All-tail, All-take}
+use Rattle.std.proofs.lemmas.List.Elements.{All-head, All-tail, All-take}
 use Rattle.std.specs.Cmp.Lexicographic.{bytes_decides}
-use Rattle.std.specs.List.{flat_map}
 use Rattle.gixobj_data.proofs.Keeping.{elsewhere, there}
 use Rattle.gixobj_data.specs.Stores.{Objects, StoredObject, named}
 use Rattle.gixobj_directories.specs.Openings.{AreTreesOf, NamesTree}
@@ -15,13 +14,10 @@ use Rattle.gixobj_ids.specs.declared.hash.object_id.ObjectId.TheVariants as id
 use Rattle.gixobj_keeping.specs.Keeping.{tree_object, with_tree, with_trees}
 use Rattle.gixobj_tree_readers.specs.TreeReading.{IsTreeText}
 use Rattle.gixobj_trees.specs.Entries.{EntryView}
-use Rattle.gixobj_runs.specs.Commands.{kept_of, kept_of_edit, pairs_handed_out, pairs_kept, pairs_of, pairs_of_edit}
+use Rattle.gixobj_runs.specs.Commands.{pairs_handed_out, pairs_kept}
 use Rattle.gixobj_runs.specs.RunTables.{AgreesWithObjects, AgreesWithRun, ReadsAsItself}
-use Rattle.gixobj_runs.specs.declared.reply.EditReply.{EditReply}
-use Rattle.gixobj_runs.specs.declared.reply.EditReply.TheVariants as edit_reply
 use Rattle.gixobj_runs.specs.declared.reply.Reply.{Reply}
-use Rattle.gixobj_runs.specs.declared.reply.Reply.TheVariants as reply
-use Rattle.gixobj_runs.proofs.Keeping.{agrees_first, agrees_then}
+use Rattle.gixobj_runs.proofs.KeptPairs.{kept_have}
 
 same_bytes : (xs ys : List ℕ) → (xs ≡ ys) ⊎ (xs ≢ ys)
 same_bytes xs ys = elim (same_name xs ys) as (λ b. same_name xs ys ≡ b → (xs ≡ ys) ⊎ (xs ≢ ys)) [
@@ -64,39 +60,12 @@ module _ (T : Table) where
       agrees_with_trees pairs (with_tree pair objects) (agrees_with_tree objects pair agrees (All-head Has pair pairs has) (All-head ReadsAsItself pair pairs reads))
       (All-tail Has pair pairs has) (All-tail ReadsAsItself pair pairs reads)
 
-  -- what was kept was handed out
-  has_kept_edit : {E : Type 0} (it : EditReply E) → AgreesWithPairs T (pairs_of_edit it) → AgreesWithPairs T (kept_of_edit it)
-  has_kept_edit (edit_reply.Written written) has = has
-  has_kept_edit (edit_reply.NotKept written count error) has = All-take Has count written.trees.items has
-  has_kept_edit edit_reply.Done has = has
-  has_kept_edit (edit_reply.Refused error) has = has
-  has_kept_edit (edit_reply.WriteRefused error) has = has
-
-  has_kept_edits : {E : Type 0} (replies : List (EditReply E)) → AgreesWithPairs T (flat_map pairs_of_edit replies) → AgreesWithPairs T (flat_map kept_of_edit replies)
-  has_kept_edits [] has = has
-  has_kept_edits (it ∷ replies) has =
-      All-append Has (kept_of_edit it) (flat_map kept_of_edit replies) (has_kept_edit it (agrees_first T (pairs_of_edit it) (flat_map pairs_of_edit replies) has))
-      (has_kept_edits replies (agrees_then T (pairs_of_edit it) (flat_map pairs_of_edit replies) has))
-
-  has_kept_reply : {E : Type 0} (it : Reply E) → AgreesWithPairs T (pairs_of it) → AgreesWithPairs T (kept_of it)
-  has_kept_reply (reply.Edit it) has = has_kept_edit it has
-  has_kept_reply (reply.At replies) has = has_kept_edits replies.items has
-  has_kept_reply (reply.AtRefused error) has = has
-  has_kept_reply reply.RootSet has = has
-  has_kept_reply reply.RootRefused has = has
-
-  has_kept : {E : Type 0} (replies : List (Reply E)) → AgreesWithPairs T (pairs_handed_out replies) → AgreesWithPairs T (pairs_kept replies)
-  has_kept [] has = has
-  has_kept (it ∷ replies) has =
-      All-append Has (kept_of it) (pairs_kept replies) (has_kept_reply it (agrees_first T (pairs_of it) (pairs_handed_out replies) has))
-      (has_kept replies (agrees_then T (pairs_of it) (pairs_handed_out replies) has))
-
 pub run_table : {E : Type 0} (replies : List (Reply E)) (objects : Objects) (trees : Trees) → AreTreesOf objects trees → FitsBeside (pairs_handed_out replies) trees → All ReadsAsItself (pairs_kept replies)
     → (T : Table) × AgreesWithRun T objects replies
 run_table replies objects trees are fits reads =
     let it = fitting_table (pairs_handed_out replies) trees fits in
     let agrees : AgreesWithObjects it.0 objects = λ id entries sought names. it.1 id entries sought ((are id entries).1 names) in
-    let has = has_kept it.0 replies it.2 in (
+    let has = kept_have (Has it.0) replies it.2 in (
       it.0,
       record {
         writes = it.2;

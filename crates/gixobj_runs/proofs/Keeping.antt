@@ -1,12 +1,12 @@
 -- Stores in which trees are kept, and tables that agree with them.
 use Rattle.std.proofs.Common.{◌≡◌, ◌+◌, ℕ, zero, suc, List, [], ◌∷◌, ◌++◌, Some, ap, length, refl, subst, sym, take, ◌∙◌}
 use Rattle.std.proofs.Math.Seq.{take-append-add}
-use Rattle.std.proofs.lemmas.List.Elements.{All-cons, All-head, All-nil, All-tail}
 use Rattle.gixobj_data.specs.Stores.{Objects}
 use Rattle.gixobj_files.specs.Files.{Table}
 use Rattle.gixobj_files.specs.Tables.{AgreesWithPairs, Pair}
 use Rattle.gixobj_keeping.specs.Keeping.{with_tree, with_trees}
 use Rattle.gixobj_runs.specs.RunTables.{AgreesWithObjects}
+use Rattle.gixobj_runs.proofs.KeptPairs.{all_first, all_then}
 
 -- trees that are kept behind others
 pub kept_on : (first then : List Pair) (objects : Objects) → with_trees (first ++ then) objects ≡ with_trees then (with_trees first objects)
@@ -18,14 +18,10 @@ pub then_kept : (first then : List Pair) (old between new : Objects) → between
 then_kept first then old between new before after = after ∙ ap (with_trees then) before ∙ sym (kept_on first then old)
 
 pub agrees_first : (T : Table) (first then : List Pair) → AgreesWithPairs T (first ++ then) → AgreesWithPairs T first
-agrees_first T [] then agrees = All-nil (λ (pair : Pair). T.tree_at pair.0 ≡ Some pair.1)
-agrees_first T (x ∷ first) then agrees =
-    let P = λ (pair : Pair). T.tree_at pair.0 ≡ Some pair.1 in
-    All-cons P x first (All-head P x (first ++ then) agrees) (agrees_first T first then (All-tail P x (first ++ then) agrees))
+agrees_first T = all_first (λ pair. T.tree_at pair.0 ≡ Some pair.1)
 
 pub agrees_then : (T : Table) (first then : List Pair) → AgreesWithPairs T (first ++ then) → AgreesWithPairs T then
-agrees_then T [] then agrees = agrees
-agrees_then T (x ∷ first) then agrees = agrees_then T first then (All-tail (λ (pair : Pair). T.tree_at pair.0 ≡ Some pair.1) x (first ++ then) agrees)
+agrees_then T = all_then (λ pair. T.tree_at pair.0 ≡ Some pair.1)
 
 -- some number of first ones of the whole are these first ones of its front
 take_within : (xs ys : List Pair) (count : ℕ) → (some : ℕ) × (take some (xs ++ ys) ≡ take count xs)

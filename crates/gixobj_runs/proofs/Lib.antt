@@ -1,8 +1,10 @@
 mod Agreeing
+pub mod Answered
 mod Calling
 mod Histories
 mod Keeping
 mod Kept
+pub mod KeptPairs
 mod Named
 mod Replied
 mod OneMore
