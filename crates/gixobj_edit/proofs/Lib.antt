@@ -1,2 +1,3 @@
+pub mod Fitting
 pub mod Told
 pub mod Wider

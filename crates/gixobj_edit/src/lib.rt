@@ -3,6 +3,7 @@
 
 mod digest;
 pub mod editing;
+pub mod laws;
 pub mod telling;
 
 pub use editing::{EditError, edit, edit_on};
