@@ -152,6 +152,11 @@ fn has_below(files: &[Listed], path: &[BString]) -> bool {
     files.iter().any(|file| path.len() < file.path.len() && begins(&file.path, path))
 }
 
+/// Whether the list has a file at the path.
+fn has_at(files: &[Listed], path: &[BString]) -> bool {
+    files.iter().any(|file| file.path.len() == path.len() && begins(&file.path, path))
+}
+
 /// Puts a file into the list. One of the null id is never written.
 fn list(
     alloc: Global,
@@ -189,7 +194,7 @@ fn fits_edit(
             Ok(is_leaf)
         }
         (Edit::RemoveLeaf { .. }, EditReply::Refused(Error::CannotRemoveNonLeaf { .. })) => {
-            Ok(true)
+            Ok(!has_at(&listing.files, path))
         }
         _ => Ok(false),
     }
