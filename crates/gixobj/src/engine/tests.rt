@@ -2,6 +2,8 @@
 
 use super::engine;
 use std::alloc::{AllocError, Global};
+use std::io;
+use std::io::{ErrorKind, Read, Write};
 use std::test::Fail;
 
 const NESTED: &str = "upsert blob 83baae61804e65cc73a7201a7252750c76066a30 bak/test.txt
@@ -29,12 +31,80 @@ wrote 4b825dc642cb6eb9a060e54bf8d69288fbee4904 1
 lookups 0
 ";
 
+/// Edits before and after writes: what a write handed out is looked up again.
+const WRITES: &str = "upsert blob fa49b077972391ad58037050f2a75f74e3671e92 new.txt
+upsert blob 1f7a7a472abf3dd9643fd615f6da379c4acb3e3a test.txt
+at bak upsert blob 83baae61804e65cc73a7201a7252750c76066a30 test.txt
+write
+remove bak/none
+write
+at bak write
+leaf bak/test.txt
+write
+upsert blob 83baae61804e65cc73a7201a7252750c76066a30 q//r
+";
+
+const WRITES_LINES: &str = "ok
+ok
+ok
+wrote 3c4e9cd789d88d8d89c1073707c3585e41b0e614 2
+ok
+wrote 3c4e9cd789d88d8d89c1073707c3585e41b0e614 2
+wrote d8329fc1cc938780ffdd9f94e0d364e0ea74f579 1
+ok
+wrote 0155eb4229851634a0f03eb265b69f5a2d56f341 1
+refused 1
+lookups 2
+";
+
 const SHA256_LINES: &str = "ok
 wrote 6ef19b41225c5369f1c104d45d8d85efa9b057b53b14b4b9b939dd74decc5321 1
 lookups 0
 ";
 
 const USAGE: &str = "usage: gixobj show|tree|edit [sha256]\n";
+
+/// A reader that gives a byte a time, and then fails.
+#[derive(Drop)]
+struct Breaking<'a> {
+    rest: &'a [u8],
+}
+
+impl Read for Breaking<'_> {
+    fn read(&mut self, buf: &mut [u8]) -> io::Result<usize> {
+        if self.rest.is_empty() {
+            return Err(io::Error::from(ErrorKind::ConnectionReset));
+        }
+        let count = self.rest.len().min(buf.len()).min(1);
+        let (front, rest) = self.rest.split_at(count);
+        buf[..count].copy_from_slice(front);
+        self.rest = rest;
+        Ok(count)
+    }
+}
+
+/// A writer that keeps what it takes, as much as it has room for.
+#[derive(Drop)]
+struct Narrow {
+    held: Vec<u8>,
+    room: usize,
+}
+
+impl Write for Narrow {
+    fn write(&mut self, buf: &[u8]) -> io::Result<usize> {
+        let count = self.room.min(buf.len());
+        if count == 0 {
+            return Err(io::Error::from(ErrorKind::StorageFull));
+        }
+        self.held.extend_from_slice(&buf[..count])?;
+        self.room -= count;
+        Ok(count)
+    }
+
+    fn flush(&mut self) -> io::Result<()> {
+        Ok(())
+    }
+}
 
 /// The words of a line.
 fn words_in(alloc: Global, line: &str) -> Result<Vec<String>, AllocError> {
@@ -53,12 +123,30 @@ fn answer_of(alloc: Global, line: &str, input: &str) -> Result<(u8, Vec<u8>, Vec
     Ok((status, told, refused))
 }
 
+/// Whether the program tells this of an input, and nothing on standard error.
+fn tells(alloc: Global, line: &str, input: &str, told: &str) -> Result<bool, AllocError> {
+    let (status, output, errors) = answer_of(alloc, line, input)?;
+    Ok(status == 0 && output.as_slice() == told.as_bytes() && errors.is_empty())
+}
+
+/// Three files, of which one is in a directory.
 #[test]
-fn scripts_and_what_is_told(rt: HostRuntime) -> Result<(), Fail> {
-    let alloc = rt.alloc();
-    let runs: [(&str, &str, &str); 5] = [
-        ("edit", NESTED, NESTED_LINES),
-        ("edit", LEAF, LEAF_LINES),
+fn edit_nested(rt: HostRuntime) -> Result<(), Fail> {
+    assert!(rt; tells(rt.alloc(), "edit", NESTED, NESTED_LINES)?);
+    Ok(())
+}
+
+/// A directory is no leaf, and is removed as a whole.
+#[test]
+fn edit_leaf(rt: HostRuntime) -> Result<(), Fail> {
+    assert!(rt; tells(rt.alloc(), "edit", LEAF, LEAF_LINES)?);
+    Ok(())
+}
+
+/// Words, inputs, and what is told.
+fn inputs() -> &'static [(&'static str, &'static str, &'static str)] {
+    &[
+        ("edit", WRITES, WRITES_LINES),
         ("edit", "", "lookups 0\n"),
         ("edit sha256", "root\nwrite", SHA256_LINES),
         (
@@ -66,12 +154,13 @@ fn scripts_and_what_is_told(rt: HostRuntime) -> Result<(), Fail> {
             "blob 6\0hello\n",
             "blob 6 ce013625030ba8dba906f756967f9e9ca394464a\n",
         ),
-    ];
-    for (line, input, told) in runs {
-        let got = answer_of(alloc, line, input)?;
-        assert_eq!(rt; got.0, 0, "{line} {input}");
-        assert_eq!(rt; got.1.as_slice(), told.as_bytes(), "{line} {input}");
-        assert!(rt; got.2.is_empty(), "{line} {input}");
+    ]
+}
+
+#[test]
+fn inputs_and_what_is_told(rt: HostRuntime) -> Result<(), Fail> {
+    for (line, input, told) in inputs() {
+        assert!(rt; tells(rt.alloc(), line, input, told)?, "{line} {input}");
     }
     Ok(())
 }
@@ -97,6 +186,45 @@ fn faults(rt: HostRuntime) -> Result<(), Fail> {
         assert_eq!(rt; got.0, status, "{line} {input}");
         assert!(rt; got.1.is_empty(), "{line} {input}");
         assert_eq!(rt; got.2.as_slice(), refused.as_bytes(), "{line} {input}");
+    }
+    Ok(())
+}
+
+/// A script that is cut off isn't run.
+#[test]
+fn input_that_fails(rt: HostRuntime) -> Result<(), Fail> {
+    let alloc = rt.alloc();
+    let words = words_in(alloc, "edit")?;
+    let rest = NESTED.as_bytes();
+    let mut input = Breaking { rest };
+    let mut told = Vec::new(alloc);
+    let mut refused = Vec::new(alloc);
+    let status = engine(alloc, words.as_slice(), &mut input, &mut told, &mut refused);
+    assert_eq!(rt; status, 1);
+    assert!(rt; told.is_empty());
+    assert_eq!(rt; refused.as_slice(), b"gixobj: input failed\n".as_slice());
+    Ok(())
+}
+
+#[test]
+fn output_that_fails(rt: HostRuntime) -> Result<(), Fail> {
+    let alloc = rt.alloc();
+    let words = words_in(alloc, "edit")?;
+    for (room, front) in [(0, ""), (5, "ok\nok")] {
+        let held = Vec::new(alloc);
+        let mut narrow = Narrow { held, room };
+        let mut refused = Vec::new(alloc);
+        let mut rest = NESTED.as_bytes();
+        let status = engine(
+            alloc,
+            words.as_slice(),
+            &mut rest,
+            &mut narrow,
+            &mut refused,
+        );
+        assert_eq!(rt; status, 1);
+        assert_eq!(rt; narrow.held.as_slice(), front.as_bytes());
+        assert_eq!(rt; refused.as_slice(), b"gixobj: output failed\n".as_slice());
     }
     Ok(())
 }
