@@ -11,6 +11,8 @@ mod ids;
 #[cfg(test)]
 mod large;
 #[cfg(test)]
+mod refused_halfway;
+#[cfg(test)]
 mod refused_out;
 #[cfg(test)]
 mod samples;

@@ -1,7 +1,11 @@
 //! The lines of answers.
 
 use bstr::BString;
+use gixobj_base::encode;
 use gixobj_base::hash::ObjectId;
+use gixobj_edit::answers_of;
+use gixobj_editor::editor::{Error, WriteError};
+use gixobj_runs::{EditReply, Reply};
 use gixobj_script::{Answer, Refusal, answer_lines};
 use std::test::Fail;
 
@@ -79,6 +83,25 @@ lookups 18446744073709551615
     assert_eq!(rt;
         answer_lines(alloc, &[], 0)?.as_slice(),
         b"lookups 0\n".as_slice()
+    );
+    Ok(())
+}
+
+/// A write and a cursor without memory, and a root that isn't well-formed.
+#[test]
+fn answers_to_refused_commands(rt: HostRuntime) -> Result<(), Fail> {
+    let alloc = rt.alloc();
+    let write: EditReply<encode::Error> = EditReply::WriteRefused(WriteError::OutOfMemory);
+    let replies = vec![in alloc;
+        Reply::Edit(write),
+        Reply::AtRefused(Error::OutOfMemory),
+        Reply::RootRefused,
+    ]?;
+    let answers = answers_of(alloc, replies)?;
+    let lines = "refused memory\nrefused 6\nrefused 5\nlookups 0\n";
+    assert_eq!(rt;
+        answer_lines(alloc, &answers, 0)?.as_slice(),
+        lines.as_bytes()
     );
     Ok(())
 }

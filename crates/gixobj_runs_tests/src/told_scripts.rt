@@ -80,6 +80,28 @@ wrote 6ef19b41225c5369f1c104d45d8d85efa9b057b53b14b4b9b939dd74decc5321 1
 lookups 0
 ";
 
+/// Paths of one empty name, and of none: the first are refused, as the path of an edit, and stand for the root, as a prefix.
+const EMPTY_NAMES: &str = "upsert blob 83baae61804e65cc73a7201a7252750c76066a30 a
+remove 
+leaf 
+at  write
+at . write
+at  remove 
+remove .
+write
+";
+
+const EMPTY_NAMES_LINES: &str = "ok
+refused 1
+refused 1
+wrote 0685a16c7efc3846f5ca6c9e541bf20d9475de91 1
+wrote 0685a16c7efc3846f5ca6c9e541bf20d9475de91 1
+refused 1
+ok
+wrote 0685a16c7efc3846f5ca6c9e541bf20d9475de91 1
+lookups 0
+";
+
 /// Whether the lines are printed of the script.
 fn prints(alloc: Global, script: &str, hash: Kind, lines: &str) -> bool {
     match edit(alloc, script.as_bytes(), hash) {
@@ -89,15 +111,31 @@ fn prints(alloc: Global, script: &str, hash: Kind, lines: &str) -> bool {
 }
 
 #[test]
-fn lines_printed(rt: HostRuntime) -> Result<(), Fail> {
-    let alloc = rt.alloc();
-    assert!(rt; prints(alloc, NESTED, Kind::Sha1, NESTED_LINES));
-    assert!(rt; prints(alloc, LEAF, Kind::Sha1, LEAF_LINES));
-    assert!(rt; prints(alloc, WRITES, Kind::Sha1, WRITES_LINES));
-    assert!(rt; prints(alloc, REFUSALS, Kind::Sha1, REFUSALS_LINES));
-    assert!(rt; prints(alloc, "root\nwrite", Kind::Sha256, EMPTY_ROOT_LINES));
-    assert!(rt; prints(alloc, "", Kind::Sha1, "lookups 0\n"));
-    Ok(())
+fn edit_nested(rt: HostRuntime) {
+    assert!(rt; prints(rt.alloc(), NESTED, Kind::Sha1, NESTED_LINES));
+}
+
+#[test]
+fn edit_leaf(rt: HostRuntime) {
+    assert!(rt; prints(rt.alloc(), LEAF, Kind::Sha1, LEAF_LINES));
+}
+
+/// Scripts, and the lines that are printed of them.
+fn scripts() -> &'static [(&'static str, &'static str)] {
+    &[
+        (WRITES, WRITES_LINES),
+        (REFUSALS, REFUSALS_LINES),
+        (EMPTY_NAMES, EMPTY_NAMES_LINES),
+        ("", "lookups 0\n"),
+    ]
+}
+
+#[test]
+fn lines_printed(rt: HostRuntime) {
+    for (script, lines) in scripts() {
+        assert!(rt; prints(rt.alloc(), script, Kind::Sha1, lines), "{script}");
+    }
+    assert!(rt; prints(rt.alloc(), "root\nwrite", Kind::Sha256, EMPTY_ROOT_LINES));
 }
 
 #[test]
