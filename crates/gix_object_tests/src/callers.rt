@@ -100,11 +100,7 @@ fn stored(alloc: Global, names: &[&str]) -> Result<(Memory, ObjectId), Fail> {
 }
 
 /// A file of the second id, put in at `a/x` in the tree of this id.
-fn plan(
-    alloc: Global,
-    store: Memory,
-    root: ObjectId,
-) -> Result<Option<Written>, Error> {
+fn plan(alloc: Global, store: Memory, root: ObjectId) -> Result<Option<Written>, Error> {
     let path = path_of(alloc, &["a", "x"])?;
     let id = ObjectId::from_hex(SECOND).unwrap_or(ObjectId::null(Kind::Sha1));
     let out = |tree: &Tree| id_of(alloc, tree);

@@ -121,11 +121,7 @@ pub fn with_entry_in_stored<S: Find + Drop, E: Drop, F: FnMut(&Tree) -> Result<O
 }
 
 /// The tree of this id in a store.
-fn stored_root<S: Find>(
-    alloc: Global,
-    store: &S,
-    id: ObjectId,
-) -> Result<Tree, opening::Error>
+fn stored_root<S: Find>(alloc: Global, store: &S, id: ObjectId) -> Result<Tree, opening::Error>
     ensures well_formed { IfOk result IsWellFormed }
     ensures found { IfOk result (λ tree. (trees : Trees) → AreTreesOf (S.objects store.now) trees → (asked : List ObjectId) × Finds trees id tree asked) }
     ensures refusal { IfErr result (λ cause. (IsEmptyId id → ⊥) × RefusesDirectory (S.objects store.now) (S.may_fail store.now) id cause) }

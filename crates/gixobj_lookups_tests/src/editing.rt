@@ -125,9 +125,7 @@ fn asked_by_a_removal(rt: HostRuntime) -> Result<(), Fail> {
 fn is_not_found(answer: &Result<(), Error>) -> bool {
     matches!(
         answer,
-        Err(Error::FindExistingObject(
-            existing_object::Error::NotFound { .. }
-        ))
+        Err(Error::FindExistingObject(existing_object::Error::NotFound { .. }))
     )
 }
 
