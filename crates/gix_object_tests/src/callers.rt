@@ -5,11 +5,11 @@ use gix_object::find::Never;
 use gix_object::hash::{Kind, ObjectId};
 use gix_object::tree::editor::{Edit, Editor, Error, WriteError, Written};
 use gix_object::tree::{Entry, EntryKind};
-use gix_object::{CommitRef, Tree, WriteTo, compute_hash, encode};
+use gix_object::{CommitRef, FindExt, Tree, WriteTo, compute_hash, encode};
 use gixobj_callers::auditor::{place_of, value_of, values_of};
 use gixobj_callers::checkout::{Planned, with_entries_at};
 use gixobj_callers::importer::{ImportError, import_files, owned_copy_of};
-use gixobj_callers::planner::{with_entry, with_entry_in_stored};
+use gixobj_callers::planner::with_entry;
 use gixobj_callers::store::{CopyError, copy_of};
 use gixobj_callers::walker::{ends_behind_errors, message_of, parents_of, tree_of};
 use gixobj_store::Memory;
@@ -99,12 +99,13 @@ fn stored(alloc: Global, names: &[&str]) -> Result<(Memory, ObjectId), Fail> {
     Ok((store, id))
 }
 
-/// A file of the second id, put in at `a/x` in the tree of this id.
-fn plan(alloc: Global, store: Memory, root: ObjectId) -> Result<Option<Written>, Error> {
-    let path = path_of(alloc, &["a", "x"])?;
-    let id = ObjectId::from_hex(SECOND).unwrap_or(ObjectId::null(Kind::Sha1));
-    let out = |tree: &Tree| id_of(alloc, tree);
-    with_entry_in_stored(alloc, root, store, &path, EntryKind::Blob, id, out)
+/// The tree of this id in the store.
+fn tree_in(alloc: Global, store: &Memory, id: ObjectId) -> Option<Tree> {
+    let mut buffer = Vec::new(alloc);
+    match store.find_tree(alloc, id.as_oid(), &mut buffer) {
+        Ok(tree) => tree.into_owned(alloc).ok(),
+        Err(_) => None,
+    }
 }
 
 /// What `git mktree --missing` answers for the directory `a` alone, of the files `b` of the first id and `x` of the
@@ -115,33 +116,17 @@ const PLANNED_BESIDE: &[u8] = b"42306307596042142f124b5146c180127d63b0d6";
 fn planned_in_a_stored_tree(rt: HostRuntime) -> Result<(), Fail> {
     let alloc = rt.alloc();
     let (store, root) = stored(alloc, &["b", "a"])?;
-    let written = plan(alloc, store, root)?.ok_or("a write")?;
+    let root = tree_in(alloc, &store, root).ok_or("a root")?;
+    if !root.is_well_formed() {
+        return Err("a well-formed root")?;
+    }
+    let path = path_of(alloc, &["a", "x"])?;
+    let id = ObjectId::from_hex(SECOND).ok_or("an id")?;
+    let out = |tree: &Tree| id_of(alloc, tree);
+    let written = with_entry(root, store, &path, EntryKind::Blob, id, out)?;
+    let written = written.ok_or("a write")?;
     assert!(rt; ObjectId::from_hex(PLANNED_BESIDE) == Some(written.id));
     assert!(rt; written.trees.len() == 2);
-    Ok(())
-}
-
-/// What it answers for the directory `a` alone, of the file `x` of the second id.
-const PLANNED_ALONE: &[u8] = b"341d89829a1bf9c0ccfbccf738815cbc862b3242";
-
-#[test]
-fn planned_in_a_tree_without_files(rt: HostRuntime) -> Result<(), Fail> {
-    let alloc = rt.alloc();
-    for root in [ObjectId::null(Kind::Sha1), ObjectId::empty_tree(Kind::Sha1)] {
-        let written = plan(alloc, Memory::new(alloc), root)?.ok_or("a write")?;
-        assert!(rt; ObjectId::from_hex(PLANNED_ALONE) == Some(written.id));
-    }
-    Ok(())
-}
-
-#[test]
-fn not_planned(rt: HostRuntime) -> Result<(), Fail> {
-    let alloc = rt.alloc();
-    let unknown = ObjectId::from_hex(FIRST).ok_or("an id")?;
-    let refused = plan(alloc, Memory::new(alloc), unknown);
-    assert!(rt; matches!(&refused, Err(Error::FindExistingObject(_))));
-    let (store, root) = stored(alloc, &["b/c"])?;
-    assert!(rt; matches!(&plan(alloc, store, root), Err(Error::MalformedTree)));
     Ok(())
 }
 

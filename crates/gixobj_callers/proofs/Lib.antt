@@ -3,7 +3,6 @@ mod Histories
 mod Imported
 mod Importing
 mod Listed
-mod Planned
 mod PutIn
 mod Refusals
 mod Told

@@ -3,17 +3,13 @@ ghost use Rattle.std.specs.Prelude.{◌≡◌, ℕ, All, IfErr, IfOk, IfSome, Li
 ghost use Rattle.std.specs.Fn.{CalledAt};
 ghost use Rattle.gixobj_base.specs.Entries.{EntryView, IsWellFormed};
 ghost use Rattle.gixobj_base.specs.Mode.{mode_of_kind};
-ghost use Rattle.gixobj_base.specs.ids.hash.object_id.ObjectId.{ObjectId};
 ghost use Rattle.gixobj_directories.specs.Calls.{IsCallableOnTrees, names_of};
-ghost use Rattle.gixobj_directories.specs.Openings.{AreTreesOf, RefusesDirectory};
-ghost use Rattle.gixobj_editor.specs.Upserts.{RefusesUpsert};
-ghost use Rattle.gixobj_files.specs.Edits.{Finds, only};
+ghost use Rattle.gixobj_directories.specs.Openings.{AreTreesOf};
 ghost use Rattle.gixobj_files.specs.Files.{Files, NamedFiles, SameFiles, Table, Trees, Upserted};
-ghost use Rattle.gixobj_files.specs.Tables.{AgreesWithPairs, AgreesWithStore, IsEmptyId};
+ghost use Rattle.gixobj_files.specs.Tables.{AgreesWithPairs, AgreesWithStore};
 ghost use Rattle.gixobj_codec.specs.TreeReading.{IsNoTreeText, IsTreeText};
 ghost use Rattle.gixobj_codec.specs.TreeRewriting.{ReadsBack};
 ghost use Rattle.gixobj_callers.specs.Copies.{FailsForRoom};
-ghost use Rattle.gixobj_callers.specs.Plans.{RefusesPlan};
 
 use crate::store::CopyError;
 use bstr::BString;
@@ -27,9 +23,7 @@ use gixobj_codec::laws::{
 };
 use gixobj_codec::{TreeRef, TreeRefIter};
 use gixobj_data::Find;
-use gixobj_directories::opening;
 use gixobj_editor::editor::{Editor, Error, Written};
-use gixobj_lookups::FindExt;
 use std::alloc::Global;
 
 /// Whether the bytes are the text of a tree: goes through its entries to their end, and takes no memory.
@@ -83,9 +77,8 @@ pub fn with_entry<S: Find + Drop, E: Drop, F: FnMut(&Tree) -> Result<ObjectId, E
 ) -> Result<Option<Written>, Error>
     requires well_formed { IsWellFormed root }
     requires callable { IsCallableOnTrees F.pre (λ f p g. CalledAt F.FnMut f p.1 (Ok p.0) g) out }
-    ensures files { IfOk result (λ it. IfSome it (λ written. (trees : Trees) → AreTreesOf (S.objects store) trees → (T : Table) (n : ℕ) → AgreesWithStore T trees → AgreesWithPairs T written.trees.items
+    ensures { IfOk result (λ it. IfSome it (λ written. (trees : Trees) → AreTreesOf (S.objects store) trees → (T : Table) (n : ℕ) → AgreesWithStore T trees → AgreesWithPairs T written.trees.items
         → SameFiles (NamedFiles T n written.id) (Upserted T n (names_of path.now) (mode_of_kind kind) id (Files T n root)))) }
-    ensures refusal { IfErr result (λ error. (trees : Trees) → AreTreesOf (S.objects store) trees → RefusesUpsert (S.objects store) (S.may_fail store) trees (only root) (names_of path.now) error) }
 {
     let mut editor = Editor::new(root, store, id.kind());
     editor.try_upsert(path, kind, id)?;
@@ -93,47 +86,4 @@ pub fn with_entry<S: Find + Drop, E: Drop, F: FnMut(&Tree) -> Result<ObjectId, E
         Ok(written) => Ok(Some(written)),
         Err(_) => Ok(None),
     }
-}
-
-/// The same with the tree of this id in the store as the root. The store isn't asked for the null id and that of the
-/// empty tree, which stand for no files. In each table that agrees with the store and with what was handed out, the
-/// tree that is named has, to every depth, exactly the files that the edit makes of those of the tree of this id.
-/// `None` where handing out was refused.
-///
-/// The root is refused as a directory on the path is: `FindExistingObject` or `MalformedTree` where the store doesn't
-/// have it as a well-formed tree, or its lookup fails.
-pub fn with_entry_in_stored<S: Find + Drop, E: Drop, F: FnMut(&Tree) -> Result<ObjectId, E> + Drop>(
-    alloc: Global,
-    root: ObjectId,
-    store: S,
-    path: &[BString],
-    kind: EntryKind,
-    id: ObjectId,
-    out: F,
-) -> Result<Option<Written>, Error>
-    requires { IsCallableOnTrees F.pre (λ f p g. CalledAt F.FnMut f p.1 (Ok p.0) g) out }
-    ensures files { IfOk result (λ it. IfSome it (λ written. (trees : Trees) → AreTreesOf (S.objects store) trees → (T : Table) (n : ℕ) → AgreesWithStore T trees → AgreesWithPairs T written.trees.items
-        → SameFiles (NamedFiles T n written.id) (Upserted T n (names_of path.now) (mode_of_kind kind) id (NamedFiles T n root)))) }
-    ensures refusal { IfErr result (λ error. (trees : Trees) → AreTreesOf (S.objects store) trees → RefusesPlan (S.objects store) (S.may_fail store) trees root (names_of path.now) error) }
-{
-    let tree = stored_root(alloc, &store, root)?;
-    with_entry(tree, store, path, kind, id, out)
-}
-
-/// The tree of this id in a store.
-fn stored_root<S: Find>(alloc: Global, store: &S, id: ObjectId) -> Result<Tree, opening::Error>
-    ensures well_formed { IfOk result IsWellFormed }
-    ensures found { IfOk result (λ tree. (trees : Trees) → AreTreesOf (S.objects store.now) trees → (asked : List ObjectId) × Finds trees id tree asked) }
-    ensures refusal { IfErr result (λ cause. (IsEmptyId id → ⊥) × RefusesDirectory (S.objects store.now) (S.may_fail store.now) id cause) }
-{
-    if id.is_null() || id.is_empty_tree() {
-        return Ok(Tree::empty(alloc));
-    }
-    let mut buffer = Vec::new(alloc);
-    let tree = store.find_tree(alloc, id.as_oid(), &mut buffer)?;
-    let tree = tree.into_owned(alloc)?;
-    if !tree.is_well_formed() {
-        return Err(opening::Error::MalformedTree);
-    }
-    Ok(tree)
 }
