@@ -94,7 +94,8 @@ fn at(alloc: Global, commit: &[u8], path: &[&str]) -> Result<Option<Entry>, Fail
 /// Whether the entry is that of the file in the inner tree.
 fn is_version_1(found: &Option<Entry>) -> bool {
     match found {
-        Some(entry) => entry.oid == id(VERSION_1) && entry.filename.as_bytes() == b"test.txt",
+        Some(entry) => entry.oid == id(VERSION_1)
+            && entry.filename.as_bytes() == b"test.txt".as_slice(),
         None => false,
     }
 }
