@@ -5,11 +5,11 @@ use gix_object::find::Never;
 use gix_object::hash::{Kind, ObjectId};
 use gix_object::tree::editor::{Edit, Editor, Error, WriteError, Written};
 use gix_object::tree::{Entry, EntryKind};
-use gix_object::{CommitRef, FindExt, Tree, WriteTo, compute_hash, encode};
+use gix_object::{CommitRef, Find, FindExt, Tree, WriteTo, compute_hash, encode};
 use gixobj_callers::auditor::{place_of, value_of, values_of};
 use gixobj_callers::checkout::{Planned, with_entries_at};
 use gixobj_callers::importer::{ImportError, import_files, owned_copy_of};
-use gixobj_callers::planner::with_entry;
+use gixobj_callers::planner::{PlanError, RootError, with_entry, with_entry_in_stored};
 use gixobj_callers::store::{CopyError, copy_of};
 use gixobj_callers::walker::{ends_behind_errors, message_of, parents_of, tree_of};
 use gixobj_store::Memory;
@@ -127,6 +127,61 @@ fn planned_in_a_stored_tree(rt: HostRuntime) -> Result<(), Fail> {
     let written = written.ok_or("a write")?;
     assert!(rt; ObjectId::from_hex(PLANNED_BESIDE) == Some(written.id));
     assert!(rt; written.trees.len() == 2);
+    Ok(())
+}
+
+/// The blob without content, put at a path into the tree of this id. It has the second id.
+fn plan<S: Find + Drop>(
+    alloc: Global,
+    root: ObjectId,
+    store: S,
+    path: &[BString],
+) -> Result<Written, PlanError<encode::Error>> {
+    let id = ObjectId::empty_blob(Kind::Sha1);
+    let out = |tree: &Tree| id_of(alloc, tree);
+    with_entry_in_stored(alloc, root, store, path, EntryKind::Blob, id, out)
+}
+
+/// What `git mktree --missing` answers for `040000 tree f09792be40f18f537c28b624b7bc7771f25082e1`, a tab and `a`, and
+/// `100644 blob`, the second id, a tab and `x`; the tree `a` is what it answers for `100644 blob`, the first id, a tab
+/// and `b`.
+const PLANNED_AT_THE_ROOT: &[u8] = b"fa0919f1e8adc1e676ab04434a2d7f5842aeed3e";
+
+/// What it answers in the same way for the file `x` of the second id alone.
+const PLANNED_ALONE: &[u8] = b"5805b676e247eb9a8046ad0c4d249cd2fb2513df";
+
+#[test]
+fn planned_by_its_id(rt: HostRuntime) -> Result<(), Fail> {
+    let alloc = rt.alloc();
+    let (near, far) = (path_of(alloc, &["x"])?, path_of(alloc, &["a", "x"])?);
+    let (store, root) = stored(alloc, &["b", "a"])?;
+    let written = plan(alloc, root, store, &far)?;
+    assert!(rt; ObjectId::from_hex(PLANNED_BESIDE) == Some(written.id));
+    assert!(rt; written.trees.len() == 2);
+    let (store, root) = stored(alloc, &["b", "a"])?;
+    let written = plan(alloc, root, store, &near)?;
+    assert!(rt; ObjectId::from_hex(PLANNED_AT_THE_ROOT) == Some(written.id));
+    assert!(rt; written.trees.len() == 1);
+    let written = plan(alloc, ObjectId::empty_tree(Kind::Sha1), Never, &near)?;
+    assert!(rt; ObjectId::from_hex(PLANNED_ALONE) == Some(written.id));
+    Ok(())
+}
+
+#[test]
+fn not_planned(rt: HostRuntime) -> Result<(), Fail> {
+    let alloc = rt.alloc();
+    let path = path_of(alloc, &["x"])?;
+    let answer = plan(alloc, ObjectId::null(Kind::Sha1), Never, &path);
+    assert!(rt; matches!(&answer, Err(PlanError::Root(RootError::Find(_)))));
+    let (store, root) = stored(alloc, &["a/b"])?;
+    let answer = plan(alloc, root, store, &path);
+    assert!(rt; matches!(&answer, Err(PlanError::Root(RootError::Malformed))));
+    let (store, root) = stored(alloc, &["b"])?;
+    let answer = plan(alloc, root, store, &path_of(alloc, &["x", ""])?);
+    assert!(rt; matches!(&answer, Err(PlanError::Edit(Error::EmptyPathComponent))));
+    let (store, root) = stored(alloc, &["b"])?;
+    let answer = plan(alloc, root, store, &path_of(alloc, &["\0"])?);
+    assert!(rt; matches!(&answer, Err(PlanError::Write(WriteError::Out(_)))));
     Ok(())
 }
 

@@ -3,6 +3,7 @@ mod Histories
 mod Imported
 mod Importing
 mod Listed
+mod Planned
 mod PutIn
 mod Refusals
 mod Told

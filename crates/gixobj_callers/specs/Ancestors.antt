@@ -1,10 +1,14 @@
--- Commits of a store, their first parents and their trees.
-use Rattle.std.specs.Prelude.{◌≡◌, ◌∷◌, ℕ, List, suc, zero}
+-- Commits of a store, their first parents and their trees, and why a walk stops.
+use Rattle.std.specs.Prelude.{◌≡◌, ◌∷◌, ◌<◌, ℕ, Bool, List, Some, [], suc, zero}
 use Rattle.gixobj_base.specs.Hash.{Spells}
 use Rattle.gixobj_base.specs.ids.hash.object_id.ObjectId.{ObjectId}
 use Rattle.gixobj_base.specs.ids.kind.Kind.TheVariants.{Commit, Tree}
 use Rattle.gixobj_codec.specs.Commit.{CommitLines, IsCommitText}
+use Rattle.gixobj_codec.specs.Lookups.{Name, RefusesPath}
 use Rattle.gixobj_codec.specs.Stores.{Names, Objects, StoredObject}
+use Rattle.gixobj_lookups.specs.Existing.{RefusesObject, RefusesReader}
+use Rattle.gixobj_callers.specs.declared.history.Error.{Error}
+use Rattle.gixobj_callers.specs.declared.history.Error.TheVariants as history
 
 -- the id names an object whose text is that of this commit
 abbrev pub NamesCommit : Objects → ObjectId → CommitLines → Type 0
@@ -22,3 +26,26 @@ IsAncestor objects (suc n) start id = (child : ObjectId) × IsAncestor objects n
 -- the tree of the commit is this object
 abbrev pub HasTree : Objects → ObjectId → StoredObject → Type 0
 HasTree objects id tree = (commit : CommitLines) × NamesCommit objects id commit × ((named : ObjectId) × Spells commit.tree named × Names objects named tree × (tree.kind ≡ Tree))
+
+-- ---- why a walk stops
+
+-- why the first parent of a commit isn't told: no commit is found, or it has none
+abbrev pub RefusesParent : Objects → (ObjectId → Bool) → ObjectId → Error → Type 0
+RefusesParent objects may_fail child (history.Commit cause) = RefusesObject objects may_fail Commit child cause
+RefusesParent objects may_fail child (history.NoParent said) = (said ≡ child) × ((commit : CommitLines) × NamesCommit objects child commit × (commit.parents ≡ []))
+RefusesParent objects may_fail child error = ⊥
+
+-- why a walk of so many steps stops: fewer steps lead to a commit whose first parent isn't told
+abbrev pub RefusesWalk : Objects → (ObjectId → Bool) → ℕ → ObjectId → Error → Type 0
+RefusesWalk objects may_fail generations start error = (n : ℕ) × (child : ObjectId) × (n < generations) × IsAncestor objects n start child × RefusesParent objects may_fail child error
+
+-- the commit has this id as its tree's
+abbrev pub NamesTreeId : Objects → ObjectId → ObjectId → Type 0
+NamesTreeId objects id named = (commit : CommitLines) × NamesCommit objects id commit × Spells commit.tree named
+
+-- why no entry is looked up in the tree of a commit: no commit is found, or no tree by the id that it has, or the path isn't followed
+abbrev pub RefusesEntry : Objects → (ObjectId → Bool) → ObjectId → List Name → Error → Type 0
+RefusesEntry objects may_fail id names (history.Commit cause) = RefusesObject objects may_fail Commit id cause
+RefusesEntry objects may_fail id names (history.Tree cause) = (named : ObjectId) × NamesTreeId objects id named × RefusesReader objects may_fail Tree named cause
+RefusesEntry objects may_fail id names (history.Path cause) = (tree : StoredObject) × HasTree objects id tree × RefusesPath objects may_fail (Some tree) names cause
+RefusesEntry objects may_fail id names (history.NoParent said) = ⊥

@@ -1,9 +1,9 @@
 //! A reader of history, who walks from a commit to its ancestors and looks up files in their trees.
-ghost use Rattle.std.specs.Prelude.{IfOk, Some, map};
+ghost use Rattle.std.specs.Prelude.{IfErr, IfOk, Some, map};
 ghost use Rattle.bstr.specs.Owned.{bstring_bytes};
 ghost use Rattle.gixobj_codec.specs.Lookups.{IsAtPath};
 ghost use Rattle.gixobj_codec.specs.Stores.{StoredObject};
-ghost use Rattle.gixobj_callers.specs.Ancestors.{HasTree, IsAncestor, IsFirstParent};
+ghost use Rattle.gixobj_callers.specs.Ancestors.{HasTree, IsAncestor, IsFirstParent, RefusesEntry, RefusesParent, RefusesWalk};
 
 use bstr::BString;
 use gixobj_base::hash::ObjectId;
@@ -31,31 +31,49 @@ pub enum Error {
 }
 
 impl From<existing_object::Error> for Error {
+    ghost use Rattle.std.specs.Prelude.{◌≡◌};
+    ghost use Rattle.gixobj_callers.specs.declared.history.Error.TheVariants as history;
+
+    ghost from_gives = { λ cause error. error ≡ history.Commit cause };
+
     fn from(error: existing_object::Error) -> Error {
         Error::Commit(error)
     }
 }
 
 impl From<existing_iter::Error> for Error {
+    ghost use Rattle.std.specs.Prelude.{◌≡◌};
+    ghost use Rattle.gixobj_callers.specs.declared.history.Error.TheVariants as history;
+
+    ghost from_gives = { λ cause error. error ≡ history.Tree cause };
+
     fn from(error: existing_iter::Error) -> Error {
         Error::Tree(error)
     }
 }
 
 impl From<find::Error> for Error {
+    ghost use Rattle.std.specs.Prelude.{◌≡◌};
+    ghost use Rattle.gixobj_callers.specs.declared.history.Error.TheVariants as history;
+
+    ghost from_gives = { λ cause error. error ≡ history.Path cause };
+
     fn from(error: find::Error) -> Error {
         Error::Path(error)
     }
 }
 
-/// The id of the commit so many generations before the first one, from first parent to first parent.
+/// The id of the commit so many generations before the first one, from first parent to first parent. It is refused
+/// at the first commit on the way that isn't found or has no parent.
+#[tactic(auto, using(crate::proofs::Commits::further))]
 pub fn ancestor<S: Find>(
     alloc: Global,
     store: &S,
     start: ObjectId,
     generations: u32,
 ) -> Result<ObjectId, Error>
-    ensures { IfOk result (IsAncestor (S.objects store.now) generations start) }
+    ensures found { IfOk result (IsAncestor (S.objects store.now) generations start) }
+    ensures refusal { IfErr result (RefusesWalk (S.objects store.now) (S.may_fail store.now) generations start) }
 {
     let mut buffer = Vec::new(alloc);
     let mut id = start;
@@ -72,7 +90,8 @@ fn first_parent<S: Find>(
     buffer: &mut Vec<u8>,
     id: ObjectId,
 ) -> Result<ObjectId, Error>
-    ensures { IfOk result (IsFirstParent (S.objects store.now) id) }
+    ensures found { IfOk result (IsFirstParent (S.objects store.now) id) }
+    ensures refusal { IfErr result (RefusesParent (S.objects store.now) (S.may_fail store.now) id) }
 {
     let commit = store.find_commit(alloc, id.as_oid(), buffer)?;
     match commit.parents().next() {
@@ -88,7 +107,8 @@ pub fn entry_of<S: Find>(
     commit: ObjectId,
     path: &[BString],
 ) -> Result<Option<Entry>, Error>
-    ensures { IfOk result (λ found. (tree : StoredObject) × HasTree (S.objects store.now) commit tree × IsAtPath (S.objects store.now) (Some tree) (map bstring_bytes path.now) found) }
+    ensures found { IfOk result (λ found. (tree : StoredObject) × HasTree (S.objects store.now) commit tree × IsAtPath (S.objects store.now) (Some tree) (map bstring_bytes path.now) found) }
+    ensures refusal { IfErr result (RefusesEntry (S.objects store.now) (S.may_fail store.now) commit (map bstring_bytes path.now)) }
 {
     let mut buffer = Vec::new(alloc);
     let tree = store

@@ -1,15 +1,18 @@
 //! A planner of checkouts, which goes through the entries of trees, and makes a tree from a stored one.
-ghost use Rattle.std.specs.Prelude.{◌≡◌, ℕ, All, IfErr, IfOk, IfSome, List, MatchBool, Ok};
+ghost use Rattle.std.specs.Prelude.{◌≡◌, ℕ, All, Err, IfErr, IfOk, IfSome, IsFalse, List, MatchBool, Ok};
 ghost use Rattle.std.specs.Fn.{CalledAt};
 ghost use Rattle.gixobj_base.specs.Entries.{EntryView, IsWellFormed};
+ghost use Rattle.gixobj_base.specs.Hash.{id_kind};
 ghost use Rattle.gixobj_base.specs.Mode.{mode_of_kind};
 ghost use Rattle.gixobj_directories.specs.Calls.{IsCallableOnTrees, names_of};
 ghost use Rattle.gixobj_directories.specs.Openings.{AreTreesOf};
-ghost use Rattle.gixobj_files.specs.Files.{Files, NamedFiles, SameFiles, Table, Trees, Upserted};
+ghost use Rattle.gixobj_files.specs.Files.{Files, NamedFiles, SameFiles, Table, Trees, Upserted, is_null};
+ghost use Rattle.gixobj_files.specs.State.{root_alone};
 ghost use Rattle.gixobj_files.specs.Tables.{AgreesWithPairs, AgreesWithStore};
 ghost use Rattle.gixobj_codec.specs.TreeReading.{IsNoTreeText, IsTreeText};
 ghost use Rattle.gixobj_codec.specs.TreeRewriting.{ReadsBack};
 ghost use Rattle.gixobj_callers.specs.Copies.{FailsForRoom};
+ghost use Rattle.gixobj_callers.specs.Plans.{IsPlanned, IsRoot, RefusesPlan, RefusesRoot};
 
 use crate::store::CopyError;
 use bstr::BString;
@@ -23,8 +26,11 @@ use gixobj_codec::laws::{
 };
 use gixobj_codec::{TreeRef, TreeRefIter};
 use gixobj_data::Find;
-use gixobj_editor::editor::{Editor, Error, Written};
+use gixobj_editor::editor::{Editor, Error, WriteError, Written};
+use gixobj_lookups::FindExt;
+use gixobj_lookups::find::existing_object;
 use std::alloc::Global;
+use std::fmt::Display;
 
 /// Whether the bytes are the text of a tree: goes through its entries to their end, and takes no memory.
 pub fn is_tree(text: &[u8], kind: Kind) -> bool
@@ -85,5 +91,108 @@ pub fn with_entry<S: Find + Drop, E: Drop, F: FnMut(&Tree) -> Result<ObjectId, E
     match editor.write(out) {
         Ok(written) => Ok(Some(written)),
         Err(_) => Ok(None),
+    }
+}
+
+/// Why a stored tree is no root.
+#[derive(Debug, Drop, thiserror::Error)]
+pub enum RootError {
+    /// Its lookup was refused.
+    #[error("{0}")]
+    Find(existing_object::Error),
+    /// It isn't well-formed, as `Tree::is_well_formed` tells.
+    #[error("the root isn't well-formed")]
+    Malformed,
+    /// There was no memory for its entries. It has some.
+    #[error("out of memory")]
+    OutOfMemory,
+}
+
+/// Why no entry is put into a stored tree.
+#[derive(Debug, Drop, thiserror::Error)]
+#[error_bound(E: Display)]
+pub enum PlanError<E> {
+    /// The tree is no root. Nothing was edited.
+    #[error("no root: {0}")]
+    Root(RootError),
+    /// The edit was refused. Nothing was handed out.
+    #[error("not edited: {0}")]
+    Edit(Error),
+    /// Handing out was refused.
+    #[error("not written: {0}")]
+    Write(WriteError<E>),
+}
+
+/// The root that an id stands for in a store, well-formed. That of the empty tree's id has no entries, and no store is
+/// asked for it.
+pub fn root_in<S: Find>(alloc: Global, store: &S, id: ObjectId) -> Result<Tree, RootError>
+    ensures found { IfOk result (λ root. IsRoot (S.objects store.now) id root) }
+    ensures refusal { IfErr result (RefusesRoot (S.objects store.now) (S.may_fail store.now) id) }
+{
+    let mut text = Vec::new(alloc);
+    let stored = match store.find_tree(alloc, id.as_oid(), &mut text) {
+        Ok(stored) => stored,
+        Err(error) => return Err(RootError::Find(error)),
+    };
+    let root = match stored.into_owned(alloc) {
+        Ok(root) => root,
+        Err(_) => return Err(RootError::OutOfMemory),
+    };
+    if !root.is_well_formed() {
+        return Err(RootError::Malformed);
+    }
+    Ok(root)
+}
+
+/// A new editor of a stored root, with ids of the kind of its own.
+fn editor_in<S: Find + Drop>(
+    alloc: Global,
+    root: ObjectId,
+    store: S,
+) -> Result<Editor<S>, RootError>
+    ensures root { IfOk result (λ editor. (entries : List EntryView) × IsRoot (S.objects store) root entries × (editor.dirs ≡ root_alone entries)) }
+    ensures same_store { IfOk result (λ editor. editor.store ≡ store) }
+    ensures lookups { IfOk result (λ editor. editor.lookups ≡ 0) }
+    ensures object_hash { IfOk result (λ editor. editor.object_hash ≡ id_kind root) }
+    ensures refusal { IfErr result (RefusesRoot (S.objects store) (S.may_fail store) root) }
+{
+    let tree = root_in(alloc, &store, root)?;
+    Ok(Editor::new(tree, store, root.kind()))
+}
+
+/// A stored root with an entry put in at a path, handed out. The root is looked up by its id; that of the empty tree is
+/// found in every store.
+///
+/// In each table that agrees with the store and with what was handed out, the tree that is named has, to every depth,
+/// exactly the files that the edit makes of those of the tree that the root's id names. The null id names none in a
+/// table, whatever the store has there.
+pub fn with_entry_in_stored<S: Find + Drop, E: Drop, F: FnMut(&Tree) -> Result<ObjectId, E> + Drop>(
+    alloc: Global,
+    root: ObjectId,
+    store: S,
+    path: &[BString],
+    kind: EntryKind,
+    id: ObjectId,
+    out: F,
+) -> Result<Written, PlanError<E>>
+    requires callable { IsCallableOnTrees F.pre (λ f p g. CalledAt F.FnMut f p.1 (Ok p.0) g) out }
+
+    ensures files { IfOk result (λ written. IsFalse (is_null root) → (trees : Trees) → AreTreesOf (S.objects store) trees → (T : Table) (n : ℕ) → AgreesWithStore T trees → AgreesWithPairs T written.trees.items
+        → SameFiles (NamedFiles T n written.id) (Upserted T n (names_of path.now) (mode_of_kind kind) id (NamedFiles T n root))) }
+
+    // The root was found, the edit came through, and then the write; or else it is told which of them didn't, and why.
+    ensures done { IfOk result (IsPlanned (record { objects = S.objects; may_fail = S.may_fail }) store root (names_of path.now) (mode_of_kind kind) id (λ f p g. CalledAt F.FnMut f p.1 (Ok p.0) g) out) }
+    ensures refusal { IfErr result (RefusesPlan (record { objects = S.objects; may_fail = S.may_fail }) store root (names_of path.now) (mode_of_kind kind) id (λ f p g. CalledAt F.FnMut f p.1 (Ok p.0) g) (λ f t e g. CalledAt F.FnMut f t (Err e) g) out) }
+{
+    let mut editor = match editor_in(alloc, root, store) {
+        Ok(editor) => editor,
+        Err(error) => return Err(PlanError::Root(error)),
+    };
+    if let Err(error) = editor.try_upsert(path, kind, id) {
+        return Err(PlanError::Edit(error));
+    }
+    match editor.write(out) {
+        Ok(written) => Ok(written),
+        Err(error) => Err(PlanError::Write(error)),
     }
 }

@@ -1,0 +1,87 @@
+-- A stored root, an editor of it, and the files of what is named once an entry was put in.
+use Rattle.std.proofs.Common.{◌≡◌, ◌≢◌, ◌⊎◌, ◌∙◌, ℕ, true, false, List, [], Some, ⊎_elim, ap, inl, inr, refl, subst, sym}
+use Rattle.std.specs.Prelude.{IsFalse, MatchOption, Option}
+use Rattle.std.specs.Cmp.Lexicographic.{bytes_decides}
+use Rattle.gixobj_base.specs.Entries.{EntryView}
+use Rattle.gixobj_base.specs.Hash.{id_kind, id_of}
+use Rattle.gixobj_base.specs.ids.hash.kind.Kind.{Kind}
+use Rattle.gixobj_base.specs.ids.hash.object_id.ObjectId.{ObjectId}
+use Rattle.gixobj_base.specs.ids.hash.object_id.ObjectId.TheVariants as id
+use Rattle.gixobj_base.specs.ids.kind.Kind.TheVariants.{Tree}
+use Rattle.gixobj_callers.specs.Plans.{IsNotPutIn, IsPlanned, IsPutIn, IsRoot, started}
+use Rattle.gixobj_codec.specs.Stores.{Objects}
+use Rattle.gixobj_directories.specs.Openings.{AreTreesOf}
+use Rattle.gixobj_directories.specs.declared.write.Written.{Written}
+use Rattle.gixobj_editor.specs.Upserts.{IsUpserted, RefusesUpsert}
+use Rattle.gixobj_editor.specs.declared.editor.error.Error.{Error}
+use Rattle.gixobj_files.proofs.EditedFiles.{root_files, same_trans, same_upserted}
+use Rattle.gixobj_files.specs.Editing.{same_name}
+use Rattle.gixobj_files.specs.Files.{Files, NamedFiles, Path, SameFiles, Table, Trees, Upserted, is_null}
+use Rattle.gixobj_files.specs.State.{EditorFiles, State, open_dirs, root_alone}
+use Rattle.gixobj_files.specs.Tables.{AgreesWithPairs, AgreesWithStore, Pair}
+use Rattle.gixobj_lookups.specs.Existing.{IsEmptyId}
+use Rattle.gixobj_runs.specs.Replies.{Meaning}
+
+-- two ids are the same, or not
+same_bytes : (xs ys : List ℕ) → (xs ≡ ys) ⊎ (xs ≢ ys)
+same_bytes xs ys = elim (same_name xs ys) as (λ b. same_name xs ys ≡ b → (xs ≡ ys) ⊎ (xs ≢ ys)) [
+  | true ↦ λ passes. inl ((bytes_decides xs ys).0 passes)
+  | false ↦ λ fails. inr (λ same. cc ((bytes_decides xs ys).1 same, fails))
+] refl
+
+same_ids : (x y : ObjectId) → (x ≡ y) ⊎ (x ≢ y)
+same_ids (id.Sha1 xs) (id.Sha1 ys) = ⊎_elim (λ same. inl (ap id.Sha1 same)) (λ other. inr (λ same. other (cc same))) (same_bytes xs ys)
+same_ids (id.Sha1 xs) (id.Sha256 ys) = inr (λ same. cc same)
+same_ids (id.Sha256 xs) (id.Sha1 ys) = inr (λ same. cc same)
+same_ids (id.Sha256 xs) (id.Sha256 ys) = ⊎_elim (λ same. inl (ap id.Sha256 same)) (λ other. inr (λ same. other (cc same))) (same_bytes xs ys)
+
+-- an editor with these parts is a new one
+pub is_started : {S : Type 0} (state : State S) (store : S) (object_hash : Kind) (entries : List EntryView) → state.dirs ≡ root_alone entries → state.store ≡ store → state.lookups ≡ 0
+    → state.object_hash ≡ object_hash → state ≡ started store object_hash entries
+is_started state store object_hash entries root same_store none same_kind i = record { dirs = root i; store = same_store i; lookups = none i; object_hash = same_kind i }
+
+-- a table that agrees with the store has the root by its id, where that isn't null
+module _ (T : Table) (objects : Objects) (trees : Trees) (it : ObjectId) (entries : List EntryView) (filled : IsFalse (is_null it)) (fits : AreTreesOf objects trees) (agrees : AgreesWithStore T trees) (is : IsRoot objects it entries) where
+  empty_root : IsEmptyId Tree it → T.tree_at it ≡ Some entries
+  empty_root same = ap T.tree_at same ∙ T.none_in_empty (id_kind it) ∙ ap Some (sym (is.empty same))
+
+  stored_root : (IsEmptyId Tree it → ⊥) → T.tree_at it ≡ Some entries
+  stored_root other = agrees it entries (⊎_elim (λ null. cc (null, filled)) other) ((fits it entries).1 (is.stored other))
+
+  root_there : T.tree_at it ≡ Some entries
+  root_there = ⊎_elim empty_root stored_root (same_ids it (id_of (id_kind it) Tree []))
+
+  root_named : (n : ℕ) → SameFiles (Files T n entries) (NamedFiles T n it)
+  root_named n path mode id =
+      let at : Option (List EntryView) → Type 0 = λ found. MatchOption found ⊥ (λ es. Files T n es path mode id) in
+      (subst at (sym root_there), subst at root_there)
+
+module _ {S : Type 0} (means : Meaning S) (store : S) (root_id : ObjectId) (path : Path) (mode : ℕ) (id : ObjectId) where
+  -- what an editor of the stored root accepts and refuses
+  pub put_in_root : (editor edited : State S) (entries : List EntryView) → IsRoot (means.objects store) root_id entries → editor ≡ started store (id_kind root_id) entries
+      → ((trees : Trees) → AreTreesOf (means.objects editor.store) trees → IsUpserted trees editor path mode id edited) → IsPutIn means store root_id path mode id edited
+  put_in_root editor edited entries is same put = record {
+    entries = entries;
+    is_root = is;
+    put_in = subst (λ (state : State S). (trees : Trees) → AreTreesOf (means.objects state.store) trees → IsUpserted trees state path mode id edited) same put;
+  }
+
+  pub not_put_in_root : (editor : State S) (entries : List EntryView) (error : Error) → IsRoot (means.objects store) root_id entries → editor ≡ started store (id_kind root_id) entries
+      → ((trees : Trees) → AreTreesOf (means.objects editor.store) trees → RefusesUpsert (means.objects editor.store) (means.may_fail editor.store) trees (open_dirs editor) path error)
+      → IsNotPutIn means store root_id path mode id error
+  not_put_in_root editor entries error is same refuses = (
+    entries,
+    is,
+    subst (λ (state : State S). (trees : Trees) → AreTreesOf (means.objects state.store) trees → RefusesUpsert (means.objects state.store) (means.may_fail state.store) trees (open_dirs state) path error) same refuses,
+  )
+
+  -- the tree that is named has the files that the edit makes of the root's
+  pub planned_files : {F : Type 0} (gave : F → Pair → F → Type 0) (out : F) (written : Written) → IsPlanned means store root_id path mode id gave out written
+      → IsFalse (is_null root_id) → (trees : Trees) → AreTreesOf (means.objects store) trees → (T : Table) (n : ℕ) → AgreesWithStore T trees → AgreesWithPairs T written.trees.items
+      → SameFiles (NamedFiles T n written.id) (Upserted T n path mode id (NamedFiles T n root_id))
+  planned_files gave out written (edited, left, last, put, wrote) filled trees fits T n agrees pairs =
+      let begun : State S = started store (id_kind root_id) put.entries in
+      let root : SameFiles (EditorFiles T n begun) (NamedFiles T n root_id) =
+      same_trans _ _ _ (root_files T n put.entries) (root_named T (means.objects store) trees root_id put.entries filled fits agrees put.is_root n) in
+      same_trans _ _ _ (wrote.files T n pairs)
+      (same_trans _ _ _ ((put.put_in trees fits).files T n agrees) (same_upserted T n path mode id (EditorFiles T n begun) (NamedFiles T n root_id) root))
