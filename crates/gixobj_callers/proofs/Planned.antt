@@ -37,8 +37,8 @@ same_ids (id.Sha256 xs) (id.Sha256 ys) = ⊎_elim (λ same. inl (ap id.Sha256 sa
 
 -- an editor with these parts is a new one
 pub is_started : {S : Type 0} (state : State S) (store : S) (object_hash : Kind) (entries : List EntryView) → state.dirs ≡ root_alone entries → state.store ≡ store → state.lookups ≡ 0
-    → state.object_hash ≡ object_hash → state ≡ started store object_hash entries
-is_started state store object_hash entries root same_store none same_kind i = record { dirs = root i; store = same_store i; lookups = none i; object_hash = same_kind i }
+    → state.object_hash ≡ object_hash → state.prefix ≡ [] → state ≡ started store object_hash entries
+is_started state store object_hash entries root same_store none same_kind no_prefix i = record { dirs = root i; store = same_store i; lookups = none i; object_hash = same_kind i; prefix = no_prefix i }
 
 -- a table that agrees with the store has the root by its id, where that isn't null
 module _ (T : Table) (objects : Objects) (trees : Trees) (it : ObjectId) (entries : List EntryView) (filled : IsFalse (is_null it)) (fits : AreTreesOf objects trees) (agrees : AgreesWithStore T trees) (is : IsRoot objects it entries) where

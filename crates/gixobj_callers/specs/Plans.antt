@@ -47,7 +47,7 @@ RefusesRoot objects may_fail id error = (IsEmptyId Tree id → ⊥) × RefusesSt
 
 -- a new editor of this root
 abbrev pub started : {S : Type 0} → S → hash.Kind → List EntryView → State S
-started store object_hash entries = record { dirs = root_alone entries; store = store; lookups = 0; object_hash = object_hash }
+started store object_hash entries = record { dirs = root_alone entries; store = store; lookups = 0; object_hash = object_hash; prefix = [] }
 
 -- a plan: in the tree that an id stands for in a store, an entry of this mode and id at this path
 module _ {S : Type 0} (means : Meaning S) (store : S) (root_id : ObjectId) (path : Path) (mode : ℕ) (id : ObjectId) where

@@ -71,7 +71,7 @@ fn put_entries_at<S: Find>(
 fn put_entries<S: Find>(cursor: &mut Cursor<'_, S>, entries: &[Planned]) -> Result<(), Error>
     ensures same_reference { cursor.new.editor.ghost_name ≡ cursor.old.editor.ghost_name }
     ensures files { OnOk result ((trees : Trees) → AreTreesOf (S.objects cursor.old.editor.now.store) trees → (T : Table) (n : ℕ) → AgreesWithStore T trees
-        → SameFiles (EditorFiles T n cursor.new.editor.now) (History T n (map (put_at (names_of cursor.old.prefix.now)) entries.now) (EditorFiles T n cursor.old.editor.now))) }
+        → SameFiles (EditorFiles T n cursor.new.editor.now) (History T n (map (put_at cursor.old.editor.now.prefix) entries.now) (EditorFiles T n cursor.old.editor.now))) }
 {
     for entry in entries {
         cursor.try_upsert(&entry.path, entry.kind, entry.id)?;

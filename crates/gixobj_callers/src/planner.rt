@@ -1,5 +1,5 @@
 //! A planner of checkouts, which goes through the entries of trees, and makes a tree from a stored one.
-ghost use Rattle.std.specs.Prelude.{◌≡◌, ℕ, All, Err, IfErr, IfOk, IfSome, IsFalse, List, MatchBool, Ok};
+ghost use Rattle.std.specs.Prelude.{◌≡◌, ℕ, [], All, Err, IfErr, IfOk, IfSome, IsFalse, List, MatchBool, Ok};
 ghost use Rattle.std.specs.Fn.{CalledAt};
 ghost use Rattle.gixobj_base.specs.Entries.{EntryView, IsWellFormed};
 ghost use Rattle.gixobj_base.specs.Hash.{id_kind};
@@ -154,6 +154,7 @@ fn editor_in<S: Find + Drop>(
     ensures same_store { IfOk result (λ editor. editor.store ≡ store) }
     ensures lookups { IfOk result (λ editor. editor.lookups ≡ 0) }
     ensures object_hash { IfOk result (λ editor. editor.object_hash ≡ id_kind root) }
+    ensures prefix { IfOk result (λ editor. editor.prefix ≡ []) }
     ensures refusal { IfErr result (RefusesRoot (S.objects store) (S.may_fail store) root) }
 {
     let tree = root_in(alloc, &store, root)?;

@@ -35,8 +35,8 @@ pub still_assured : (path : Path) (null : ObjectId) (mid ds : Opened) → AllByR
 still_assured path null mid ds names all assured = subst (λ (d : Dirs). IsOpened d) (sym (λ i at. assured at i)) (opened_assured path null (dirs_of mid) names all)
 
 -- the directory at the path is open then
-pub assured_open : (path : Path) (null : ObjectId) (mid ds : Opened) → ((at : Path) → dirs_of ds at ≡ assured_dirs path null (dirs_of mid) at) → map_dirs ds path ≢ None
-assured_open path null mid ds assured = λ none. assured_stays path null (dirs_of mid) (sym (assured path) ∙ sym (dirs_at ds path) ∙ none)
+pub assured_open : (path : Path) (null : ObjectId) (mid ds : Opened) → ((at : Path) → dirs_of ds at ≡ assured_dirs path null (dirs_of mid) at) → (named : Path) → named ≡ path → map_dirs ds named ≢ None
+assured_open path null mid ds assured named is = λ none. assured_stays path null (dirs_of mid) (sym (assured path) ∙ sym (dirs_at ds path) ∙ subst (λ p. map_dirs ds p ≡ None) is none)
 
 -- a directory that isn't open after others were opened was none before
 pub shut_before : {Ends : EntryView → Type 0} (trees : Trees) (path : Path) (old new : Dirs) (asked : List ObjectId) → Opens Ends trees path old new asked → (at : Path) → new at ≡ None → old at ≡ None
@@ -54,6 +54,10 @@ shut_below path dirs all place more is none =
       | Some entries ↦ λ there. absurd (open_before dirs all place more (subst (λ p. dirs p ≢ None) is (λ shut. let bad : Some entries ≡ None = sym there ∙ shut in cc bad)) none)
     ] refl
 
+-- the root is open, so a directory that isn't has names
+pub some_names : (path : Path) (dirs : Dirs) → IsOpened dirs → dirs path ≡ None → path ≢ []
+some_names path dirs all shut none = all.root (subst (λ p. dirs p ≡ None) none shut)
+
 -- a name was refused
 pub name_refused_at : (objects : Objects) (may_fail : ObjectId → Bool) (trees : Trees) (dirs : Dirs) (path : Path) (refusal : Error) → RefusesNames path refusal → RefusesCursor objects may_fail trees dirs path refusal
 name_refused_at objects may_fail trees dirs path error.EmptyPathComponent h = h
@@ -63,12 +67,12 @@ name_refused_at objects may_fail trees dirs path (error.CannotRemoveNonLeaf at) 
 name_refused_at objects may_fail trees dirs path error.MalformedTree h = absurd (no_other path error.MalformedTree (λ name k. k) h)
 name_refused_at objects may_fail trees dirs path error.OutOfMemory h = absurd (no_other path error.OutOfMemory (λ name k. k) h)
 
-module _ {S : Type 0} (store : S) (hash : Kind) (trees : Trees) where
+module _ {S : Type 0} (store : S) (hash : Kind) (prefix : Path) (trees : Trees) where
   abbrev made : Opened → ℕ → State S
-  made ds n = state_of store hash ds n
+  made ds n = state_of store hash prefix ds n
 
   in_place : (ds mid ds' : Opened) (n m : ℕ) (path : Path) (asked : List ObjectId) → AreNames path → Opens IsNoTree trees path (dirs_of ds) (dirs_of mid) asked → ((at : Path) → dirs_of ds' at ≡ assured_dirs path (null_id hash) (dirs_of mid) at) → m ≡ counted n asked
-      → IsOpened (dirs_of ds') → IsAssured trees (made ds n) path (made ds' m)
+      → IsOpened (dirs_of ds') → IsAssured trees (made ds n) path (state_of store hash path ds' m)
   in_place ds mid ds' n m path asked names opens assured count all =
       let opened : Opens IsNoTree trees path (map_dirs ds) (dirs_of mid) asked = subst (λ (d : Dirs). Opens IsNoTree trees path d (dirs_of mid) asked) (sym (same_dirs ds)) opens in
       let new_is : map_dirs ds' ≡ assured_dirs path (null_id hash) (dirs_of mid) = λ i at. (dirs_at ds' at ∙ assured at) i in
@@ -86,15 +90,9 @@ module _ {S : Type 0} (store : S) (hash : Kind) (trees : Trees) where
       }
 
   pub assured_at : (ds mid ds' : Opened) (n m : ℕ) (old : State S) → made ds n ≡ old → (path : Path) (asked : List ObjectId) → AreNames path → Opens IsNoTree trees path (dirs_of ds) (dirs_of mid) asked
-      → ((at : Path) → dirs_of ds' at ≡ assured_dirs path (null_id hash) (dirs_of mid) at) → m ≡ counted n asked → IsOpened (dirs_of ds') → IsAssured trees old path (made ds' m)
-  assured_at ds mid ds' n m old view path asked names opens assured count all = subst (λ (o : State S). IsAssured trees o path (made ds' m)) view (in_place ds mid ds' n m path asked names opens assured count all)
-
-  -- the directory that was to be assured isn't open
-  pub no_memory_at : (objects : Objects) (may_fail : ObjectId → Bool) (ds mid : Opened) (n : ℕ) (old : State S) → made ds n ≡ old → (path : Path) (asked : List ObjectId) → AreNames path → Opens IsNoTree trees path (dirs_of ds) (dirs_of mid) asked → dirs_of mid path ≡ None
-      → RefusesCursor objects may_fail trees (open_dirs old) path error.OutOfMemory
-  no_memory_at objects may_fail ds mid n old view path asked names opens shut =
-      subst (λ (o : State S). RefusesCursor objects may_fail trees (open_dirs o) path error.OutOfMemory) view
-      (subst (λ (d : Dirs). RefusesCursor objects may_fail trees d path error.OutOfMemory) (sym (same_dirs ds)) (names, shut_before trees path (dirs_of ds) (dirs_of mid) asked opens path shut))
+      → ((at : Path) → dirs_of ds' at ≡ assured_dirs path (null_id hash) (dirs_of mid) at) → m ≡ counted n asked → IsOpened (dirs_of ds') → (named : Path) → named ≡ path → IsAssured trees old path (state_of store hash named ds' m)
+  assured_at ds mid ds' n m old view path asked names opens assured count all named is =
+      subst (λ (p : Path). IsAssured trees old path (state_of store hash p ds' m)) (sym is) (subst (λ (o : State S). IsAssured trees o path (state_of store hash path ds' m)) view (in_place ds mid ds' n m path asked names opens assured count all))
 
   -- why the opening halted
   pub refuses_at : (objects : Objects) (may_fail : ObjectId → Bool) (ds ds' : Opened) (n : ℕ) (old : State S) → made ds n ≡ old → (path : Path) → AreNames path → IsOpened (dirs_of ds) → (asked : List ObjectId) (vain : Option ObjectId) → Halts IsNoTree trees path (dirs_of ds) (dirs_of ds') asked vain
@@ -110,7 +108,7 @@ module _ {S : Type 0} (store : S) (hash : Kind) (trees : Trees) where
       shut_at h = let begins = strictly_above path [] h.place h.above.2 h.above.3 h.above.5 in shut_below path (dirs_of ds) all h.place begins.0 begins.1 h.shut
 
       by_cause : (why : directory.Error) (v : Option ObjectId) → Halts IsNoTree trees path (dirs_of ds) (dirs_of ds') asked v → RefusesAt objects may_fail v why → RefusesCursor objects may_fail trees (dirs_of ds) path (edit_refusal why)
-      by_cause opening.OutOfMemory v h r = (names, shut_at (halted_shut trees path [] [] (dirs_of ds) (dirs_of ds') asked v h))
+      by_cause opening.OutOfMemory v h r = (names, some_names path (dirs_of ds) all (shut_at (halted_shut trees path [] [] (dirs_of ds) (dirs_of ds') asked v h)))
       by_cause opening.MalformedTree None h r = absurd (cc r)
       by_cause opening.MalformedTree (Some it) h r = (names, (it, above (Some it) h it refl, r))
       by_cause (opening.FindExistingObject why) None h r = absurd (cc r)

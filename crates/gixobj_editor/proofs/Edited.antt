@@ -48,8 +48,8 @@ same_dirs ds = λ i at. dirs_at ds at i
 pub as_map : (ds : Opened) → IsOpened (dirs_of ds) → IsOpened (map_dirs ds)
 as_map ds all = subst (λ (d : Dirs). IsOpened d) (sym (same_dirs ds)) all
 
-pub opened_as : {S : Type 0} (store : S) (hash : Kind) (ds : Opened) (n : ℕ) (old : State S) → record { dirs = map_of ds; store = store; lookups = n; object_hash = hash } ≡ old → IsOpened (dirs_of ds) → IsOpened (open_dirs old)
-opened_as {S} store hash ds n old view all = subst (λ (o : State S). IsOpened (open_dirs o)) view (as_map ds all)
+pub opened_as : {S : Type 0} (store : S) (hash : Kind) (prefix : Path) (ds : Opened) (n : ℕ) (old : State S) → record { dirs = map_of ds; store = store; lookups = n; object_hash = hash; prefix = prefix } ≡ old → IsOpened (dirs_of ds) → IsOpened (open_dirs old)
+opened_as {S} store hash prefix ds n old view all = subst (λ (o : State S). IsOpened (open_dirs o)) view (as_map ds all)
 
 pub still_put : (path : Path) (mode : ℕ) (id null : ObjectId) (mid ds : Opened) → AllByRecursion IsEntryName path → IsOpened (dirs_of mid) → ((at : Path) → dirs_of ds at ≡ upserted_dirs path mode id null (dirs_of mid) at) → IsOpened (dirs_of ds)
 still_put path mode id null mid ds names all put = subst (λ (d : Dirs). IsOpened d) (sym (λ i at. put at i)) (opened_upserted path mode id null (dirs_of mid) names all)
@@ -107,12 +107,12 @@ name_refused objects may_fail trees dirs path error.MalformedTree h = absurd (no
 name_refused objects may_fail trees dirs path error.OutOfMemory h = absurd (no_other path error.OutOfMemory (λ name k. k) h)
 
 -- an editor of these parts
-abbrev pub state_of : {S : Type 0} → S → Kind → Opened → ℕ → State S
-state_of store hash ds n = record { dirs = map_of ds; store = store; lookups = n; object_hash = hash }
+abbrev pub state_of : {S : Type 0} → S → Kind → Path → Opened → ℕ → State S
+state_of store hash prefix ds n = record { dirs = map_of ds; store = store; lookups = n; object_hash = hash; prefix = prefix }
 
-module _ {S : Type 0} (store : S) (hash : Kind) (trees : Trees) where
+module _ {S : Type 0} (store : S) (hash : Kind) (prefix : Path) (trees : Trees) where
   abbrev made : Opened → ℕ → State S
-  made ds n = state_of store hash ds n
+  made ds n = state_of store hash prefix ds n
 
   -- an entry was put in
   put_in : (ds mid ds' : Opened) (n m : ℕ) (path front : Path) (last : List ℕ) (mode : ℕ) (id : ObjectId) (asked : List ObjectId) → path ≡ front ++ last ∷ [] → AreNames path → Opens IsNoTree trees front (dirs_of ds) (dirs_of mid) asked

@@ -64,9 +64,9 @@ module _ {Ends : EntryView → Type 0} (idle : IsIdle Ends) (trees : Trees) (pat
     | inr ends ↦ subst (λ p. entry_at p new ≡ told_entry trees p old) (sym ends.2) (told_after idle trees ends.0 ends.1 old new asked (along ends.0 ends.1 ends.2))
   ]
 
-module _ {S : Type 0} (store : S) (hash : Kind) (trees : Trees) {Ends : EntryView → Type 0} (idle : IsIdle Ends) where
+module _ {S : Type 0} (store : S) (hash : Kind) (prefix : Path) (trees : Trees) {Ends : EntryView → Type 0} (idle : IsIdle Ends) where
   abbrev made : Opened → ℕ → State S
-  made ds n = state_of store hash ds n
+  made ds n = state_of store hash prefix ds n
 
   -- the directories of an editor's map in place of the owned ones
   for_map : (ds : Opened) (new : Dirs) (path : Path) (asked : List ObjectId) → IsOpenedFor Ends trees path (dirs_of ds) new asked → IsOpenedFor Ends trees path (map_dirs ds) new asked
@@ -103,9 +103,9 @@ module _ {S : Type 0} (store : S) (hash : Kind) (trees : Trees) {Ends : EntryVie
   pub refused_at : (ds mid : Opened) (n m : ℕ) (old : State S) → made ds n ≡ old → (path : Path) (asked : List ObjectId) → IsOpenedFor Ends trees path (dirs_of ds) (dirs_of mid) asked → m ≡ counted n asked → IsOpened (dirs_of mid) → IsRefused trees old path (made mid m)
   refused_at ds mid n m old view path asked opened count all =
       let same = count_above idle trees path (dirs_of ds) (dirs_of mid) asked opened.0 in
-      subst (λ (o : State S). IsRefused trees o path (made mid m)) view (stay store hash trees ds mid n m path (directory_of path) asked asked opened.0 (omega (arith, same)) count all)
+      subst (λ (o : State S). IsRefused trees o path (made mid m)) view (stay store hash prefix trees ds mid n m path (directory_of path) asked asked opened.0 (omega (arith, same)) count all)
 
   -- the opening was refused
   pub stopped_at : (ds mid : Opened) (n m : ℕ) (old : State S) → made ds n ≡ old → (path front : Path) (answered asked : List ObjectId) → Opens Ends trees front (dirs_of ds) (dirs_of mid) answered → m ≡ counted n asked → length asked ≤ unopened_count trees (dirs_of ds) path
       → IsOpened (dirs_of mid) → IsRefused trees old path (made mid m)
-  stopped_at ds mid n m old view path front answered asked opens count few all = subst (λ (o : State S). IsRefused trees o path (made mid m)) view (stay store hash trees ds mid n m path front answered asked opens few count all)
+  stopped_at ds mid n m old view path front answered asked opens count few all = subst (λ (o : State S). IsRefused trees o path (made mid m)) view (stay store hash prefix trees ds mid n m path front answered asked opens few count all)

@@ -22,13 +22,19 @@ use Rattle.gixobj_editor.proofs.Edited.{as_map, map_dirs, same_dirs, state_of}
 use Rattle.gixobj_editor.proofs.WrittenOut.{each_storable}
 
 -- the directory at the prefix is open among the owned ones too
-pub open_owned : {S : Type 0} (store : S) (hash : Kind) (ds : Opened) (n : ℕ) (old : State S) → state_of store hash ds n ≡ old → (prefix : Path) → open_dirs old prefix ≢ None → dirs_of ds prefix ≢ None
-open_owned {S} store hash ds n old view prefix there = subst (λ (d : Dirs). d prefix ≢ None) (same_dirs ds) (subst (λ (o : State S). open_dirs o prefix ≢ None) (sym view) there)
+pub open_owned : {S : Type 0} (store : S) (hash : Kind) (prefix : Path) (ds : Opened) (n : ℕ) (old : State S) → state_of store hash prefix ds n ≡ old → open_dirs old old.prefix ≢ None → dirs_of ds prefix ≢ None
+open_owned {S} store hash prefix ds n old view there = subst (λ (d : Dirs). d prefix ≢ None) (same_dirs ds) (subst (λ (o : State S). open_dirs o o.prefix ≢ None) (sym view) there)
 
--- it stays open, and has the tree that was handed out last
-pub written_open : {W X S : Type 0} (result : Result W X) (old new : State S) (prefix : Path) → IfOk result (λ _. (own : List EntryView) × ((at : Path) → open_dirs new at ≡ with_path prefix (only own) (open_dirs old) at)) → OnErr result (new ≡ old) → open_dirs old prefix ≢ None → open_dirs new prefix ≢ None
-written_open (Ok it) old new prefix (own, left) unchanged there = λ none. let found : Some own ≡ None = sym (sym (ap (with_path prefix (only own) (open_dirs old)) (append-nil prefix)) ∙ at_prefix prefix (only own) (open_dirs old) []) ∙ sym (left prefix) ∙ none in cc found
-written_open {S = S} (Err error) old new prefix ok unchanged there = subst (λ (o : State S). open_dirs o prefix ≢ None) (sym unchanged) there
+-- the prefix stays
+pub written_prefix : {W X S : Type 0} (result : Result W X) (old new : State S) → IfOk result (λ _. new ≡ record old { dirs = new.dirs }) → OnErr result (new ≡ old) → new.prefix ≡ old.prefix
+written_prefix {S = S} (Ok it) old new rest unchanged = ap (λ (o : State S). o.prefix) rest
+written_prefix {S = S} (Err error) old new rest unchanged = ap (λ (o : State S). o.prefix) unchanged
+
+-- the directory there stays open, and has the tree that was handed out last
+pub written_open : {W X S : Type 0} (result : Result W X) (old new : State S) → IfOk result (λ _. (own : List EntryView) × ((at : Path) → open_dirs new at ≡ with_path old.prefix (only own) (open_dirs old) at)) → OnErr result (new ≡ old) → new.prefix ≡ old.prefix → open_dirs old old.prefix ≢ None → open_dirs new new.prefix ≢ None
+written_open (Ok it) old new (own, left) unchanged same there =
+    λ none. let found : Some own ≡ None = sym (sym (ap (with_path old.prefix (only own) (open_dirs old)) (append-nil old.prefix)) ∙ at_prefix old.prefix (only own) (open_dirs old) []) ∙ sym (left old.prefix) ∙ subst (λ (p : Path). open_dirs new p ≡ None) same none in cc found
+written_open {S = S} (Err error) old new ok unchanged same there = subst (λ (o : State S). open_dirs o o.prefix ≢ None) (sym unchanged) there
 
 pub still_written : (prefix : Path) (own : List EntryView) (ds ds' : Opened) → IsOpened (dirs_of ds) → dirs_of ds prefix ≢ None → IsStorable own → ((at : Path) → dirs_of ds' at ≡ with_path prefix (only own) (dirs_of ds) at) → IsOpened (dirs_of ds')
 still_written prefix own ds ds' all there storable left = subst (λ (d : Dirs). IsOpened d) (sym (λ i at. left at i)) (opened_replaced prefix own (dirs_of ds) all there storable.well_formed)
@@ -39,11 +45,11 @@ pub still_all_below : {W X : Type 0} (result : Result W X) (prefix : Path) (ds d
 still_all_below (Ok it) prefix ds ds' (own, storable, left) unchanged there all = still_written prefix own ds ds' all there storable left
 still_all_below (Err error) prefix ds ds' ok unchanged there all = subst (λ (d : Opened). IsOpened (dirs_of d)) (sym unchanged) all
 
-module _ {S F : Type 0} (store : S) (hash : Kind) (gave : F → Pair → F → Type 0) where
-  went_out : (ds ds' : Opened) (n : ℕ) → IsOpened (dirs_of ds) → (prefix : Path) → dirs_of ds prefix ≢ None → (below : List Pair) (own : List EntryView) (id : ObjectId) (asked answered : F) → Leaves (in_path prefix (dirs_of ds)) below own
+module _ {S F : Type 0} (store : S) (hash : Kind) (prefix : Path) (gave : F → Pair → F → Type 0) where
+  went_out : (ds ds' : Opened) (n : ℕ) → IsOpened (dirs_of ds) → dirs_of ds prefix ≢ None → (below : List Pair) (own : List EntryView) (id : ObjectId) (asked answered : F) → Leaves (in_path prefix (dirs_of ds)) below own
       → FoldsTo gave asked (below ++ (id, own) ∷ []) answered → IsStorable own → ((at : Path) → dirs_of ds' at ≡ with_path prefix (only own) (dirs_of ds) at)
-      → IsWrittenBelow gave asked (state_of store hash ds n) prefix id (below ++ (id, own) ∷ []) (state_of store hash ds' n) answered
-  went_out ds ds' n all prefix there below own id asked answered going called storable left =
+      → IsWrittenBelow gave asked (state_of store hash prefix ds n) prefix id (below ++ (id, own) ∷ []) (state_of store hash prefix ds' n) answered
+  went_out ds ds' n all there below own id asked answered going called storable left =
       let old_is = same_dirs ds in
       let open_there : map_dirs ds prefix ≢ None = subst (λ (d : Dirs). d prefix ≢ None) (sym old_is) there in
       let opened : IsOpened (map_dirs ds) = as_map ds all in
@@ -63,9 +69,9 @@ module _ {S F : Type 0} (store : S) (hash : Kind) (gave : F → Pair → F → T
         same_files = λ T k agrees. subst (λ (d : Dirs). SameFiles (OpenFiles T k d) (OpenFiles T k (map_dirs ds))) (sym new_is) (written_same_files T k prefix (map_dirs ds) below own id opened open_there leaving agrees);
       }
 
-  pub written_at : (ds ds' : Opened) (n : ℕ) (old : State S) → state_of store hash ds n ≡ old → IsOpened (dirs_of ds) → (prefix : Path) → dirs_of ds prefix ≢ None → (below : List Pair) (own : List EntryView) (id : ObjectId) (pairs : List Pair) (asked answered : F)
+  pub written_at : (ds ds' : Opened) (n : ℕ) (old : State S) → state_of store hash prefix ds n ≡ old → IsOpened (dirs_of ds) → dirs_of ds prefix ≢ None → (below : List Pair) (own : List EntryView) (id : ObjectId) (pairs : List Pair) (asked answered : F)
       → Leaves (in_path prefix (dirs_of ds)) below own → pairs ≡ below ++ (id, own) ∷ [] → FoldsTo gave asked (below ++ (id, own) ∷ []) answered → IsStorable own → ((at : Path) → dirs_of ds' at ≡ with_path prefix (only own) (dirs_of ds) at)
-      → IsWrittenBelow gave asked old prefix id pairs (state_of store hash ds' n) answered
-  written_at ds ds' n old view all prefix there below own id pairs asked answered going is called storable left =
-      subst (λ (o : State S). IsWrittenBelow gave asked o prefix id pairs (state_of store hash ds' n) answered) view
-      (subst (λ (ps : List Pair). IsWrittenBelow gave asked (state_of store hash ds n) prefix id ps (state_of store hash ds' n) answered) (sym is) (went_out ds ds' n all prefix there below own id asked answered going called storable left))
+      → IsWrittenBelow gave asked old old.prefix id pairs (state_of store hash prefix ds' n) answered
+  written_at ds ds' n old view all there below own id pairs asked answered going is called storable left =
+      subst (λ (o : State S). IsWrittenBelow gave asked o o.prefix id pairs (state_of store hash prefix ds' n) answered) view
+      (subst (λ (ps : List Pair). IsWrittenBelow gave asked (state_of store hash prefix ds n) prefix id ps (state_of store hash prefix ds' n) answered) (sym is) (went_out ds ds' n all there below own id asked answered going called storable left))

@@ -6,7 +6,7 @@ use Rattle.std.proofs.lemmas.List.Elements.{All-from_recursion, recursion_from_A
 use Rattle.gixobj_trees.specs.Entries.{EntryView}
 use Rattle.gixobj_ids.specs.declared.hash.kind.Kind.{Kind}
 use Rattle.gixobj_ids.specs.declared.hash.object_id.ObjectId.{ObjectId}
-use Rattle.gixobj_files.specs.Files.{Files, SameFiles, Table}
+use Rattle.gixobj_files.specs.Files.{Files, Path, SameFiles, Table}
 use Rattle.gixobj_files.specs.HandingOut.{Leaves}
 use Rattle.gixobj_files.specs.Opening.{Dirs, IsOpened, OpenFiles}
 use Rattle.gixobj_files.specs.State.{State}
@@ -26,9 +26,9 @@ pub each_storable : (front : List Pair) (pair : Pair) → AllByRecursion (λ p. 
 each_storable [] pair h k = (k, tt)
 each_storable (first ∷ front) pair h k = (h.0, each_storable front pair h.1 k)
 
-module _ {S F : Type 0} (store : S) (hash : Kind) (gave : F → Pair → F → Type 0) where
+module _ {S F : Type 0} (store : S) (hash : Kind) (prefix : Path) (gave : F → Pair → F → Type 0) where
   went_out : (ds : Opened) (n : ℕ) → IsOpened (dirs_of ds) → (below : List Pair) (own : List EntryView) (id : ObjectId) (asked answered : F) → Leaves (dirs_of ds) below own → FoldsTo gave asked (below ++ (id, own) ∷ []) answered → IsStorable own
-      → IsWritten gave asked (state_of store hash ds n) id (below ++ (id, own) ∷ []) (state_of store hash (opened own []) n) answered
+      → IsWritten gave asked (state_of store hash prefix ds n) id (below ++ (id, own) ∷ []) (state_of store hash prefix (opened own []) n) answered
   went_out ds n all below own id asked answered going called storable =
       let there : Leaves (map_dirs ds) below own = subst (λ (d : Dirs). Leaves d below own) (sym (same_dirs ds)) going in
       let alone : IsOpened (map_dirs ds) = subst (λ (d : Dirs). IsOpened d) (sym (same_dirs ds)) all in
@@ -47,12 +47,12 @@ module _ {S F : Type 0} (store : S) (hash : Kind) (gave : F → Pair → F → T
         same_files = λ T k agrees. same_trans _ _ _ (root_files T k own) (files T k agrees);
       }
 
-  pub written_at : (ds ds' : Opened) (n : ℕ) (old : State S) → state_of store hash ds n ≡ old → IsOpened (dirs_of ds) → (below : List Pair) (own : List EntryView) (id : ObjectId) (pairs : List Pair) (asked answered : F) → Leaves (dirs_of ds) below own
-      → pairs ≡ below ++ (id, own) ∷ [] → FoldsTo gave asked (below ++ (id, own) ∷ []) answered → IsStorable own → ds' ≡ opened own [] → IsWritten gave asked old id pairs (state_of store hash ds' n) answered
+  pub written_at : (ds ds' : Opened) (n : ℕ) (old : State S) → state_of store hash prefix ds n ≡ old → IsOpened (dirs_of ds) → (below : List Pair) (own : List EntryView) (id : ObjectId) (pairs : List Pair) (asked answered : F) → Leaves (dirs_of ds) below own
+      → pairs ≡ below ++ (id, own) ∷ [] → FoldsTo gave asked (below ++ (id, own) ∷ []) answered → IsStorable own → ds' ≡ opened own [] → IsWritten gave asked old id pairs (state_of store hash prefix ds' n) answered
   written_at ds ds' n old view all below own id pairs asked answered going is called storable left =
-      subst (λ (o : State S). IsWritten gave asked o id pairs (state_of store hash ds' n) answered) view
-      (subst (λ (ps : List Pair). IsWritten gave asked (state_of store hash ds n) id ps (state_of store hash ds' n) answered) (sym is)
-      (subst (λ (d : Opened). IsWritten gave asked (state_of store hash ds n) id (below ++ (id, own) ∷ []) (state_of store hash d n) answered) (sym left) (went_out ds n all below own id asked answered going called storable)))
+      subst (λ (o : State S). IsWritten gave asked o id pairs (state_of store hash prefix ds' n) answered) view
+      (subst (λ (ps : List Pair). IsWritten gave asked (state_of store hash prefix ds n) id ps (state_of store hash prefix ds' n) answered) (sym is)
+      (subst (λ (d : Opened). IsWritten gave asked (state_of store hash prefix ds n) id (below ++ (id, own) ∷ []) (state_of store hash prefix d n) answered) (sym left) (went_out ds n all below own id asked answered going called storable)))
 
 -- what open directories are, after a write
 pub still_all : {W X : Type 0} (result : Result W X) (ds ds' : Opened) → IfOk result (λ _. (own : List EntryView) × IsStorable own × (ds' ≡ opened own [])) → OnErr result (ds' ≡ ds) → IsOpened (dirs_of ds) → IsOpened (dirs_of ds')

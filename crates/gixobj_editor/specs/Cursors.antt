@@ -31,21 +31,21 @@ from_root prefix [] = []
 from_root prefix (name ∷ path) = prefix ++ name ∷ path
 
 -- why no cursor is made at a path: for the first name that no entry may have; else for an unopened directory at or above the path,
--- which the store doesn't have as a well-formed tree, or whose lookup fails; or for want of memory, where the directory isn't open
+-- which the store doesn't have as a well-formed tree, or whose lookup fails; or for want of memory, where there are names
 abbrev pub RefusesCursor : Objects → (ObjectId → Bool) → Trees → Dirs → Path → Error → Type 0
 RefusesCursor objects may_fail trees dirs path error.EmptyPathComponent = RefusesNames path error.EmptyPathComponent
 RefusesCursor objects may_fail trees dirs path error.SlashInPathComponent = RefusesNames path error.SlashInPathComponent
 RefusesCursor objects may_fail trees dirs path (error.FindExistingObject cause) = AreNames path × RefusesUnopened objects may_fail trees dirs (inside path) (opening.FindExistingObject cause)
 RefusesCursor objects may_fail trees dirs path error.MalformedTree = AreNames path × RefusesUnopened objects may_fail trees dirs (inside path) opening.MalformedTree
 RefusesCursor objects may_fail trees dirs path (error.CannotRemoveNonLeaf at) = ⊥
-RefusesCursor objects may_fail trees dirs path error.OutOfMemory = AreNames path × (dirs path ≡ None)
+RefusesCursor objects may_fail trees dirs path error.OutOfMemory = AreNames path × (path ≢ [])
 
 -- why an edit by a cursor is refused: as one of the editor is; or there was no memory for its path from the root
 abbrev pub RefusesFromRoot : Path → (Error → Type 0) → Error → Type 0
 RefusesFromRoot path refuses refusal = refuses refusal ⊎ ((refusal ≡ error.OutOfMemory) × (path ≢ []))
 
 -- a cursor made at a path: which directories are open, that at the path among them, how many lookups there were, and the files; what
--- is in the directory is kept, and all else stays
+-- is in the directory is kept, the path is the prefix, and all else stays
 pub record IsAssured {S : Type 0} (trees : Trees) (old : State S) (path : Path) (new : State S) : Type 0 where
   pub names : AreNames path
   -- the directories at and above the path are opened, and then those that are missing are made
@@ -54,7 +54,7 @@ pub record IsAssured {S : Type 0} (trees : Trees) (old : State S) (path : Path) 
   pub opens : Opens IsNoTree trees path (open_dirs old) opened asked
   pub dirs : (at : Path) → open_dirs new at ≡ assured_dirs path (null_id old.object_hash) opened at
   pub lookups : new.lookups ≡ raised old.lookups (unopened_count trees (open_dirs old) (inside path))
-  pub rest : new ≡ record old { dirs = new.dirs; lookups = new.lookups }
+  pub rest : new ≡ record old { dirs = new.dirs; lookups = new.lookups; prefix = path }
   pub is_opened : IsOpened (open_dirs new)
   -- the store has each unopened directory at or above the path
   pub known : (it : ObjectId) → IsUnopenedAbove trees (open_dirs old) (inside path) it → (entries : List EntryView) × (trees it ≡ Some entries)

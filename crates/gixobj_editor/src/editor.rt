@@ -2,7 +2,7 @@
 //!
 //! It edits a tree and the trees below it by paths, and hands out what is to be stored. A directory is opened, that is
 //! looked up in the store, only where an edit needs it.
-ghost use Rattle.std.specs.Prelude.{◌≡◌, Err, IfErr, IfOk, IsOk, Ok, OnErr, OnOk, ℕ};
+ghost use Rattle.std.specs.Prelude.{◌≡◌, [], Err, IfErr, IfOk, IsOk, Ok, OnErr, OnOk, ℕ};
 ghost use Rattle.std.specs.Fn.{CalledAt};
 ghost use Rattle.std.specs.Borrow.{Lends, sem};
 ghost use Rattle.std.specs.Option.{option_copied};
@@ -38,24 +38,27 @@ use gixobj_ids::OutOfMemory;
 use gixobj_ids::hash::{self, ObjectId};
 use gixobj_trees::Tree;
 use gixobj_trees::tree::{Entry, EntryKind};
-use names::check_names;
+use names::{check_names, copy_names};
 use removal::{check_leaf, open_for_removal};
 use std::marker::Model;
 
 /// An editor of a tree, over a store of objects.
 ///
 /// In contracts it is the list of each open directory, by its path, with the store, the number of lookups,
-/// and the kind of the ids. An entry with a null id is a placeholder, which is never written.
+/// the kind of the ids, and the path at which the newest cursor was made. An entry with a null id is a
+/// placeholder, which is never written.
 #[derive(Drop)]
 pub struct Editor<S> {
     root: Open,
     store: S,
     object_hash: hash::Kind,
     lookups: u64,
+    prefix: Vec<BString>,
 }
 
 impl<S> Model for Editor<S> {
     ghost use Rattle.std.specs.FinMap as map;
+    ghost use Rattle.gixobj_directories.specs.Calls.{names_of};
     ghost use Rattle.gixobj_directories.specs.Nested.{dirs_of};
     ghost use Rattle.gixobj_files.specs.Opening.{IsOpened};
     ghost use Rattle.gixobj_files.specs.State.{State};
@@ -65,7 +68,7 @@ impl<S> Model for Editor<S> {
 
     ghost coded = { state_code S.code };
 
-    ghost view = { λ e. record { dirs = map.from_entries e.root; store = e.store; lookups = e.lookups; object_hash = e.object_hash } };
+    ghost view = { λ e. record { dirs = map.from_entries e.root; store = e.store; lookups = e.lookups; object_hash = e.object_hash; prefix = names_of e.prefix.items } };
 
     ghost invariant = { λ e. IsOpened (dirs_of e.root) };
 }
@@ -80,6 +83,7 @@ impl<S> Editor<S> {
         ensures store { result.store ≡ store }
         ensures lookups { result.lookups ≡ 0 }
         ensures object_hash { result.object_hash ≡ object_hash }
+        ensures prefix { result.prefix ≡ [] }
         ensures is_opened { IsOpened (open_dirs result) }
         ensures files { (T : Table) (n : ℕ) → SameFiles (EditorFiles T n result) (Files T n root) }
     {
@@ -89,6 +93,7 @@ impl<S> Editor<S> {
             store,
             object_hash,
             lookups: 0,
+            prefix: Vec::new(alloc),
         }
     }
 
@@ -270,11 +275,13 @@ impl<S: Clone> Editor<S> {
     {
         let root = self.root.copy(self.root.alloc())?;
         let store = self.store.clone()?;
+        let prefix = copy_names(self.root.alloc(), &self.prefix)?;
         Ok(Editor {
             root,
             store,
             object_hash: self.object_hash,
             lookups: self.lookups,
+            prefix,
         })
     }
 }

@@ -11,15 +11,14 @@ use gixobj_store::Memory;
 use std::alloc::Global;
 use std::test::Fail;
 
-/// Edits one behind the other, which leave the file `c` alone.
+/// Edits one behind the other, which leave the file `c` alone. The cursor has let go of the path that it was made at.
 fn edited(alloc: Global, editor: &mut Editor<Memory>) -> Result<(), Error> {
-    let directory = path_of(alloc, b"a")?;
     let (b, c, d) = (
         path_of(alloc, b"b")?,
         path_of(alloc, b"c")?,
         path_of(alloc, b"d")?,
     );
-    let mut cursor = editor.cursor_at(&directory)?;
+    let mut cursor = editor.cursor_at(&path_of(alloc, b"a")?)?;
     cursor
         .upsert(&c, EntryKind::Blob, FILE)?
         .upsert(&d, EntryKind::Blob, FILE)?

@@ -14,12 +14,14 @@ use Rattle.gixobj_files.specs.Opening.{Dirs, OpenFiles}
 abbrev pub DirMap : Type 0
 DirMap = FinMap (slice_cmp (slice_cmp nat_cmp)) (List EntryView)
 
--- the open directories, the store, how many trees were looked up in it, and the kind of the ids
+-- the open directories, the store, how many trees were looked up in it, the kind of the ids, and the path at which the newest cursor
+-- was made
 pub record State (S : Type 0) : Type 0 where
   pub dirs : DirMap
   pub store : S
   pub lookups : ℕ
   pub object_hash : Kind
+  pub prefix : Path
 
 -- the open directories as a function
 abbrev pub open_dirs : {S : Type 0} → State S → Dirs

@@ -63,7 +63,7 @@ fn do_edits<S: Keep, E: Drop, F: Fn(&Tree) -> Result<ObjectId, E>>(
     requires empty { replies.items ≡ [] }
     requires room { length edits.items ≤ vec_capacity replies }
     ensures same_reference { cursor.new.editor.ghost_name ≡ cursor.old.editor.ghost_name }
-    ensures replied { AreEditReplies (record { objects = S.objects; may_fail = S.may_fail }) (λ tree answer. FnReturnsAt F.Fn out.now tree answer) (at_cursor (names_of cursor.old.prefix.now)) cursor.old.editor.now edits.items result.items cursor.new.editor.now }
+    ensures replied { AreEditReplies (record { objects = S.objects; may_fail = S.may_fail }) (λ tree answer. FnReturnsAt F.Fn out.now tree answer) (at_cursor cursor.old.editor.now.prefix) cursor.old.editor.now edits.items result.items cursor.new.editor.now }
 {
     let mut replies = replies;
     for edit in edits {
@@ -81,8 +81,8 @@ fn do_edit_by<S: Keep, E, F: Fn(&Tree) -> Result<ObjectId, E>>(
 ) -> EditReply<E>
     requires callable { IsCallable F.pre out.now }
     ensures same_reference { cursor.new.editor.ghost_name ≡ cursor.old.editor.ghost_name }
-    ensures prefix { cursor.new.prefix.now ≡ cursor.old.prefix.now }
-    ensures replied { IsEditReply (record { objects = S.objects; may_fail = S.may_fail }) (λ tree answer. FnReturnsAt F.Fn out.now tree answer) (at_cursor (names_of cursor.old.prefix.now)) cursor.old.editor.now edit result cursor.new.editor.now }
+    ensures prefix { cursor.new.editor.now.prefix ≡ cursor.old.editor.now.prefix }
+    ensures replied { IsEditReply (record { objects = S.objects; may_fail = S.may_fail }) (λ tree answer. FnReturnsAt F.Fn out.now tree answer) (at_cursor cursor.old.editor.now.prefix) cursor.old.editor.now edit result cursor.new.editor.now }
 {
     match edit {
         Edit::Upsert { path, kind, id } => reply_to_edit(cursor.try_upsert(&path, kind, id)),
@@ -99,8 +99,8 @@ fn do_write_by<S: Keep, E, F: Fn(&Tree) -> Result<ObjectId, E>>(
 ) -> EditReply<E>
     requires callable { IsCallable F.pre out.now }
     ensures same_reference { cursor.new.editor.ghost_name ≡ cursor.old.editor.ghost_name }
-    ensures prefix { cursor.new.prefix.now ≡ cursor.old.prefix.now }
-    ensures replied { IsEditReply (record { objects = S.objects; may_fail = S.may_fail }) (λ tree answer. FnReturnsAt F.Fn out.now tree answer) (at_cursor (names_of cursor.old.prefix.now)) cursor.old.editor.now Edit.Write result cursor.new.editor.now }
+    ensures prefix { cursor.new.editor.now.prefix ≡ cursor.old.editor.now.prefix }
+    ensures replied { IsEditReply (record { objects = S.objects; may_fail = S.may_fail }) (λ tree answer. FnReturnsAt F.Fn out.now tree answer) (at_cursor cursor.old.editor.now.prefix) cursor.old.editor.now Edit.Write result cursor.new.editor.now }
 {
     let written = match cursor.write(out) {
         Ok(written) => written,

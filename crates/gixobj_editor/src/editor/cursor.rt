@@ -18,7 +18,7 @@ ghost use Rattle.gixobj_files.specs.State.{open_dirs};
 ghost use Rattle.gixobj_files.specs.Unopened.{inside};
 ghost use Rattle.gixobj_trees.specs.Mode.{mode_of_kind};
 
-use super::names::{check_names, join_paths};
+use super::names::{check_names, copy_names, join_paths};
 use super::{Editor, Error, WriteError, Written};
 use bstr::BString;
 use gixobj_data::Find;
@@ -42,14 +42,13 @@ impl Model for LentBack {
     ghost view = { λ _. tt };
 }
 
-/// A cursor of an editor: its paths go on from the directory at the prefix, which is open.
+/// A cursor of an editor: its paths go on from the directory at the editor's prefix, which is open.
 ///
 /// In contracts `editor.now` is the editor as it is. Whoever drops the cursor has the editor as its last call left it.
 pub struct Cursor<'a, S> {
     editor: &'a mut Editor<S>,
-    prefix: &'a [BString],
     lent_back: LentBack,
-    ghost is_open: { open_dirs editor.now (names_of prefix.now) ≢ None },
+    ghost is_open: { open_dirs editor.now editor.now.prefix ≢ None },
 }
 
 impl<S> Drop for Cursor<'_, S> {
@@ -58,7 +57,6 @@ impl<S> Drop for Cursor<'_, S> {
     {
         let Cursor {
             editor: _,
-            prefix: _,
             lent_back: _,
         } = self;
     }
@@ -69,13 +67,11 @@ impl<S> Editor<S> {
     /// A cursor at the root. It takes no memory.
     pub fn to_cursor(&mut self) -> Cursor<'_, S>
         ensures same_reference { result.editor.ghost_name ≡ self.entry.ghost_name }
-        ensures editor { result.editor.now ≡ self.old }
-        ensures prefix { names_of result.prefix.now ≡ [] }
+        ensures editor { result.editor.now ≡ record self.old { prefix = [] } }
     {
-        let _ = &self.root;
+        self.prefix.clear();
         Cursor {
             editor: self,
-            prefix: &[],
             lent_back: LentBack {},
         }
     }
@@ -88,42 +84,41 @@ impl<S: Find> Editor<S> {
     ///
     /// `EmptyPathComponent` or `SlashInPathComponent` for the first name that no entry may have; else
     /// `FindExistingObject` or `MalformedTree` for the first directory that the store doesn't have as a
-    /// well-formed tree, or whose lookup fails; `OutOfMemory` where memory was wanting, which is taken only where the
-    /// directory isn't open. A refusal leaves the files as they were; what was opened on the way stays open.
-    pub fn cursor_at<'a>(&'a mut self, path: &'a [BString]) -> Result<Cursor<'a, S>, Error>
+    /// well-formed tree, or whose lookup fails; `OutOfMemory` where memory was wanting, which is taken for the
+    /// directories that aren't open and for a copy of the names. A refusal leaves the files as they were; what was
+    /// opened on the way stays open.
+    pub fn cursor_at(&mut self, path: &[BString]) -> Result<Cursor<'_, S>, Error>
         ensures* refused { sem 𝓛 (RestsIfErr (the_row S.row) self.entry (λ c. c.editor.ghost_name) result (λ left. ((trees : Trees) → AreTreesOf (S.objects self.old.store) trees → IsRefused trees self.old (inside (prefix_of (names_of path.now))) left)
             × IfErr result (λ error. IsForAName error → left ≡ self.old))) }
         ensures same_reference { IfOk result (λ c. c.editor.ghost_name ≡ self.entry.ghost_name) }
-        ensures prefix { IfOk result (λ c. names_of c.prefix.now ≡ prefix_of (names_of path.now)) }
+        ensures prefix { IfOk result (λ c. c.editor.now.prefix ≡ prefix_of (names_of path.now)) }
         ensures assured { IfOk result (λ c. (trees : Trees) → AreTreesOf (S.objects self.old.store) trees → IsAssured trees self.old (prefix_of (names_of path.now)) c.editor.now) }
         ensures refusal { IfErr result (λ error. (trees : Trees) → AreTreesOf (S.objects self.old.store) trees → RefusesCursor (S.objects self.old.store) (S.may_fail self.old.store) trees (open_dirs self.old) (prefix_of (names_of path.now)) error) }
     {
-        let prefix = self.open_prefix(path)?;
+        self.open_prefix(path)?;
         Ok(Cursor {
             editor: self,
-            prefix,
             lent_back: LentBack {},
         })
     }
 
-    /// Makes the directory of a cursor at a path an open one, and answers the cursor's prefix.
-    fn open_prefix<'a>(&mut self, path: &'a [BString]) -> Result<&'a [BString], Error>
-        ensures prefix { IfOk result (λ prefix. names_of prefix.now ≡ prefix_of (names_of path.now)) }
-        ensures is_open { IfOk result (λ prefix. open_dirs self.new (names_of prefix.now) ≢ None) }
+    /// Makes the directory of a cursor at a path an open one, and its path the prefix.
+    fn open_prefix(&mut self, path: &[BString]) -> Result<(), Error>
+        ensures prefix { OnOk result (self.new.prefix ≡ prefix_of (names_of path.now)) }
+        ensures is_open { OnOk result (open_dirs self.new self.new.prefix ≢ None) }
         ensures assured { OnOk result ((trees : Trees) → AreTreesOf (S.objects self.old.store) trees → IsAssured trees self.old (prefix_of (names_of path.now)) self.new) }
         ensures refused { OnErr result ((trees : Trees) → AreTreesOf (S.objects self.old.store) trees → IsRefused trees self.old (inside (prefix_of (names_of path.now))) self.new) }
         ensures refusal { IfErr result (λ error. (trees : Trees) → AreTreesOf (S.objects self.old.store) trees → RefusesCursor (S.objects self.old.store) (S.may_fail self.old.store) trees (open_dirs self.old) (prefix_of (names_of path.now)) error) }
         ensures unasked { IfErr result (λ error. IsForAName error → self.new ≡ self.old) }
     {
-        let prefix = without_a_single_empty_name(path);
-        self.assure(prefix)?;
-        Ok(prefix)
+        self.assure(without_a_single_empty_name(path))
     }
 
-    /// Makes the directory at a path, and each one above it, an open directory.
+    /// Makes the directory at a path, and each one above it, an open directory, and the path the prefix.
     fn assure(&mut self, path: &[BString]) -> Result<(), Error>
         ensures assured { OnOk result ((trees : Trees) → AreTreesOf (S.objects self.old.store) trees → IsAssured trees self.old (names_of path.now) self.new) }
-        ensures is_open { OnOk result (open_dirs self.new (names_of path.now) ≢ None) }
+        ensures prefix { OnOk result (self.new.prefix ≡ names_of path.now) }
+        ensures is_open { OnOk result (open_dirs self.new self.new.prefix ≢ None) }
         ensures refused { OnErr result ((trees : Trees) → AreTreesOf (S.objects self.old.store) trees → IsRefused trees self.old (inside (names_of path.now)) self.new) }
         ensures refusal { IfErr result (λ error. (trees : Trees) → AreTreesOf (S.objects self.old.store) trees → RefusesCursor (S.objects self.old.store) (S.may_fail self.old.store) trees (open_dirs self.old) (names_of path.now) error) }
         ensures unasked { IfErr result (λ error. IsForAName error → self.new ≡ self.old) }
@@ -132,49 +127,46 @@ impl<S: Find> Editor<S> {
         check_names(path)?;
         let null = ObjectId::null(self.object_hash);
         self.root.open_along(alloc, path, Unasked::Opened, &self.store, &mut self.lookups)?;
+        let prefix = copy_names(alloc, path)?;
         self.root.assure(alloc, path, null)?;
+        self.prefix = prefix;
         Ok(())
     }
 }
 
 impl<S> Editor<S> {
-    /// The path from the root of a path from a directory; one without names stays without.
-    fn path_from_root(
-        &self,
-        prefix: &[BString],
-        path: &[BString],
-    ) -> Result<Vec<BString>, AllocError>
-        ensures joined { IfOk result (λ it. names_of it.items ≡ from_root (names_of prefix.now) (names_of path.now)) }
+    /// The path from the root of a path from the prefix; one without names stays without.
+    fn path_from_root(&self, path: &[BString]) -> Result<Vec<BString>, AllocError>
+        ensures joined { IfOk result (λ it. names_of it.items ≡ from_root self.now.prefix (names_of path.now)) }
         ensures taken { OnErr result (names_of path.now ≢ []) }
         ensures is_opened { IsOpened (open_dirs self.now) }
     {
-        join_paths(self.root.alloc(), prefix, path)
+        join_paths(self.root.alloc(), &self.prefix, path)
     }
 
-    /// The entry at a path from an open directory.
-    fn get_below(&self, prefix: &[BString], path: &[BString]) -> Option<&Entry>
-        ensures { option_copied result ≡ entry_at (from_root (names_of prefix.now) (names_of path.now)) (open_dirs self.now) }
+    /// The entry at a path from the prefix.
+    fn get_below(&self, path: &[BString]) -> Option<&Entry>
+        ensures { option_copied result ≡ entry_at (from_root self.now.prefix (names_of path.now)) (open_dirs self.now) }
     {
-        let Some(directory) = self.root.directory(prefix) else {
+        let Some(directory) = self.root.directory(&self.prefix) else {
             return None;
         };
         directory.get(path)
     }
 
-    /// Hands out the open directories at and below an open one.
+    /// Hands out the open directories at and below the one at the prefix.
     fn write_below<E, F: FnMut(&Tree) -> Result<ObjectId, E>>(
         &mut self,
-        prefix: &[BString],
         out: &mut F,
     ) -> Result<Written, WriteError<E>>
         requires callable { IsCallableOnTrees F.pre (λ f p g. CalledAt F.FnMut f p.1 (Ok p.0) g) out.old }
-        requires is_open { open_dirs self.old (names_of prefix.now) ≢ None }
-        ensures written { IfOk result (λ it. IsWrittenBelow (λ f p g. CalledAt F.FnMut f p.1 (Ok p.0) g) out.old self.old (names_of prefix.now) it.id it.trees.items self.new out.new) }
-        ensures stopped { IfErr result (Stopped (λ f p g. CalledAt F.FnMut f p.1 (Ok p.0) g) (λ f t e g. CalledAt F.FnMut f t (Err e) g) (HandsOut (in_path (names_of prefix.now) (open_dirs self.old))) out.old out.new) }
+        requires is_open { open_dirs self.old self.old.prefix ≢ None }
+        ensures written { IfOk result (λ it. IsWrittenBelow (λ f p g. CalledAt F.FnMut f p.1 (Ok p.0) g) out.old self.old self.old.prefix it.id it.trees.items self.new out.new) }
+        ensures stopped { IfErr result (Stopped (λ f p g. CalledAt F.FnMut f p.1 (Ok p.0) g) (λ f t e g. CalledAt F.FnMut f t (Err e) g) (HandsOut (in_path self.old.prefix (open_dirs self.old))) out.old out.new) }
         ensures unchanged { OnErr result (self.new ≡ self.old) }
     {
         let alloc = self.root.alloc();
-        write_at(alloc, &mut self.root, prefix, out)
+        write_at(alloc, &mut self.root, &self.prefix, out)
     }
 }
 
@@ -200,10 +192,10 @@ impl<S: Find> Cursor<'_, S> {
     ) -> Result<&mut Self, Error>
         ensures same_reference { IfOk result (λ it. it.ghost_name ≡ self.entry.ghost_name) }
         ensures same_editor { IfOk result (λ it. it.now.editor.ghost_name ≡ self.old.editor.ghost_name) }
-        ensures prefix { IfOk result (λ it. it.now.prefix.now ≡ self.old.prefix.now) }
-        ensures upserted { IfOk result (λ it. (trees : Trees) → AreTreesOf (S.objects self.old.editor.now.store) trees → IsUpserted trees self.old.editor.now (from_root (names_of self.old.prefix.now) (names_of path.now)) (mode_of_kind kind) id it.now.editor.now) }
+        ensures prefix { IfOk result (λ it. it.now.editor.now.prefix ≡ self.old.editor.now.prefix) }
+        ensures upserted { IfOk result (λ it. (trees : Trees) → AreTreesOf (S.objects self.old.editor.now.store) trees → IsUpserted trees self.old.editor.now (from_root self.old.editor.now.prefix (names_of path.now)) (mode_of_kind kind) id it.now.editor.now) }
         ensures refusal { IfErr result (λ error. (trees : Trees) → AreTreesOf (S.objects self.old.editor.now.store) trees → RefusesFromRoot (names_of path.now)
-            (RefusesUpsert (S.objects self.old.editor.now.store) (S.may_fail self.old.editor.now.store) trees (open_dirs self.old.editor.now) (from_root (names_of self.old.prefix.now) (names_of path.now))) error) }
+            (RefusesUpsert (S.objects self.old.editor.now.store) (S.may_fail self.old.editor.now.store) trees (open_dirs self.old.editor.now) (from_root self.old.editor.now.prefix (names_of path.now))) error) }
     {
         self.try_upsert(path, kind, id)?;
         Ok(self)
@@ -220,14 +212,14 @@ impl<S: Find> Cursor<'_, S> {
         id: ObjectId,
     ) -> Result<(), Error>
         ensures same_reference { self.new.editor.ghost_name ≡ self.old.editor.ghost_name }
-        ensures prefix { self.new.prefix.now ≡ self.old.prefix.now }
-        ensures upserted { OnOk result ((trees : Trees) → AreTreesOf (S.objects self.old.editor.now.store) trees → IsUpserted trees self.old.editor.now (from_root (names_of self.old.prefix.now) (names_of path.now)) (mode_of_kind kind) id self.new.editor.now) }
-        ensures refused { OnErr result ((trees : Trees) → AreTreesOf (S.objects self.old.editor.now.store) trees → IsRefused trees self.old.editor.now (from_root (names_of self.old.prefix.now) (names_of path.now)) self.new.editor.now) }
+        ensures prefix { self.new.editor.now.prefix ≡ self.old.editor.now.prefix }
+        ensures upserted { OnOk result ((trees : Trees) → AreTreesOf (S.objects self.old.editor.now.store) trees → IsUpserted trees self.old.editor.now (from_root self.old.editor.now.prefix (names_of path.now)) (mode_of_kind kind) id self.new.editor.now) }
+        ensures refused { OnErr result ((trees : Trees) → AreTreesOf (S.objects self.old.editor.now.store) trees → IsRefused trees self.old.editor.now (from_root self.old.editor.now.prefix (names_of path.now)) self.new.editor.now) }
         ensures refusal { IfErr result (λ error. (trees : Trees) → AreTreesOf (S.objects self.old.editor.now.store) trees → RefusesFromRoot (names_of path.now)
-            (RefusesUpsert (S.objects self.old.editor.now.store) (S.may_fail self.old.editor.now.store) trees (open_dirs self.old.editor.now) (from_root (names_of self.old.prefix.now) (names_of path.now))) error) }
+            (RefusesUpsert (S.objects self.old.editor.now.store) (S.may_fail self.old.editor.now.store) trees (open_dirs self.old.editor.now) (from_root self.old.editor.now.prefix (names_of path.now))) error) }
         ensures unasked { IfErr result (λ error. IsForAName error → self.new.editor.now ≡ self.old.editor.now) }
     {
-        let path = self.editor.path_from_root(self.prefix, path)?;
+        let path = self.editor.path_from_root(path)?;
         self.editor.try_upsert(&path, kind, id)
     }
 
@@ -236,10 +228,10 @@ impl<S: Find> Cursor<'_, S> {
     pub fn remove(&mut self, path: &[BString]) -> Result<&mut Self, Error>
         ensures same_reference { IfOk result (λ it. it.ghost_name ≡ self.entry.ghost_name) }
         ensures same_editor { IfOk result (λ it. it.now.editor.ghost_name ≡ self.old.editor.ghost_name) }
-        ensures prefix { IfOk result (λ it. it.now.prefix.now ≡ self.old.prefix.now) }
-        ensures removed { IfOk result (λ it. (trees : Trees) → AreTreesOf (S.objects self.old.editor.now.store) trees → IsRemoved IsNoTree trees self.old.editor.now (from_root (names_of self.old.prefix.now) (names_of path.now)) it.now.editor.now) }
+        ensures prefix { IfOk result (λ it. it.now.editor.now.prefix ≡ self.old.editor.now.prefix) }
+        ensures removed { IfOk result (λ it. (trees : Trees) → AreTreesOf (S.objects self.old.editor.now.store) trees → IsRemoved IsNoTree trees self.old.editor.now (from_root self.old.editor.now.prefix (names_of path.now)) it.now.editor.now) }
         ensures refusal { IfErr result (λ error. (trees : Trees) → AreTreesOf (S.objects self.old.editor.now.store) trees → RefusesFromRoot (names_of path.now)
-            (RefusesRemoval IsNoTree (S.objects self.old.editor.now.store) (S.may_fail self.old.editor.now.store) trees (open_dirs self.old.editor.now) (from_root (names_of self.old.prefix.now) (names_of path.now))) error) }
+            (RefusesRemoval IsNoTree (S.objects self.old.editor.now.store) (S.may_fail self.old.editor.now.store) trees (open_dirs self.old.editor.now) (from_root self.old.editor.now.prefix (names_of path.now))) error) }
     {
         self.try_remove(path)?;
         Ok(self)
@@ -251,13 +243,13 @@ impl<S: Find> Cursor<'_, S> {
     /// `OutOfMemory` also where there was no memory for the path from the root.
     pub fn try_remove(&mut self, path: &[BString]) -> Result<(), Error>
         ensures same_reference { self.new.editor.ghost_name ≡ self.old.editor.ghost_name }
-        ensures prefix { self.new.prefix.now ≡ self.old.prefix.now }
-        ensures removed { OnOk result ((trees : Trees) → AreTreesOf (S.objects self.old.editor.now.store) trees → IsRemoved IsNoTree trees self.old.editor.now (from_root (names_of self.old.prefix.now) (names_of path.now)) self.new.editor.now) }
-        ensures refused { OnErr result ((trees : Trees) → AreTreesOf (S.objects self.old.editor.now.store) trees → IsRefused trees self.old.editor.now (from_root (names_of self.old.prefix.now) (names_of path.now)) self.new.editor.now) }
+        ensures prefix { self.new.editor.now.prefix ≡ self.old.editor.now.prefix }
+        ensures removed { OnOk result ((trees : Trees) → AreTreesOf (S.objects self.old.editor.now.store) trees → IsRemoved IsNoTree trees self.old.editor.now (from_root self.old.editor.now.prefix (names_of path.now)) self.new.editor.now) }
+        ensures refused { OnErr result ((trees : Trees) → AreTreesOf (S.objects self.old.editor.now.store) trees → IsRefused trees self.old.editor.now (from_root self.old.editor.now.prefix (names_of path.now)) self.new.editor.now) }
         ensures refusal { IfErr result (λ error. (trees : Trees) → AreTreesOf (S.objects self.old.editor.now.store) trees → RefusesFromRoot (names_of path.now)
-            (RefusesRemoval IsNoTree (S.objects self.old.editor.now.store) (S.may_fail self.old.editor.now.store) trees (open_dirs self.old.editor.now) (from_root (names_of self.old.prefix.now) (names_of path.now))) error) }
+            (RefusesRemoval IsNoTree (S.objects self.old.editor.now.store) (S.may_fail self.old.editor.now.store) trees (open_dirs self.old.editor.now) (from_root self.old.editor.now.prefix (names_of path.now))) error) }
     {
-        let path = self.editor.path_from_root(self.prefix, path)?;
+        let path = self.editor.path_from_root(path)?;
         self.editor.try_remove(&path)
     }
 
@@ -266,10 +258,10 @@ impl<S: Find> Cursor<'_, S> {
     pub fn remove_leaf(&mut self, path: &[BString]) -> Result<&mut Self, Error>
         ensures same_reference { IfOk result (λ it. it.ghost_name ≡ self.entry.ghost_name) }
         ensures same_editor { IfOk result (λ it. it.now.editor.ghost_name ≡ self.old.editor.ghost_name) }
-        ensures prefix { IfOk result (λ it. it.now.prefix.now ≡ self.old.prefix.now) }
-        ensures removed { IfOk result (λ it. (trees : Trees) → AreTreesOf (S.objects self.old.editor.now.store) trees → IsLeafRemoved trees self.old.editor.now (from_root (names_of self.old.prefix.now) (names_of path.now)) it.now.editor.now) }
+        ensures prefix { IfOk result (λ it. it.now.editor.now.prefix ≡ self.old.editor.now.prefix) }
+        ensures removed { IfOk result (λ it. (trees : Trees) → AreTreesOf (S.objects self.old.editor.now.store) trees → IsLeafRemoved trees self.old.editor.now (from_root self.old.editor.now.prefix (names_of path.now)) it.now.editor.now) }
         ensures refusal { IfErr result (λ error. (trees : Trees) → AreTreesOf (S.objects self.old.editor.now.store) trees → RefusesFromRoot (names_of path.now)
-            (RefusesLeafRemoval (S.objects self.old.editor.now.store) (S.may_fail self.old.editor.now.store) trees (open_dirs self.old.editor.now) (from_root (names_of self.old.prefix.now) (names_of path.now))) error) }
+            (RefusesLeafRemoval (S.objects self.old.editor.now.store) (S.may_fail self.old.editor.now.store) trees (open_dirs self.old.editor.now) (from_root self.old.editor.now.prefix (names_of path.now))) error) }
     {
         self.try_remove_leaf(path)?;
         Ok(self)
@@ -282,13 +274,13 @@ impl<S: Find> Cursor<'_, S> {
     /// from the root.
     pub fn try_remove_leaf(&mut self, path: &[BString]) -> Result<(), Error>
         ensures same_reference { self.new.editor.ghost_name ≡ self.old.editor.ghost_name }
-        ensures prefix { self.new.prefix.now ≡ self.old.prefix.now }
-        ensures removed { OnOk result ((trees : Trees) → AreTreesOf (S.objects self.old.editor.now.store) trees → IsLeafRemoved trees self.old.editor.now (from_root (names_of self.old.prefix.now) (names_of path.now)) self.new.editor.now) }
-        ensures refused { OnErr result ((trees : Trees) → AreTreesOf (S.objects self.old.editor.now.store) trees → IsRefused trees self.old.editor.now (from_root (names_of self.old.prefix.now) (names_of path.now)) self.new.editor.now) }
+        ensures prefix { self.new.editor.now.prefix ≡ self.old.editor.now.prefix }
+        ensures removed { OnOk result ((trees : Trees) → AreTreesOf (S.objects self.old.editor.now.store) trees → IsLeafRemoved trees self.old.editor.now (from_root self.old.editor.now.prefix (names_of path.now)) self.new.editor.now) }
+        ensures refused { OnErr result ((trees : Trees) → AreTreesOf (S.objects self.old.editor.now.store) trees → IsRefused trees self.old.editor.now (from_root self.old.editor.now.prefix (names_of path.now)) self.new.editor.now) }
         ensures refusal { IfErr result (λ error. (trees : Trees) → AreTreesOf (S.objects self.old.editor.now.store) trees → RefusesFromRoot (names_of path.now)
-            (RefusesLeafRemoval (S.objects self.old.editor.now.store) (S.may_fail self.old.editor.now.store) trees (open_dirs self.old.editor.now) (from_root (names_of self.old.prefix.now) (names_of path.now))) error) }
+            (RefusesLeafRemoval (S.objects self.old.editor.now.store) (S.may_fail self.old.editor.now.store) trees (open_dirs self.old.editor.now) (from_root self.old.editor.now.prefix (names_of path.now))) error) }
     {
-        let path = self.editor.path_from_root(self.prefix, path)?;
+        let path = self.editor.path_from_root(path)?;
         self.editor.try_remove_leaf(&path)
     }
 }
@@ -311,9 +303,9 @@ impl<S> Cursor<'_, S> {
     /// As [`Editor::get`], at a path that goes on from the prefix; without names there is none.
     pub fn get(&self, path: &[BString]) -> Result<Option<&Entry>, OutOfMemory>
         ensures succeeds { IsOk result }
-        ensures found { IfOk result (λ entry. option_copied entry ≡ entry_at (from_root (names_of self.now.prefix.now) (names_of path.now)) (open_dirs self.now.editor.now)) }
+        ensures found { IfOk result (λ entry. option_copied entry ≡ entry_at (from_root self.now.editor.now.prefix (names_of path.now)) (open_dirs self.now.editor.now)) }
     {
-        Ok(self.editor.get_below(self.prefix, path))
+        Ok(self.editor.get_below(path))
     }
 }
 
@@ -326,9 +318,9 @@ impl<S> Cursor<'_, S> {
     ) -> Result<Written, WriteError<E>>
         requires { IsCallableOnTrees F.pre (λ f p g. CalledAt F.FnMut f p.1 (Ok p.0) g) out }
         ensures same_reference { self.new.editor.ghost_name ≡ self.old.editor.ghost_name }
-        ensures prefix { self.new.prefix.now ≡ self.old.prefix.now }
-        ensures written { IfOk result (λ it. (last : F) × IsWrittenBelow (λ f p g. CalledAt F.FnMut f p.1 (Ok p.0) g) out self.old.editor.now (names_of self.old.prefix.now) it.id it.trees.items self.new.editor.now last) }
-        ensures stopped { IfErr result (λ error. (last : F) × Stopped (λ f p g. CalledAt F.FnMut f p.1 (Ok p.0) g) (λ f t e g. CalledAt F.FnMut f t (Err e) g) (HandsOut (in_path (names_of self.old.prefix.now) (open_dirs self.old.editor.now))) out last error) }
+        ensures prefix { self.new.editor.now.prefix ≡ self.old.editor.now.prefix }
+        ensures written { IfOk result (λ it. (last : F) × IsWrittenBelow (λ f p g. CalledAt F.FnMut f p.1 (Ok p.0) g) out self.old.editor.now self.old.editor.now.prefix it.id it.trees.items self.new.editor.now last) }
+        ensures stopped { IfErr result (λ error. (last : F) × Stopped (λ f p g. CalledAt F.FnMut f p.1 (Ok p.0) g) (λ f t e g. CalledAt F.FnMut f t (Err e) g) (HandsOut (in_path self.old.editor.now.prefix (open_dirs self.old.editor.now))) out last error) }
         ensures unchanged { OnErr result (self.new.editor.now ≡ self.old.editor.now) }
     {
         let mut out = out;
@@ -347,11 +339,11 @@ impl<S> Cursor<'_, S> {
     ) -> Result<Written, WriteError<E>>
         requires { IsCallableOnTrees F.pre (λ f p g. CalledAt F.FnMut f p.1 (Ok p.0) g) out.old }
         ensures same_reference { self.new.editor.ghost_name ≡ self.old.editor.ghost_name }
-        ensures prefix { self.new.prefix.now ≡ self.old.prefix.now }
-        ensures written { IfOk result (λ it. IsWrittenBelow (λ f p g. CalledAt F.FnMut f p.1 (Ok p.0) g) out.old self.old.editor.now (names_of self.old.prefix.now) it.id it.trees.items self.new.editor.now out.new) }
-        ensures stopped { IfErr result (Stopped (λ f p g. CalledAt F.FnMut f p.1 (Ok p.0) g) (λ f t e g. CalledAt F.FnMut f t (Err e) g) (HandsOut (in_path (names_of self.old.prefix.now) (open_dirs self.old.editor.now))) out.old out.new) }
+        ensures prefix { self.new.editor.now.prefix ≡ self.old.editor.now.prefix }
+        ensures written { IfOk result (λ it. IsWrittenBelow (λ f p g. CalledAt F.FnMut f p.1 (Ok p.0) g) out.old self.old.editor.now self.old.editor.now.prefix it.id it.trees.items self.new.editor.now out.new) }
+        ensures stopped { IfErr result (Stopped (λ f p g. CalledAt F.FnMut f p.1 (Ok p.0) g) (λ f t e g. CalledAt F.FnMut f t (Err e) g) (HandsOut (in_path self.old.editor.now.prefix (open_dirs self.old.editor.now))) out.old out.new) }
         ensures unchanged { OnErr result (self.new.editor.now ≡ self.old.editor.now) }
     {
-        self.editor.write_below(self.prefix, out)
+        self.editor.write_below(out)
     }
 }

@@ -66,6 +66,14 @@ pub(crate) fn join_paths(
     Ok(names)
 }
 
+/// Copies of names.
+pub(crate) fn copy_names(alloc: Global, names: &[BString]) -> Result<Vec<BString>, AllocError>
+    ensures copied { IfOk result (λ it. names_of it.items ≡ names_of names.now) }
+    ensures taken { OnErr result (names_of names.now ≢ []) }
+{
+    join_paths(alloc, &[], names)
+}
+
 /// Copies of the names of a path, behind others.
 fn push_names(alloc: Global, names: &mut Vec<BString>, path: &[BString]) -> Result<(), AllocError>
     ensures { OnOk result (names_of names.new.items ≡ names_of names.old.items ++ names_of path.now) }

@@ -7,6 +7,7 @@ use Rattle.gixobj_ids.specs.declared.hash.kind.Kind.{Kind}
 use Rattle.gixobj_ids.specs.declared.hash.kind.Kind.TheVariants as hash
 use Rattle.gixobj_ids.specs.declared.hash.object_id.ObjectId.{ObjectId}
 use Rattle.gixobj_ids.specs.declared.hash.object_id.ObjectId.TheVariants as id
+use Rattle.gixobj_files.specs.Files.{Path}
 use Rattle.gixobj_files.specs.State.{DirMap, State}
 
 abbrev pub is_sha1 : Kind → Bool
@@ -44,5 +45,5 @@ entry_code = code_by (ℕ × (List ℕ × ObjectId)) (coded× coded_ℕ (coded×
 
 abbrev pub state_code : {S : Type 0} → Coded S → Coded (State S)
 state_code {S} store_code =
-    code_by (DirMap × (S × (ℕ × Kind))) (coded× (map.code (coded_list (coded_list coded_ℕ)) (coded_list entry_code)) (coded× store_code (coded× coded_ℕ hash_code)))
-    (λ s. (s.dirs, (s.store, (s.lookups, s.object_hash)))) (λ p. record { dirs = p.0; store = p.1.0; lookups = p.1.1.0; object_hash = p.1.1.1 }) (λ _. refl)
+    code_by (DirMap × (S × (ℕ × (Kind × Path)))) (coded× (map.code (coded_list (coded_list coded_ℕ)) (coded_list entry_code)) (coded× store_code (coded× coded_ℕ (coded× hash_code (coded_list (coded_list coded_ℕ))))))
+    (λ s. (s.dirs, (s.store, (s.lookups, (s.object_hash, s.prefix))))) (λ p. record { dirs = p.0; store = p.1.0; lookups = p.1.1.0; object_hash = p.1.1.1.0; prefix = p.1.1.1.1 }) (λ _. refl)

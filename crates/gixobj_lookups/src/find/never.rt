@@ -1,23 +1,14 @@
 //! The store that has nothing.
-ghost use Rattle.std.specs.Prelude.{◌≡◌, IfErr, IfOk, IsFalse, IsOk, None, Ok, Some, false, is_some, length};
+ghost use Rattle.std.specs.Prelude.{◌≡◌, IfErr, IfOk, IsFalse, None, Ok, false, is_some};
 ghost use Rattle.std.specs.FinMap as map;
-ghost use Rattle.gixobj_data.specs.Stores.{IsFound, IsHeaderFound, RefusesFind, named};
-ghost use Rattle.gixobj_fields.specs.StreamHash.{ReadsObject, SkipsExactly};
-ghost use Rattle.gixobj_ids.specs.Hash.{id_of};
+ghost use Rattle.gixobj_data.specs.Stores.{IsFound, RefusesFind, named};
 ghost use Rattle.gixobj_ids.specs.Hash.Borrowed.{borrowed_id};
-ghost use Rattle.gixobj_ids.specs.declared.hash.kind.Kind.TheVariants.{Sha1};
-ghost use Rattle.gixobj_lookups.specs.Nothing.{AnswersId, AnswersKnownId, RefusesRead};
-ghost use Rattle.gixobj_lookups.specs.Writers.{CannotEncode, IsWritten};
 
-use crate::traits::Write;
-use crate::write::Error;
-use gixobj_data::{Data, Exists, Find, FindHeader, Store, find};
-use gixobj_fields::WriteTo;
-use gixobj_fields::stream_hash::{compute_stream_hash, skip_stream};
-use gixobj_ids::hash::{ObjectId, oid};
-use gixobj_ids::{Header, Kind, compute_hash, hash};
-use std::alloc::Global;
-use std::io::Read;
+mod header;
+mod write;
+
+use gixobj_data::{Data, Exists, Find, Store, find};
+use gixobj_ids::hash::oid;
 
 /// A store that keeps nothing and finds nothing. What is written into it gets its id, by SHA-1.
 #[derive(Clone, Copy, Debug)]
@@ -45,18 +36,6 @@ impl Find for Never {
     }
 }
 
-/// It finds none, and takes no memory.
-impl FindHeader for Never {
-    #[tactic(auto, using(crate::proofs::Nothing::no_header_found))]
-    fn try_header(&self, id: oid<'_>) -> Result<Option<Header>, find::Error>
-        ensures found { IfOk result (IsHeaderFound map.empty (borrowed_id id.entry)) }
-        ensures refusal { IfErr result (RefusesFind (λ id. false) (borrowed_id id.entry)) }
-        ensures none { result ≡ Ok None }
-    {
-        Ok(None)
-    }
-}
-
 /// None is there.
 impl Exists for Never {
     #[tactic(auto, using(crate::proofs::Nothing::not_there))]
@@ -65,81 +44,5 @@ impl Exists for Never {
         ensures none { result ≡ false }
     {
         false
-    }
-}
-
-/// Each call answers the id by SHA-1, or the one that is handed in.
-impl Write for Never {
-    ghost answers = { λ store. AnswersId };
-
-    ghost answers_known = { λ store. AnswersKnownId };
-
-    /// `Encode` where the object can't be written, and nothing else.
-    fn write<T: WriteTo>(&self, alloc: Global, object: &T) -> Result<ObjectId, Error>
-        requires { T.can_write object.now }
-        ensures written { IsWritten AnswersId (T.object_kind object.now) (T.refuses object.now) (T.text object.now) result }
-        ensures id { IfOk result (λ id. id ≡ id_of Sha1 (T.object_kind object.now) (T.text object.now)) }
-        ensures refusal { IfErr result (λ _. CannotEncode (T.refuses object.now) (T.text object.now) result) }
-    {
-        let mut text = Vec::new(alloc);
-        object.write_to_vec(alloc, &mut text)?;
-        Ok(compute_hash(hash::Kind::Sha1, object.kind(), &text))
-    }
-
-    /// It is never refused, and takes no memory.
-    #[tactic(auto, using(crate::proofs::Nothing::answers_whole))]
-    fn write_buf(&self, alloc: Global, kind: Kind, from: &[u8]) -> Result<ObjectId, Error>
-        ensures answer { AnswersId kind (length from.now) (Some from.now) result }
-        ensures id { result ≡ Ok (id_of Sha1 kind from.now) }
-    {
-        Ok(compute_hash(hash::Kind::Sha1, kind, from))
-    }
-
-    /// It is never refused, and takes no memory.
-    #[tactic(auto, using(crate::proofs::Nothing::answers_known))]
-    fn write_buf_with_known_id(
-        &self,
-        alloc: Global,
-        kind: Kind,
-        from: &[u8],
-        id: ObjectId,
-    ) -> Result<ObjectId, Error>
-        ensures answer { AnswersKnownId id kind (length from.now) (Some from.now) result }
-        ensures id { result ≡ Ok id }
-    {
-        Ok(id)
-    }
-
-    /// Exactly `size` bytes are read. `Read` where the stream fails, or ends before them. It takes no memory.
-    fn write_stream<R: Read>(
-        &self,
-        alloc: Global,
-        kind: Kind,
-        size: u64,
-        from: &mut R,
-    ) -> Result<ObjectId, Error>
-        ensures answer { AnswersId kind size (R.remaining from.old) result }
-        ensures read { IfOk result (ReadsObject Sha1 kind (R.remaining from.old) (R.remaining from.new) size) }
-        ensures refusal { IfErr result (RefusesRead (R.remaining from.old) (R.remaining from.new) size) }
-    {
-        Ok(compute_stream_hash(hash::Kind::Sha1, kind, from, size)?)
-    }
-
-    /// Exactly `size` bytes are read. `Read` where the stream fails, or ends before them. It takes no memory.
-    fn write_stream_with_known_id<R: Read>(
-        &self,
-        alloc: Global,
-        kind: Kind,
-        size: u64,
-        from: &mut R,
-        id: ObjectId,
-    ) -> Result<ObjectId, Error>
-        ensures answer { AnswersKnownId id kind size (R.remaining from.old) result }
-        ensures id { IfOk result (λ it. it ≡ id) }
-        ensures read { IfOk result (λ _. SkipsExactly (R.remaining from.old) (R.remaining from.new) size) }
-        ensures refusal { IfErr result (RefusesRead (R.remaining from.old) (R.remaining from.new) size) }
-    {
-        skip_stream(from, size)?;
-        Ok(id)
     }
 }

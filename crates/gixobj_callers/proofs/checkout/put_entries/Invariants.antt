@@ -1,7 +1,6 @@
 use Rattle.std.proofs.Common.{◌≡◌, take}
 use Rattle.gixobj_callers.proofs.PutIn.{ArePutIn}
 use Rattle.gixobj_callers.proofs.checkout.put_entries.Given as goal
-use Rattle.gixobj_directories.specs.Calls.{names_of}
 use Rattle.gixobj_directories.specs.Openings.{AreTreesOf}
 use Rattle.gixobj_files.specs.Files.{Trees}
 
@@ -9,6 +8,6 @@ use Rattle.gixobj_files.specs.Files.{Trees}
 abbrev pub invariant-loop-entry : goal.invariant-loop-entry
 invariant-loop-entry g l = record {
   same_editor : l.cursor.editor.ghost_name ≡ l.fn.cursor.editor.ghost_name;
-  same_prefix : l.cursor.prefix.now ≡ l.fn.cursor.prefix.now;
-  put_in : (trees : Trees) → AreTreesOf (g.S.Store.objects l.fn.cursor.editor.now.store) trees → ArePutIn trees l.fn.cursor.editor.now (names_of l.fn.cursor.prefix.now) (take l.entry-index l.entries) l.cursor.editor.now;
+  same_prefix : l.cursor.editor.now.prefix ≡ l.fn.cursor.editor.now.prefix;
+  put_in : (trees : Trees) → AreTreesOf (g.S.Store.objects l.fn.cursor.editor.now.store) trees → ArePutIn trees l.fn.cursor.editor.now l.fn.cursor.editor.now.prefix (take l.entry-index l.entries) l.cursor.editor.now;
 }

@@ -10,5 +10,5 @@ returns g c =
     let made = c.in_ok-cursor.ensures {u = tt} in
     let last = c.put_entries.new.cursor.editor.now in
     let is_left : c.editor-2-1.given.0 ≡ last = search rules in
-    put_in_behind c.put_entries.result g.S.Store.objects c.args.editor.now c.in_ok-cursor.cursor.editor.now last c.editor-2-1.given.0 (names_of c.in_ok-cursor.cursor.prefix.now) (prefix_of (names_of c.args.prefix.now)) c.args.entries.now
+    put_in_behind c.put_entries.result g.S.Store.objects c.args.editor.now c.in_ok-cursor.cursor.editor.now last c.editor-2-1.given.0 c.in_ok-cursor.cursor.editor.now.prefix (prefix_of (names_of c.args.prefix.now)) c.args.entries.now
     is_left made.prefix made.assured c.put_entries.ensures.files

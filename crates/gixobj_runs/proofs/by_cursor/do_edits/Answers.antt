@@ -1,7 +1,6 @@
 use Rattle.std.proofs.Common.{length, List, arith, ap, refl, Result, subst, ◌∙◌}
 use Rattle.std.specs.Fn.{FnReturnsAt}
-use Rattle.bstr.specs.declared.bstring.BString.{BString}
-use Rattle.gixobj_directories.specs.Calls.{names_of}
+use Rattle.gixobj_files.specs.Files.{Path}
 use Rattle.gixobj_ids.specs.declared.hash.object_id.ObjectId.{ObjectId}
 use Rattle.gixobj_trees.specs.Entries.{EntryView}
 use Rattle.gixobj_runs.specs.Commands.{at_cursor}
@@ -14,9 +13,9 @@ loop-edit-preserved g c =
     let means : Meaning g.row.S.Denot = record { objects = g.S.Store.objects; may_fail = g.S.Store.may_fail } in
     let answers = λ (tree : List EntryView) (answer : Result ObjectId g.row.E.Denot). FnReturnsAt g.F.Fn c.args.out.now tree answer in
     let steps = c.in-Some.ensures.steps in
-    let one = subst (λ (p : List BString). IsEditReply means answers (at_cursor (names_of p)) c.loop-edit.cursor.editor.now c.in-Some.edit c.do_edit_by-reply.result c.do_edit_by-reply.new.cursor.editor.now) c.loop-edit.invariant.prefix c.do_edit_by-reply.ensures.replied in
+    let one = subst (λ (p : Path). IsEditReply means answers (at_cursor p) c.loop-edit.cursor.editor.now c.in-Some.edit c.do_edit_by-reply.result c.do_edit_by-reply.new.cursor.editor.now) c.loop-edit.invariant.prefix c.do_edit_by-reply.ensures.replied in
     record {
-      told = λ replies new h. one_more_edit means answers (at_cursor (names_of c.args.cursor.now.prefix.now)) c.loop-edit.cursor.editor.now _ _ _ _ _ _ _ _ _ _ _ one steps.0 c.push_reserved.ensures.items c.loop-edit.invariant.told h;
+      told = λ replies new h. one_more_edit means answers (at_cursor c.args.cursor.now.editor.now.prefix) c.loop-edit.cursor.editor.now _ _ _ _ _ _ _ _ _ _ _ one steps.0 c.push_reserved.ensures.items c.loop-edit.invariant.told h;
       room = let e = ap length steps.0 in grind (arith, c.loop-edit.invariant.room);
       same = refl;
       same_reference = c.do_edit_by-reply.ensures.same_reference ∙ c.loop-edit.invariant.same_reference;
@@ -27,4 +26,4 @@ pub returns-clause-replied : goal.returns-clause-replied
 returns-clause-replied g c =
     let means : Meaning g.row.S.Denot = record { objects = g.S.Store.objects; may_fail = g.S.Store.may_fail } in
     let answers = λ (tree : List EntryView) (answer : Result ObjectId g.row.E.Denot). FnReturnsAt g.F.Fn c.args.out.now tree answer in
-    no_more_edits means answers (at_cursor (names_of c.args.cursor.now.prefix.now)) _ _ _ _ _ (omega (arith, c.in-None.ensures.steps.0, c.loop-edit.edit-iterator.rest.ok.0)) c.loop-edit.invariant.told
+    no_more_edits means answers (at_cursor c.args.cursor.now.editor.now.prefix) _ _ _ _ _ (omega (arith, c.in-None.ensures.steps.0, c.loop-edit.edit-iterator.rest.ok.0)) c.loop-edit.invariant.told

@@ -21,7 +21,7 @@ returns-in-Ok g c =
     let made = c.in-Ok.ensures {u = tt} in
     let left = c.do_edits.new.cursor.editor.now in
     let done : (new : State g.row.S.Denot) → new ≡ left → IsReplyAt means answers (prefix_of (names_of c.args.prefix.now)) c.args.editor.now c.args.edits.items (reply.At c.do_edits.result) new =
-    λ new outside. done_at means answers (prefix_of (names_of c.args.prefix.now)) (names_of c.in-Ok.cursor.prefix.now) c.args.editor.now c.in-Ok.cursor.editor.now left new c.args.edits.items c.do_edits.result
+    λ new outside. done_at means answers (prefix_of (names_of c.args.prefix.now)) c.in-Ok.cursor.editor.now.prefix c.args.editor.now c.in-Ok.cursor.editor.now left new c.args.edits.items c.do_edits.result
     made.prefix made.assured c.do_edits.ensures.replied outside in
     record { replied = done _ (search rules) }
 

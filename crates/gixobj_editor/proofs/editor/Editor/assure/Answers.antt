@@ -12,7 +12,7 @@ use Rattle.gixobj_directories.specs.Openings.{AreTreesOf, RefusesAt}
 use Rattle.gixobj_directories.proofs.Handing.{err_weaker}
 use Rattle.gixobj_directories.proofs.OpeningSteps.{on_err}
 use Rattle.gixobj_editor.specs.Cursors.{RefusesCursor}
-use Rattle.gixobj_editor.proofs.AssuredAt.{assured_at, assured_open, name_refused_at, no_memory_at, refuses_at, still_assured}
+use Rattle.gixobj_editor.proofs.AssuredAt.{assured_at, assured_open, name_refused_at, refuses_at, some_names, still_assured}
 use Rattle.gixobj_editor.proofs.Edited.{at_files, halted_so, opened_so, unchanged_at}
 use Rattle.gixobj_editor.proofs.editor.Editor.assure.Goals as goal
 
@@ -23,7 +23,7 @@ returns-in_err-check_names-clause-refusal g c = err_weaker c.from_residual.resul
 
 pub returns-in_err-check_names-clause-refused : goal.returns-in_err-check_names-clause-refused
 returns-in_err-check_names-clause-refused g c =
-    on_err c.from_residual.result _ (λ trees fits. unchanged_at c.self.inside.store c.self.inside.object_hash trees c.self.inside.root c.self.inside.lookups c.args.self.now c.self.view_is (inside (names_of c.args.path.now)) c.self.invariant)
+    on_err c.from_residual.result _ (λ trees fits. unchanged_at c.self.inside.store c.self.inside.object_hash (names_of c.self.inside.prefix.items) trees c.self.inside.root c.self.inside.lookups c.args.self.now c.self.view_is (inside (names_of c.args.path.now)) c.self.invariant)
 
 pub returns-in_err-open_along-clause-refused : goal.returns-in_err-open_along-clause-refused
 returns-in_err-open_along-clause-refused g c =
@@ -32,7 +32,7 @@ returns-in_err-open_along-clause-refused g c =
     let path = names_of c.args.path.now in
     let stored = ap (λ (o : State _). o.store) c.self.view_is in
     let bad = (c.in_err-open_along.ensures {u = tt}).halted trees (subst (λ o. AreTreesOf (g.S.Store.objects o) trees) (sym stored) fits) in
-    halted_so s.store s.object_hash trees s.root c.open_along.new.self s.lookups c.open_along.new.lookups c.args.self.now c.self.view_is (inside path) path [] refl bad.0 bad.1 bad.2 bad.3 (c.open_along.ensures.still_opened c.self.invariant))
+    halted_so s.store s.object_hash (names_of s.prefix.items) trees s.root c.open_along.new.self s.lookups c.open_along.new.lookups c.args.self.now c.self.view_is (inside path) path [] refl bad.0 bad.1 bad.2 bad.3 (c.open_along.ensures.still_opened c.self.invariant))
 
 pub returns-in_err-open_along-clause-refusal : goal.returns-in_err-open_along-clause-refusal
 returns-in_err-open_along-clause-refusal g c =
@@ -42,8 +42,24 @@ returns-in_err-open_along-clause-refusal g c =
     let stored = ap (λ (o : State _). o.store) c.self.view_is in
     let bad = (c.in_err-open_along.ensures {u = tt}).halted trees (subst (λ o. AreTreesOf (g.S.Store.objects o) trees) (sym stored) fits) in
     subst (RefusesCursor (g.S.Store.objects c.args.self.now.store) (g.S.Store.may_fail c.args.self.now.store) trees (open_dirs c.args.self.now) path) (sym gives)
-    (refuses_at s.store s.object_hash trees (g.S.Store.objects c.args.self.now.store) (g.S.Store.may_fail c.args.self.now.store) s.root c.open_along.new.self s.lookups c.args.self.now c.self.view_is path (c.in_ok-check_names.ensures {u = tt}).accepted c.self.invariant
+    (refuses_at s.store s.object_hash (names_of s.prefix.items) trees (g.S.Store.objects c.args.self.now.store) (g.S.Store.may_fail c.args.self.now.store) s.root c.open_along.new.self s.lookups c.args.self.now c.self.view_is path (c.in_ok-check_names.ensures {u = tt}).accepted c.self.invariant
     bad.0 bad.1 bad.2 c.in_err-open_along.field-0.0 (subst (λ o. RefusesAt (g.S.Store.objects o) (g.S.Store.may_fail o) bad.1 c.in_err-open_along.field-0.0) stored bad.4)))
+
+-- no memory for the names
+pub returns-in_err-prefix-clause-refused : goal.returns-in_err-prefix-clause-refused
+returns-in_err-prefix-clause-refused g c =
+    on_err c.from_residual-in_err-prefix.result _ (λ trees fits.
+    let s = c.self.inside in
+    let path = names_of c.args.path.now in
+    let stored = ap (λ (o : State _). o.store) c.self.view_is in
+    let ok = (c.in_ok-open_along.ensures {u = tt}).opened trees (subst (λ o. AreTreesOf (g.S.Store.objects o) trees) (sym stored) fits) in
+    opened_so s.store s.object_hash (names_of s.prefix.items) trees at_files s.root c.open_along.new.self s.lookups c.open_along.new.lookups c.args.self.now c.self.view_is (inside path) path [] refl ok.0 ok.1 ok.2 (c.open_along.ensures.still_opened c.self.invariant))
+
+pub returns-in_err-prefix-clause-refusal : goal.returns-in_err-prefix-clause-refusal
+returns-in_err-prefix-clause-refusal g c =
+    err_weaker c.from_residual-in_err-prefix.result _ _ c.from_residual-in_err-prefix.ensures.1 (λ error gives trees fits.
+    subst (RefusesCursor (g.S.Store.objects c.args.self.now.store) (g.S.Store.may_fail c.args.self.now.store) trees (open_dirs c.args.self.now) (names_of c.args.path.now)) (sym gives)
+    ((c.in_ok-check_names.ensures {u = tt}).accepted, (c.in_err-prefix.ensures {u = tt}).taken))
 
 pub assure-requires : goal.assure-requires
 assure-requires g c = recursion_from_All IsEntryName (names_of c.args.path.now) (c.in_ok-check_names.ensures {u = tt}).accepted
@@ -56,18 +72,15 @@ returns-in_err-assure-clause-refused g c =
     let stored = ap (λ (o : State _). o.store) c.self.view_is in
     let ok = (c.in_ok-open_along.ensures {u = tt}).opened trees (subst (λ o. AreTreesOf (g.S.Store.objects o) trees) (sym stored) fits) in
     let same : c.assure.new.self ≡ c.open_along.new.self = (c.in_err-assure.ensures {u = tt}).unchanged in
-    opened_so s.store s.object_hash trees at_files s.root c.assure.new.self s.lookups c.open_along.new.lookups c.args.self.now c.self.view_is (inside path) path [] refl ok.0
+    opened_so s.store s.object_hash (names_of s.prefix.items) trees at_files s.root c.assure.new.self s.lookups c.open_along.new.lookups c.args.self.now c.self.view_is (inside path) path [] refl ok.0
     (subst (λ (ds : Opened). Opens IsNoTree trees path (dirs_of s.root) (dirs_of ds) ok.0) (sym same) ok.1) ok.2 (subst (λ (ds : Opened). IsOpened (dirs_of ds)) (sym same) (c.open_along.ensures.still_opened c.self.invariant)))
 
 pub returns-in_err-assure-clause-refusal : goal.returns-in_err-assure-clause-refusal
 returns-in_err-assure-clause-refusal g c =
     err_weaker c.from_residual-in_err-assure.result _ _ c.from_residual-in_err-assure.ensures.1 (λ error gives trees fits.
-    let s = c.self.inside in
     let path = names_of c.args.path.now in
-    let stored = ap (λ (o : State _). o.store) c.self.view_is in
-    let ok = (c.in_ok-open_along.ensures {u = tt}).opened trees (subst (λ o. AreTreesOf (g.S.Store.objects o) trees) (sym stored) fits) in
     subst (RefusesCursor (g.S.Store.objects c.args.self.now.store) (g.S.Store.may_fail c.args.self.now.store) trees (open_dirs c.args.self.now) path) (sym gives)
-    (no_memory_at s.store s.object_hash trees (g.S.Store.objects c.args.self.now.store) (g.S.Store.may_fail c.args.self.now.store) s.root c.open_along.new.self s.lookups c.args.self.now c.self.view_is path ok.0 (c.in_ok-check_names.ensures {u = tt}).accepted ok.1 (c.in_err-assure.ensures {u = tt}).shut))
+    ((c.in_ok-check_names.ensures {u = tt}).accepted, some_names path (dirs_of c.open_along.new.self) (c.open_along.ensures.still_opened c.self.invariant) (c.in_err-assure.ensures {u = tt}).shut))
 
 pub invariant_of-self-2 : goal.invariant_of-self-2
 invariant_of-self-2 g c =
@@ -75,7 +88,7 @@ invariant_of-self-2 g c =
     (c.open_along.ensures.still_opened c.self.invariant) (c.in_ok-assure.ensures {u = tt}).ok
 
 pub returns-clause-is_open : goal.returns-clause-is_open
-returns-clause-is_open g c = assured_open (names_of c.args.path.now) c.null-null.result c.open_along.new.self c.assure.new.self (c.in_ok-assure.ensures {u = tt}).ok
+returns-clause-is_open g c = assured_open (names_of c.args.path.now) c.null-null.result c.open_along.new.self c.assure.new.self (c.in_ok-assure.ensures {u = tt}).ok (names_of c.in_ok-prefix.prefix.items) (c.in_ok-prefix.ensures {u = tt}).copied
 
 pub returns-clause-assured : goal.returns-clause-assured
 returns-clause-assured g c = λ trees fits.
@@ -83,6 +96,6 @@ returns-clause-assured g c = λ trees fits.
     let path = names_of c.args.path.now in
     let stored = ap (λ (o : State _). o.store) c.self.view_is in
     let ok = (c.in_ok-open_along.ensures {u = tt}).opened trees (subst (λ o. AreTreesOf (g.S.Store.objects o) trees) (sym stored) fits) in
-    assured_at s.store s.object_hash trees s.root c.open_along.new.self c.assure.new.self s.lookups c.open_along.new.lookups c.args.self.now c.self.view_is path ok.0 (c.in_ok-check_names.ensures {u = tt}).accepted ok.1
+    assured_at s.store s.object_hash (names_of s.prefix.items) trees s.root c.open_along.new.self c.assure.new.self s.lookups c.open_along.new.lookups c.args.self.now c.self.view_is path ok.0 (c.in_ok-check_names.ensures {u = tt}).accepted ok.1
     (λ at. (c.in_ok-assure.ensures {u = tt}).ok at ∙ ap (λ null. assured_dirs path null (dirs_of c.open_along.new.self) at) c.null-null.ensures.value) ok.2
-    (still_assured path c.null-null.result c.open_along.new.self c.assure.new.self (recursion_from_All IsEntryName path (c.in_ok-check_names.ensures {u = tt}).accepted) (c.open_along.ensures.still_opened c.self.invariant) (c.in_ok-assure.ensures {u = tt}).ok)
+    (still_assured path c.null-null.result c.open_along.new.self c.assure.new.self (recursion_from_All IsEntryName path (c.in_ok-check_names.ensures {u = tt}).accepted) (c.open_along.ensures.still_opened c.self.invariant) (c.in_ok-assure.ensures {u = tt}).ok) (names_of c.in_ok-prefix.prefix.items) (c.in_ok-prefix.ensures {u = tt}).copied

@@ -1,6 +1,9 @@
 -- The root is open.
-use Rattle.gixobj_editor.proofs.Edited.{opened_as}
+use Rattle.std.proofs.Common.{◌≢◌, List, None, subst, sym}
+use Rattle.bstr.specs.declared.bstring.BString.{BString}
+use Rattle.gixobj_directories.specs.Calls.{names_of}
+use Rattle.gixobj_editor.proofs.Edited.{as_map, map_dirs}
 use Rattle.gixobj_editor.proofs.editor.Editor.to_cursor.Goals as goal
 
 pub invariant_of-result : goal.invariant_of-result
-invariant_of-result g c = record { is_open = (opened_as c.self.inside.store c.self.inside.object_hash c.self.inside.root c.self.inside.lookups c.args.self.now c.self.view_is c.self.invariant).root }
+invariant_of-result g c = record { is_open = subst (λ (l : List BString). map_dirs c.self.inside.root (names_of l) ≢ None) (sym c.clear.ensures.items) (as_map c.self.inside.root c.self.invariant).root }

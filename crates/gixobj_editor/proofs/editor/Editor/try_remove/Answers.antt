@@ -18,7 +18,7 @@ returns-in_err-open_for_removal-clause-refused g c =
     let s = c.self.inside in
     let stored = ap (λ (o : State _). o.store) c.self.view_is in
     let bad = (c.in_err-open_for_removal.ensures {u = tt}).refused trees (subst (λ o. AreTreesOf (g.S.Store.objects o) trees) (sym stored) fits) in
-    stopped_at s.store s.object_hash trees at_files s.root c.open_for_removal.new.root s.lookups c.open_for_removal.new.lookups c.args.self.now c.self.view_is (names_of c.args.path.now) bad.0 bad.1 bad.2 bad.3 bad.4 bad.5
+    stopped_at s.store s.object_hash (names_of s.prefix.items) trees at_files s.root c.open_for_removal.new.root s.lookups c.open_for_removal.new.lookups c.args.self.now c.self.view_is (names_of c.args.path.now) bad.0 bad.1 bad.2 bad.3 bad.4 bad.5
     (c.open_for_removal.ensures.still_opened c.self.invariant))
 
 pub returns-in_err-open_for_removal-clause-refusal : goal.returns-in_err-open_for_removal-clause-refusal
@@ -40,5 +40,5 @@ returns-clause-removed g c = λ trees fits.
     let s = c.self.inside in
     let stored = ap (λ (o : State _). o.store) c.self.view_is in
     let ok = (c.in_ok-open_for_removal.ensures {u = tt}).opened trees (subst (λ o. AreTreesOf (g.S.Store.objects o) trees) (sym stored) fits) in
-    removed_at s.store s.object_hash trees at_files s.root c.open_for_removal.new.root c.take.new.self s.lookups c.open_for_removal.new.lookups c.args.self.now c.self.view_is (names_of c.args.path.now) ok.0 (ok.1, ok.3) ok.2 c.take.ensures
+    removed_at s.store s.object_hash (names_of s.prefix.items) trees at_files s.root c.open_for_removal.new.root c.take.new.self s.lookups c.open_for_removal.new.lookups c.args.self.now c.self.view_is (names_of c.args.path.now) ok.0 (ok.1, ok.3) ok.2 c.take.ensures
     (still_taken (names_of c.args.path.now) c.open_for_removal.new.root c.take.new.self (c.open_for_removal.ensures.still_opened c.self.invariant) c.take.ensures)

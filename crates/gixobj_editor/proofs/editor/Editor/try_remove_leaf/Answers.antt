@@ -17,7 +17,7 @@ returns-in_err-open_for_removal-clause-refused g c =
     let s = c.self.inside in
     let stored = ap (λ (o : State _). o.store) c.self.view_is in
     let bad = (c.in_err-open_for_removal.ensures {u = tt}).refused trees (subst (λ o. AreTreesOf (g.S.Store.objects o) trees) (sym stored) fits) in
-    stopped_at s.store s.object_hash trees unasked_idle s.root c.open_for_removal.new.root s.lookups c.open_for_removal.new.lookups c.args.self.now c.self.view_is (names_of c.args.path.now) bad.0 bad.1 bad.2 bad.3 bad.4 bad.5
+    stopped_at s.store s.object_hash (names_of s.prefix.items) trees unasked_idle s.root c.open_for_removal.new.root s.lookups c.open_for_removal.new.lookups c.args.self.now c.self.view_is (names_of c.args.path.now) bad.0 bad.1 bad.2 bad.3 bad.4 bad.5
     (c.open_for_removal.ensures.still_opened c.self.invariant))
 
 pub returns-in_err-open_for_removal-clause-refusal : goal.returns-in_err-open_for_removal-clause-refusal
@@ -40,7 +40,7 @@ returns-in_err-check_leaf-clause-refused g c =
     let s = c.self.inside in
     let stored = ap (λ (o : State _). o.store) c.self.view_is in
     let ok = (c.in_ok-open_for_removal.ensures {u = tt}).opened trees (subst (λ o. AreTreesOf (g.S.Store.objects o) trees) (sym stored) fits) in
-    refused_at s.store s.object_hash trees unasked_idle s.root c.open_for_removal.new.root s.lookups c.open_for_removal.new.lookups c.args.self.now c.self.view_is (names_of c.args.path.now) ok.0 (ok.1, ok.3) ok.2 (c.open_for_removal.ensures.still_opened c.self.invariant))
+    refused_at s.store s.object_hash (names_of s.prefix.items) trees unasked_idle s.root c.open_for_removal.new.root s.lookups c.open_for_removal.new.lookups c.args.self.now c.self.view_is (names_of c.args.path.now) ok.0 (ok.1, ok.3) ok.2 (c.open_for_removal.ensures.still_opened c.self.invariant))
 
 pub returns-in_err-check_leaf-clause-refusal : goal.returns-in_err-check_leaf-clause-refusal
 returns-in_err-check_leaf-clause-refusal g c =
@@ -50,7 +50,7 @@ returns-in_err-check_leaf-clause-refusal g c =
     let stored = ap (λ (o : State _). o.store) c.self.view_is in
     let ok = (c.in_ok-open_for_removal.ensures {u = tt}).opened trees (subst (λ o. AreTreesOf (g.S.Store.objects o) trees) (sym stored) fits) in
     let bad = (c.in_err-check_leaf.ensures {u = tt}).refusal in
-    let told = told_at s.store s.object_hash trees unasked_idle s.root c.open_for_removal.new.root s.lookups c.args.self.now c.self.view_is path ok.0 (ok.1, ok.3) in
+    let told = told_at s.store s.object_hash (names_of s.prefix.items) trees unasked_idle s.root c.open_for_removal.new.root s.lookups c.args.self.now c.self.view_is path ok.0 (ok.1, ok.3) in
     inr ((bad.0, sym told ∙ bad.1, bad.2), subst (RefusesDirectoryAt path) (sym is) bad.3))
 
 pub returns-clause-removed : goal.returns-clause-removed
@@ -58,9 +58,9 @@ returns-clause-removed g c = λ trees fits.
     let s = c.self.inside in
     let stored = ap (λ (o : State _). o.store) c.self.view_is in
     let ok = (c.in_ok-open_for_removal.ensures {u = tt}).opened trees (subst (λ o. AreTreesOf (g.S.Store.objects o) trees) (sym stored) fits) in
-    let told = told_at s.store s.object_hash trees unasked_idle s.root c.open_for_removal.new.root s.lookups c.args.self.now c.self.view_is (names_of c.args.path.now) ok.0 (ok.1, ok.3) in
+    let told = told_at s.store s.object_hash (names_of s.prefix.items) trees unasked_idle s.root c.open_for_removal.new.root s.lookups c.args.self.now c.self.view_is (names_of c.args.path.now) ok.0 (ok.1, ok.3) in
     record {
-      removed = removed_at s.store s.object_hash trees unasked_idle s.root c.open_for_removal.new.root c.take.new.self s.lookups c.open_for_removal.new.lookups c.args.self.now c.self.view_is (names_of c.args.path.now) ok.0 (ok.1, ok.3) ok.2 c.take.ensures
+      removed = removed_at s.store s.object_hash (names_of s.prefix.items) trees unasked_idle s.root c.open_for_removal.new.root c.take.new.self s.lookups c.open_for_removal.new.lookups c.args.self.now c.self.view_is (names_of c.args.path.now) ok.0 (ok.1, ok.3) ok.2 c.take.ensures
           (still_taken (names_of c.args.path.now) c.open_for_removal.new.root c.take.new.self (c.open_for_removal.ensures.still_opened c.self.invariant) c.take.ensures);
       leaf = λ e is. (c.in_ok-check_leaf.ensures {u = tt}).accepted e (told ∙ is);
     }

@@ -24,10 +24,10 @@ returns-in_err-check_names-clause-refusal g c = err_weaker c.from_residual.resul
 
 pub returns-in_err-check_names-clause-refused : goal.returns-in_err-check_names-clause-refused
 returns-in_err-check_names-clause-refused g c =
-    on_err c.from_residual.result _ (λ trees fits. unchanged_at c.self.inside.store c.self.inside.object_hash trees c.self.inside.root c.self.inside.lookups c.args.self.now c.self.view_is (names_of c.args.path.now) c.self.invariant)
+    on_err c.from_residual.result _ (λ trees fits. unchanged_at c.self.inside.store c.self.inside.object_hash (names_of c.self.inside.prefix.items) trees c.self.inside.root c.self.inside.lookups c.args.self.now c.self.view_is (names_of c.args.path.now) c.self.invariant)
 
 pub returns-in_default-clause-upserted : goal.returns-in_default-clause-upserted
-returns-in_default-clause-upserted g c = λ trees fits. nothing_upserted trees c.args.self.now (names_of c.args.path.now) (names_none c.args.path.now c.in_default.ensures.cases) (mode_of_kind c.args.kind) c.args.id (opened_as c.self.inside.store c.self.inside.object_hash c.self.inside.root c.self.inside.lookups c.args.self.now c.self.view_is c.self.invariant)
+returns-in_default-clause-upserted g c = λ trees fits. nothing_upserted trees c.args.self.now (names_of c.args.path.now) (names_none c.args.path.now c.in_default.ensures.cases) (mode_of_kind c.args.kind) c.args.id (opened_as c.self.inside.store c.self.inside.object_hash (names_of c.self.inside.prefix.items) c.self.inside.root c.self.inside.lookups c.args.self.now c.self.view_is c.self.invariant)
 
 pub returns-in_err-open_along-clause-refused : goal.returns-in_err-open_along-clause-refused
 returns-in_err-open_along-clause-refused g c =
@@ -36,7 +36,7 @@ returns-in_err-open_along-clause-refused g c =
     let is = names_last c.args.path.now c.in-Some.directory.now c.in-Some._last.now c.in-Some.ensures.cases.0 in
     let stored = ap (λ (o : State _). o.store) c.self.view_is in
     let bad = (c.in_err-open_along.ensures {u = tt}).halted trees (subst (λ o. AreTreesOf (g.S.Store.objects o) trees) (sym stored) fits) in
-    halted_so s.store s.object_hash trees s.root c.open_along.new.self s.lookups c.open_along.new.lookups c.args.self.now c.self.view_is (names_of c.args.path.now) (names_of c.in-Some.directory.now) (bstring_bytes c.in-Some._last.now) is bad.0 bad.1 bad.2 bad.3 (c.open_along.ensures.still_opened c.self.invariant))
+    halted_so s.store s.object_hash (names_of s.prefix.items) trees s.root c.open_along.new.self s.lookups c.open_along.new.lookups c.args.self.now c.self.view_is (names_of c.args.path.now) (names_of c.in-Some.directory.now) (bstring_bytes c.in-Some._last.now) is bad.0 bad.1 bad.2 bad.3 (c.open_along.ensures.still_opened c.self.invariant))
 
 pub returns-in_err-open_along-clause-refusal : goal.returns-in_err-open_along-clause-refusal
 returns-in_err-open_along-clause-refusal g c =
@@ -46,7 +46,7 @@ returns-in_err-open_along-clause-refusal g c =
     let stored = ap (λ (o : State _). o.store) c.self.view_is in
     let bad = (c.in_err-open_along.ensures {u = tt}).halted trees (subst (λ o. AreTreesOf (g.S.Store.objects o) trees) (sym stored) fits) in
     subst (RefusesUpsert (g.S.Store.objects c.args.self.now.store) (g.S.Store.may_fail c.args.self.now.store) trees (open_dirs c.args.self.now) (names_of c.args.path.now)) (sym gives)
-    (refuses s.store s.object_hash trees (g.S.Store.objects c.args.self.now.store) (g.S.Store.may_fail c.args.self.now.store) s.root c.open_along.new.self s.lookups c.args.self.now c.self.view_is (names_of c.args.path.now) (names_of c.in-Some.directory.now) (bstring_bytes c.in-Some._last.now)
+    (refuses s.store s.object_hash (names_of s.prefix.items) trees (g.S.Store.objects c.args.self.now.store) (g.S.Store.may_fail c.args.self.now.store) s.root c.open_along.new.self s.lookups c.args.self.now c.self.view_is (names_of c.args.path.now) (names_of c.in-Some.directory.now) (bstring_bytes c.in-Some._last.now)
     is (c.in_ok-check_names.ensures {u = tt}).accepted bad.0 bad.1 bad.2 c.in_err-open_along.field-0.0 (subst (λ o. RefusesAt (g.S.Store.objects o) (g.S.Store.may_fail o) bad.1 c.in_err-open_along.field-0.0) stored bad.4)))
 
 pub put-requires : goal.put-requires
@@ -60,7 +60,7 @@ returns-in_err-put-clause-refused g c =
     let stored = ap (λ (o : State _). o.store) c.self.view_is in
     let ok = (c.in_ok-open_along.ensures {u = tt}).opened trees (subst (λ o. AreTreesOf (g.S.Store.objects o) trees) (sym stored) fits) in
     let same : c.put.new.self ≡ c.open_along.new.self = (c.in_err-put.ensures {u = tt}).unchanged in
-    opened_so s.store s.object_hash trees at_files s.root c.put.new.self s.lookups c.open_along.new.lookups c.args.self.now c.self.view_is (names_of c.args.path.now) (names_of c.in-Some.directory.now) (bstring_bytes c.in-Some._last.now) is ok.0
+    opened_so s.store s.object_hash (names_of s.prefix.items) trees at_files s.root c.put.new.self s.lookups c.open_along.new.lookups c.args.self.now c.self.view_is (names_of c.args.path.now) (names_of c.in-Some.directory.now) (bstring_bytes c.in-Some._last.now) is ok.0
     (subst (λ (ds : Opened). Opens IsNoTree trees (names_of c.in-Some.directory.now) (dirs_of s.root) (dirs_of ds) ok.0) (sym same) ok.1) ok.2 (subst (λ (ds : Opened). IsOpened (dirs_of ds)) (sym same) (c.open_along.ensures.still_opened c.self.invariant)))
 
 pub invariant_of-self-2 : goal.invariant_of-self-2
@@ -75,7 +75,7 @@ returns-clause-upserted g c = λ trees fits.
     let is = names_last c.args.path.now c.in-Some.directory.now c.in-Some._last.now c.in-Some.ensures.cases.0 in
     let stored = ap (λ (o : State _). o.store) c.self.view_is in
     let ok = (c.in_ok-open_along.ensures {u = tt}).opened trees (subst (λ o. AreTreesOf (g.S.Store.objects o) trees) (sym stored) fits) in
-    upserted_at s.store s.object_hash trees s.root c.open_along.new.self c.put.new.self s.lookups c.open_along.new.lookups c.args.self.now c.self.view_is (names_of c.args.path.now) (names_of c.in-Some.directory.now) (bstring_bytes c.in-Some._last.now)
+    upserted_at s.store s.object_hash (names_of s.prefix.items) trees s.root c.open_along.new.self c.put.new.self s.lookups c.open_along.new.lookups c.args.self.now c.self.view_is (names_of c.args.path.now) (names_of c.in-Some.directory.now) (bstring_bytes c.in-Some._last.now)
     (mode_of_kind c.args.kind) c.args.id ok.0 is (c.in_ok-check_names.ensures {u = tt}).accepted ok.1
     (λ at. (c.in_ok-put.ensures {u = tt}).ok at ∙ ap (λ mode. upserted_dirs (names_of c.args.path.now) mode c.args.id c.null-null.result (dirs_of c.open_along.new.self) at) c.into.ensures
     ∙ ap (λ null. upserted_dirs (names_of c.args.path.now) (mode_of_kind c.args.kind) c.args.id null (dirs_of c.open_along.new.self) at) c.null-null.ensures.value) ok.2

@@ -3,6 +3,7 @@ use Rattle.std.proofs.Common.{◌∙◌, Err, Ok, ap, subst, sym}
 use Rattle.std.specs.Prelude.{IfErr}
 use Rattle.std.specs.Fn.{CalledAt}
 use Rattle.std.proofs.lemmas.Result.{IfOk-weaker}
+use Rattle.gixobj_directories.specs.Calls.{names_of}
 use Rattle.gixobj_directories.specs.Handing.{Stopped}
 use Rattle.gixobj_files.specs.HandingOut.{HandsOut}
 use Rattle.gixobj_files.specs.Opening.{Dirs}
@@ -18,7 +19,7 @@ invariant_of-self g c =
 pub returns-clause-written : goal.returns-clause-written
 returns-clause-written g c = IfOk-weaker c.write_all.result _ _ (λ it ok.
     let s = c.self.inside in
-    written_at s.store s.object_hash (λ f p h. CalledAt g.F.FnMut f p.1 (Ok p.0) h) s.root c.write_all.new.node s.lookups c.args.self.now c.self.view_is c.self.invariant ok.0 ok.1 it.id it.trees.items c.args.out.now c.write_all.new.out
+    written_at s.store s.object_hash (names_of s.prefix.items) (λ f p h. CalledAt g.F.FnMut f p.1 (Ok p.0) h) s.root c.write_all.new.node s.lookups c.args.self.now c.self.view_is c.self.invariant ok.0 ok.1 it.id it.trees.items c.args.out.now c.write_all.new.out
     ok.2 ok.3 ok.4 ok.5 ok.6) c.write_all.ensures.ok
 
 pub returns-clause-stopped : goal.returns-clause-stopped

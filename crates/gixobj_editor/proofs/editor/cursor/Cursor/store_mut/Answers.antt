@@ -1,7 +1,6 @@
 -- The directory at the prefix is open whatever the store is.
 use Rattle.std.proofs.Common.{◌≢◌, None, ap, refl}
 use denote.Ref.{at_last}
-use Rattle.gixobj_directories.specs.Calls.{names_of}
 use Rattle.gixobj_files.specs.State.{open_dirs, with_store}
 use Rattle.gixobj_editor.specs.declared.editor.cursor.Cursor.{Cursor}
 use Rattle.gixobj_editor.proofs.editor.cursor.Cursor.store_mut.Goals as goal
@@ -12,9 +11,9 @@ returns g c = (
     refl,
     λ w.
         let old = c.args.self.now in
-        let at : (p : open_dirs old.editor.now (names_of old.prefix.now) ≢ None) → Cursor g.row.S.Denot =
-        λ p. record { editor = at_last old.editor (with_store old.editor.now w); prefix = old.prefix; lent_back = old.lent_back; is_open = p } in
-        let one : IsProp (open_dirs old.editor.now (names_of old.prefix.now) ≢ None) = hlevel in
+        let at : (p : open_dirs old.editor.now old.editor.now.prefix ≢ None) → Cursor g.row.S.Denot =
+        λ p. record { editor = at_last old.editor (with_store old.editor.now w); lent_back = old.lent_back; is_open = p } in
+        let one : IsProp (open_dirs old.editor.now old.editor.now.prefix ≢ None) = hlevel in
         ap at (one _ _),
   ),
   record { writes_back = tt; value = c.store_mut.ensures.value },

@@ -4,7 +4,7 @@ use Rattle.gixobj_ids.specs.declared.hash.kind.Kind.TheVariants.{Sha1}
 use Rattle.gixobj_ids.specs.declared.hash.object_id.ObjectId.{ObjectId}
 use Rattle.gixobj_lookups.proofs.Nothing.{answers_whole}
 use Rattle.gixobj_lookups.specs.Nothing.{AnswersId}
-use Rattle.gixobj_lookups.proofs.find.never.NeverWrite.write.Goals as goal
+use Rattle.gixobj_lookups.proofs.find.never.write.NeverWrite.write.Goals as goal
 
 pub returns-clause-written : goal.returns-clause-written
 returns-clause-written g c =
