@@ -1,6 +1,5 @@
 -- The directory's own entry, or none where the directory isn't open.
-use Rattle.std.proofs.Common.{◌≡◌, ◌∙◌, None, ap, subst, sym}
-use Rattle.std.specs.Option.{option_copied}
+use Rattle.std.proofs.Common.{◌≡◌, ◌∙◌, ap, sym}
 use Rattle.gixobj_directories.specs.Calls.{names_of}
 use Rattle.gixobj_directories.specs.Nested.{dirs_of}
 use Rattle.gixobj_files.specs.Edits.{entry_at}

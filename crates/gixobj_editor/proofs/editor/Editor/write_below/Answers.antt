@@ -1,5 +1,5 @@
 -- What went out of the directory at the prefix is what the write handed out.
-use Rattle.std.proofs.Common.{◌≡◌, ◌≢◌, ◌∙◌, List, Err, None, Ok, ap, subst, sym}
+use Rattle.std.proofs.Common.{◌≢◌, ◌∙◌, List, Err, None, Ok, ap, subst, sym}
 use Rattle.std.specs.Prelude.{IfErr}
 use Rattle.std.specs.Fn.{CalledAt}
 use Rattle.std.proofs.lemmas.Result.{IfOk-weaker}

@@ -1,5 +1,4 @@
 -- The directory at the prefix stays open.
-use Rattle.std.proofs.Common.{◌≡◌, ap}
 use Rattle.std.proofs.lemmas.Result.{IfOk-weaker}
 use Rattle.gixobj_editor.proofs.WrittenBelow.{written_open, written_prefix}
 use Rattle.gixobj_editor.proofs.editor.cursor.Cursor.try_write.Goals as goal
