@@ -5,11 +5,11 @@ use gix_object::find::Never;
 use gix_object::hash::{Kind, ObjectId};
 use gix_object::tree::editor::{Edit, Editor, Error, WriteError, Written};
 use gix_object::tree::{Entry, EntryKind};
-use gix_object::{CommitRef, Find, FindExt, Tree, WriteTo, compute_hash, encode};
+use gix_object::{CommitRef, Find, Tree, WriteTo, compute_hash, encode};
 use gixobj_callers::auditor::{place_of, value_of, values_of};
-use gixobj_callers::checkout::{Planned, with_entries_at};
+use gixobj_callers::checkout::{CheckoutError, Planned, with_entries_at};
 use gixobj_callers::importer::{ImportError, import_files, owned_copy_of};
-use gixobj_callers::planner::{PlanError, RootError, with_entry, with_entry_in_stored};
+use gixobj_callers::planner::{PlanError, RootError, with_entry_in_stored};
 use gixobj_callers::store::{CopyError, copy_of};
 use gixobj_callers::walker::{ends_behind_errors, message_of, parents_of, tree_of};
 use gixobj_store::Memory;
@@ -63,21 +63,6 @@ fn id_of(alloc: Global, tree: &Tree) -> Result<ObjectId, encode::Error> {
     Ok(compute_hash(Kind::Sha1, gix_object::Kind::Tree, &bytes))
 }
 
-/// What `git mktree` answers for the one file `hello.txt` of the first id.
-const PLANNED: &[u8] = b"aaa96ced2d9a1c8e72c56b253a0e2fe78393feb7";
-
-#[test]
-fn planned(rt: HostRuntime) -> Result<(), Fail> {
-    let alloc = rt.alloc();
-    let path = vec![in alloc; BString::from_slice(alloc, b"hello.txt")?]?;
-    let id = ObjectId::from_hex(FIRST).ok_or("an id")?;
-    let out = |tree: &Tree| id_of(alloc, tree);
-    let written = with_entry(Tree::empty(alloc), Never, &path, EntryKind::Blob, id, out)?;
-    let written = written.ok_or("a write")?;
-    assert!(rt; ObjectId::from_hex(PLANNED) == Some(written.id));
-    Ok(())
-}
-
 /// A store with the file at the path of these names, the last one first, of the first id, and the id of the tree
 /// above it.
 fn stored(alloc: Global, names: &[&str]) -> Result<(Memory, ObjectId), Fail> {
@@ -99,36 +84,9 @@ fn stored(alloc: Global, names: &[&str]) -> Result<(Memory, ObjectId), Fail> {
     Ok((store, id))
 }
 
-/// The tree of this id in the store.
-fn tree_in(alloc: Global, store: &Memory, id: ObjectId) -> Option<Tree> {
-    let mut buffer = Vec::new(alloc);
-    match store.find_tree(alloc, id.as_oid(), &mut buffer) {
-        Ok(tree) => tree.into_owned(alloc).ok(),
-        Err(_) => None,
-    }
-}
-
 /// What `git mktree --missing` answers for the directory `a` alone, of the files `b` of the first id and `x` of the
 /// second.
 const PLANNED_BESIDE: &[u8] = b"42306307596042142f124b5146c180127d63b0d6";
-
-#[test]
-fn planned_in_a_stored_tree(rt: HostRuntime) -> Result<(), Fail> {
-    let alloc = rt.alloc();
-    let (store, root) = stored(alloc, &["b", "a"])?;
-    let root = tree_in(alloc, &store, root).ok_or("a root")?;
-    if !root.is_well_formed() {
-        return Err("a well-formed root")?;
-    }
-    let path = path_of(alloc, &["a", "x"])?;
-    let id = ObjectId::from_hex(SECOND).ok_or("an id")?;
-    let out = |tree: &Tree| id_of(alloc, tree);
-    let written = with_entry(root, store, &path, EntryKind::Blob, id, out)?;
-    let written = written.ok_or("a write")?;
-    assert!(rt; ObjectId::from_hex(PLANNED_BESIDE) == Some(written.id));
-    assert!(rt; written.trees.len() == 2);
-    Ok(())
-}
 
 /// The blob without content, put at a path into the tree of this id. It has the second id.
 fn plan<S: Find + Drop>(
@@ -150,38 +108,61 @@ const PLANNED_AT_THE_ROOT: &[u8] = b"fa0919f1e8adc1e676ab04434a2d7f5842aeed3e";
 /// What it answers in the same way for the file `x` of the second id alone.
 const PLANNED_ALONE: &[u8] = b"5805b676e247eb9a8046ad0c4d249cd2fb2513df";
 
+/// Whether the blob without content, put at a path into the stored tree of the file `a/b`, makes a root of this id, and so
+/// many trees go out.
+fn is_planned(alloc: Global, names: &[&str], root: &[u8], count: usize) -> Result<bool, Fail> {
+    let path = path_of(alloc, names)?;
+    let (store, stored) = stored(alloc, &["b", "a"])?;
+    let written = plan(alloc, stored, store, &path)?;
+    Ok(ObjectId::from_hex(root) == Some(written.id) && written.trees.len() == count)
+}
+
 #[test]
-fn planned_by_its_id(rt: HostRuntime) -> Result<(), Fail> {
+fn planned_in_a_stored_tree(rt: HostRuntime) -> Result<(), Fail> {
     let alloc = rt.alloc();
-    let (near, far) = (path_of(alloc, &["x"])?, path_of(alloc, &["a", "x"])?);
-    let (store, root) = stored(alloc, &["b", "a"])?;
-    let written = plan(alloc, root, store, &far)?;
-    assert!(rt; ObjectId::from_hex(PLANNED_BESIDE) == Some(written.id));
-    assert!(rt; written.trees.len() == 2);
-    let (store, root) = stored(alloc, &["b", "a"])?;
-    let written = plan(alloc, root, store, &near)?;
-    assert!(rt; ObjectId::from_hex(PLANNED_AT_THE_ROOT) == Some(written.id));
-    assert!(rt; written.trees.len() == 1);
-    let written = plan(alloc, ObjectId::empty_tree(Kind::Sha1), Never, &near)?;
+    assert!(rt; is_planned(alloc, &["a", "x"], PLANNED_BESIDE, 2)?);
+    assert!(rt; is_planned(alloc, &["x"], PLANNED_AT_THE_ROOT, 1)?);
+    Ok(())
+}
+
+#[test]
+fn planned_in_the_empty_tree(rt: HostRuntime) -> Result<(), Fail> {
+    let alloc = rt.alloc();
+    let path = path_of(alloc, &["x"])?;
+    let written = plan(alloc, ObjectId::empty_tree(Kind::Sha1), Never, &path)?;
     assert!(rt; ObjectId::from_hex(PLANNED_ALONE) == Some(written.id));
+    Ok(())
+}
+
+/// Why the blob without content isn't put at a path into the stored tree of these files, the last name first.
+fn plan_refusal(
+    alloc: Global,
+    files: &[&str],
+    names: &[&str],
+) -> Result<Option<PlanError<encode::Error>>, Fail> {
+    let path = path_of(alloc, names)?;
+    let (store, root) = stored(alloc, files)?;
+    Ok(plan(alloc, root, store, &path).err())
+}
+
+#[test]
+fn not_planned_without_a_root(rt: HostRuntime) -> Result<(), Fail> {
+    let alloc = rt.alloc();
+    let path = path_of(alloc, &["x"])?;
+    let answer = plan(alloc, ObjectId::null(Kind::Sha1), Never, &path);
+    assert!(rt; matches!(&answer, Err(PlanError::Root(RootError::Find(_)))));
+    let refusal = plan_refusal(alloc, &["a/b"], &["x"])?;
+    assert!(rt; matches!(&refusal, Some(PlanError::Root(RootError::Malformed))));
     Ok(())
 }
 
 #[test]
 fn not_planned(rt: HostRuntime) -> Result<(), Fail> {
     let alloc = rt.alloc();
-    let path = path_of(alloc, &["x"])?;
-    let answer = plan(alloc, ObjectId::null(Kind::Sha1), Never, &path);
-    assert!(rt; matches!(&answer, Err(PlanError::Root(RootError::Find(_)))));
-    let (store, root) = stored(alloc, &["a/b"])?;
-    let answer = plan(alloc, root, store, &path);
-    assert!(rt; matches!(&answer, Err(PlanError::Root(RootError::Malformed))));
-    let (store, root) = stored(alloc, &["b"])?;
-    let answer = plan(alloc, root, store, &path_of(alloc, &["x", ""])?);
-    assert!(rt; matches!(&answer, Err(PlanError::Edit(Error::EmptyPathComponent))));
-    let (store, root) = stored(alloc, &["b"])?;
-    let answer = plan(alloc, root, store, &path_of(alloc, &["\0"])?);
-    assert!(rt; matches!(&answer, Err(PlanError::Write(WriteError::Out(_)))));
+    let refusal = plan_refusal(alloc, &["b"], &["x", ""])?;
+    assert!(rt; matches!(&refusal, Some(PlanError::Edit(Error::EmptyPathComponent))));
+    let refusal = plan_refusal(alloc, &["b"], &["\0"])?;
+    assert!(rt; matches!(&refusal, Some(PlanError::Write(WriteError::Out(_)))));
     Ok(())
 }
 
@@ -214,9 +195,47 @@ fn checked_out(rt: HostRuntime) -> Result<(), Fail> {
     let out = |tree: &Tree| id_of(alloc, tree);
     let root = Tree::empty(alloc);
     let written = with_entries_at(root, Never, Kind::Sha1, &prefix, &entries, out)?;
-    let written = written.ok_or("a write")?;
     assert!(rt; ObjectId::from_hex(CHECKED_OUT) == Some(written.id));
     assert!(rt; written.trees.len() == 3);
+    Ok(())
+}
+
+/// Why the blob without content isn't put at a path from a directory of the empty root.
+fn checkout_refusal(
+    alloc: Global,
+    prefix: &[&str],
+    names: &[&str],
+) -> Result<Option<CheckoutError<encode::Error>>, Fail> {
+    let prefix = path_of(alloc, prefix)?;
+    let entries = [Planned {
+        path: path_of(alloc, names)?,
+        kind: EntryKind::Blob,
+        id: ObjectId::empty_blob(Kind::Sha1),
+    }];
+    let root = Tree::empty(alloc);
+    let out = |tree: &Tree| id_of(alloc, tree);
+    Ok(with_entries_at(root, Never, Kind::Sha1, &prefix, &entries, out).err())
+}
+
+#[test]
+fn not_checked_out(rt: HostRuntime) -> Result<(), Fail> {
+    let alloc = rt.alloc();
+    let refusal = checkout_refusal(alloc, &["a", ""], &["x"])?;
+    assert!(rt;
+        matches!(
+            &refusal,
+            Some(CheckoutError::Edit(Error::EmptyPathComponent))
+        )
+    );
+    let refusal = checkout_refusal(alloc, &["a"], &["x/y"])?;
+    assert!(rt;
+        matches!(
+            &refusal,
+            Some(CheckoutError::Edit(Error::SlashInPathComponent))
+        )
+    );
+    let refusal = checkout_refusal(alloc, &["a"], &["\0"])?;
+    assert!(rt; matches!(&refusal, Some(CheckoutError::Write(WriteError::Out(_)))));
     Ok(())
 }
 

@@ -1,62 +1,99 @@
--- Entries put into the directory of a cursor, one after the other.
-use Rattle.std.proofs.Common.{◌≡◌, ◌∙◌, ◌≤◌, ◌<◌, ◌+◌, ℕ, List, [], ◌∷◌, ◌++◌, Result, Ok, Err, ap, get_or, length, map, subst, sym, take}
-use Rattle.std.specs.Prelude.{OnOk}
-use Rattle.std.proofs.lemmas.List.{map_more, take_all}
+-- Entries put into the directory of a cursor, one after the other, and which files that makes.
+use Rattle.std.proofs.Common.{◌≡◌, ◌∙◌, ◌≤◌, ◌<◌, ◌+◌, ℕ, List, [], ◌∷◌, ◌++◌, Err, Ok, Result, ap, drop, get_or, inl, inr, length, map, refl, subst, sym, take}
+use Rattle.std.specs.Prelude.{IfErr, OnOk}
+use Rattle.std.proofs.lemmas.List.{drop_more, take-append-drop, take_all, take_more}
+use Rattle.gixobj_base.specs.Entries.{EntryView}
 use Rattle.gixobj_base.specs.Mode.{mode_of_kind}
-use Rattle.gixobj_callers.specs.Checkouts.{put_at, steps_at}
+use Rattle.gixobj_base.specs.ids.hash.kind.Kind.{Kind}
+use Rattle.gixobj_callers.specs.Checkouts.{AreNotPutIn, ArePutIn, IsCheckedOut, IsFilled, IsMade, IsNotFilled, IsNotPutInAt, IsPutInAt, put_at, steps_at}
+use Rattle.gixobj_callers.specs.Plans.{started}
 use Rattle.gixobj_callers.specs.declared.checkout.Planned.{Planned}
-use Rattle.gixobj_callers.proofs.Histories.{one_step_more, same_history}
-use Rattle.gixobj_data.specs.Stores.{Objects}
+use Rattle.gixobj_callers.proofs.Histories.{same_history}
 use Rattle.gixobj_directories.specs.Calls.{names_of}
 use Rattle.gixobj_directories.specs.Openings.{AreTreesOf}
-use Rattle.gixobj_editor.specs.Cursors.{IsAssured, from_root}
-use Rattle.gixobj_editor.specs.Upserts.{IsUpserted}
-use Rattle.gixobj_files.specs.Files.{Assured, Path, SameFiles, Table, Trees}
-use Rattle.gixobj_files.specs.History.{History, Step}
-use Rattle.gixobj_files.specs.State.{EditorFiles, State}
-use Rattle.gixobj_files.specs.Tables.{AgreesWithStore}
-use Rattle.gixobj_files.proofs.EditedFiles.{same_trans}
+use Rattle.gixobj_directories.specs.declared.write.Written.{Written}
+use Rattle.gixobj_editor.specs.Cursors.{RefusesFromRoot, from_root}
+use Rattle.gixobj_editor.specs.Upserts.{IsUpserted, RefusesUpsert}
+use Rattle.gixobj_editor.specs.declared.editor.error.Error.{Error}
+use Rattle.gixobj_files.specs.Files.{Assured, Files, NamedFiles, Path, SameFiles, Table, Trees, Upserted}
+use Rattle.gixobj_files.specs.History.{History}
+use Rattle.gixobj_files.specs.State.{EditorFiles, State, open_dirs}
+use Rattle.gixobj_files.specs.Tables.{AgreesWithPairs, AgreesWithStore, Pair}
+use Rattle.gixobj_files.proofs.EditedFiles.{root_files, same_refl, same_trans}
+use Rattle.gixobj_runs.specs.Replies.{Meaning}
+use Rattle.gixobj_runs.specs.RunTables.{OfTrees}
 
--- over the same store, the files are those of these steps
-pub record HasMade {S : Type 0} (trees : Trees) (old : State S) (steps : List Step) (new : State S) : Type 0 where
-  pub same_store : new.store ≡ old.store
-  pub files : (T : Table) (n : ℕ) → AgreesWithStore T trees → SameFiles (EditorFiles T n new) (History T n steps (EditorFiles T n old))
+module _ {S : Type 0} (means : Meaning S) (prefix : Path) where
+  one_more : (old mid new : State S) (entries : List Planned) (entry : Planned) → ArePutIn means prefix old entries mid → IsPutInAt means prefix mid entry new → ArePutIn means prefix old (entries ++ entry ∷ []) new
+  one_more old mid new [] entry none put = (new, subst (λ (state : State S). IsPutInAt means prefix state entry new) none put, refl)
+  one_more old mid new (first ∷ entries) entry (between, before, rest) put = (between, before, one_more between mid new entries entry rest put)
 
--- these entries are put in at the prefix
-abbrev pub ArePutIn : {S : Type 0} → Trees → State S → Path → List Planned → State S → Type 0
-ArePutIn trees old prefix entries new = HasMade trees old (map (put_at prefix) entries) new
+  refused_behind : (old mid : State S) (front : List Planned) (entry : Planned) (behind : List Planned) (error : Error) → ArePutIn means prefix old front mid → IsNotPutInAt means prefix mid entry error
+      → AreNotPutIn means prefix old (front ++ entry ∷ behind) error
+  refused_behind old mid [] entry behind error none refused = inl (subst (λ (state : State S). IsNotPutInAt means prefix state entry error) none refused)
+  refused_behind old mid (first ∷ front) entry behind error (between, put, rest) refused = inr (between, put, refused_behind between mid front entry behind error rest refused)
 
-one_more_put_in : {S : Type 0} (trees : Trees) (old new last : State S) (prefix : Path) (entries : List Planned) (entry : Planned) → ArePutIn trees old prefix entries new
-    → IsUpserted trees new (from_root prefix (names_of entry.path.items)) (mode_of_kind entry.kind) entry.id last
-    → HasMade trees old (map (put_at prefix) entries ++ put_at prefix entry ∷ []) last
-one_more_put_in {S} trees old new last prefix entries entry before put = record {
-  same_store = ap (λ (state : State S). state.store) put.rest ∙ before.same_store;
-  files = λ T n agrees. same_trans _ _ _ (put.files T n agrees) (one_step_more T n (map (put_at prefix) entries) (put_at prefix entry) (EditorFiles T n old) (EditorFiles T n new) (before.files T n agrees));
-}
+  -- the next entry of a list is put in, by a cursor whose prefix is the same
+  pub next_put_in : (old new last : State S) (here path : Path) (entries : List Planned) (i : ℕ) (entry : Planned) → i < length entries → entry ≡ get_or entries i entry → here ≡ prefix → path ≡ names_of entry.path.items
+      → ArePutIn means prefix old (take i entries) new → OfTrees (means.objects new.store) (λ trees. IsUpserted trees new (from_root here path) (mode_of_kind entry.kind) entry.id last)
+      → ArePutIn means prefix old (take (i + 1) entries) last
+  next_put_in old new last here path entries i entry low is same_prefix same_path before put =
+      let at_path = subst (λ (p : Path). OfTrees (means.objects new.store) (λ trees. IsUpserted trees new (from_root here p) (mode_of_kind entry.kind) entry.id last)) same_path put in
+      let at = subst (λ (p : Path). OfTrees (means.objects new.store) (λ trees. IsUpserted trees new (from_root p (names_of entry.path.items)) (mode_of_kind entry.kind) entry.id last)) same_prefix at_path in
+      let more : take (i + 1) entries ≡ take i entries ++ entry ∷ [] = take_more entries i entry low ∙ ap (λ (x : Planned). take i entries ++ x ∷ []) (sym is) in
+      subst (λ (xs : List Planned). ArePutIn means prefix old xs last) (sym more) (one_more old new last (take i entries) entry before at)
 
--- the next entry of a list, by a cursor whose prefix is the same
-pub next_put_in : {S : Type 0} (trees : Trees) (old new last : State S) (prefix here path : Path) (entries : List Planned) (i : ℕ) (entry : Planned) → i < length entries → entry ≡ get_or entries i entry
-    → here ≡ prefix → path ≡ names_of entry.path.items → ArePutIn trees old prefix (take i entries) new → IsUpserted trees new (from_root here path) (mode_of_kind entry.kind) entry.id last
-    → ArePutIn trees old prefix (take (i + 1) entries) last
-next_put_in trees old new last prefix here path entries i entry low is same_prefix same_path before put =
-    let at_path = subst (λ (p : Path). IsUpserted trees new (from_root here p) (mode_of_kind entry.kind) entry.id last) same_path put in
-    let at = subst (λ (p : Path). IsUpserted trees new (from_root p (names_of entry.path.items)) (mode_of_kind entry.kind) entry.id last) same_prefix at_path in
-    let more = map_more (put_at prefix) entries i entry low ∙ ap (λ (x : Planned). map (put_at prefix) (take i entries) ++ put_at prefix x ∷ []) (sym is) in
-    subst (λ (steps : List Step). HasMade trees old steps last) (sym more) (one_more_put_in trees old new last prefix (take i entries) entry before at)
+  -- it is refused
+  pub next_refused : (old new : State S) (here path : Path) (entries : List Planned) (i : ℕ) (entry : Planned) (error : Error) → i < length entries → entry ≡ get_or entries i entry → here ≡ prefix → path ≡ names_of entry.path.items
+      → ArePutIn means prefix old (take i entries) new
+      → OfTrees (means.objects new.store) (λ trees. RefusesFromRoot path (RefusesUpsert (means.objects new.store) (means.may_fail new.store) trees (open_dirs new) (from_root here path)) error)
+      → AreNotPutIn means prefix old entries error
+  next_refused old new here path entries i entry error low is same_prefix same_path before refused =
+      let at_path = subst (λ (p : Path). OfTrees (means.objects new.store) (λ trees. RefusesFromRoot p (RefusesUpsert (means.objects new.store) (means.may_fail new.store) trees (open_dirs new) (from_root here p)) error)) same_path refused in
+      let at = subst (λ (p : Path). OfTrees (means.objects new.store) (λ trees. RefusesFromRoot (names_of entry.path.items)
+      (RefusesUpsert (means.objects new.store) (means.may_fail new.store) trees (open_dirs new) (from_root p (names_of entry.path.items))) error)) same_prefix at_path in
+      let whole : take i entries ++ entry ∷ drop (i + 1) entries ≡ entries =
+      ap (λ (x : Planned). take i entries ++ x ∷ drop (i + 1) entries) is ∙ ap (λ (xs : List Planned). take i entries ++ xs) (sym (drop_more entries i entry low)) ∙ take-append-drop i entries in
+      subst (λ (xs : List Planned). AreNotPutIn means prefix old xs error) whole (refused_behind old new (take i entries) entry (drop (i + 1) entries) error before at)
 
-pub all_put_in : {S : Type 0} (trees : Trees) (old new : State S) (prefix : Path) (entries : List Planned) (i : ℕ) → length entries ≤ i → ArePutIn trees old prefix (take i entries) new → ArePutIn trees old prefix entries new
-all_put_in trees old new prefix entries i past before = subst (λ (xs : List Planned). ArePutIn trees old prefix xs new) (take_all i entries past) before
+  pub all_put_in : (old new : State S) (entries : List Planned) (i : ℕ) → length entries ≤ i → ArePutIn means prefix old (take i entries) new → ArePutIn means prefix old entries new
+  all_put_in old new entries i past before = subst (λ (xs : List Planned). ArePutIn means prefix old xs new) (take_all i entries past) before
 
--- entries put in behind a cursor that was made, with the editor as the cursor left it
-pub put_in_behind : {S E : Type 0} (r : Result Unit E) (objects : S → Objects) (old made last left : State S) (prefix path : Path) (entries : List Planned) → left ≡ last → prefix ≡ path
-    → ((trees : Trees) → AreTreesOf (objects old.store) trees → IsAssured trees old path made)
-    → OnOk r ((trees : Trees) → AreTreesOf (objects made.store) trees → (T : Table) (n : ℕ) → AgreesWithStore T trees → SameFiles (EditorFiles T n last) (History T n (map (put_at prefix) entries) (EditorFiles T n made)))
-    → OnOk r ((trees : Trees) → AreTreesOf (objects old.store) trees → (T : Table) (n : ℕ) → AgreesWithStore T trees → SameFiles (EditorFiles T n left) (History T n (steps_at path entries) (EditorFiles T n old)))
-put_in_behind {S} (Ok it) objects old made last left prefix path entries is_left same_prefix assured put = λ trees fits T n agrees.
-    let is = assured trees fits in
-    let store : made.store ≡ old.store = ap (λ (state : State S). state.store) is.rest in
-    let behind = put trees (subst (λ (it : S). AreTreesOf (objects it) trees) (sym store) fits) T n agrees in
-    let at = subst (λ (p : Path). SameFiles (EditorFiles T n last) (History T n (map (put_at p) entries) (EditorFiles T n made))) same_prefix behind in
-    subst (λ (state : State S). SameFiles (EditorFiles T n state) (History T n (steps_at path entries) (EditorFiles T n old))) (sym is_left)
-    (same_trans _ _ _ at (same_history T n (map (put_at path) entries) (EditorFiles T n made) (Assured path (EditorFiles T n old)) (is.files T n agrees)))
-put_in_behind (Err error) objects old made last left prefix path entries is_left same_prefix assured put = tt
+  -- behind a cursor that was made at a path, with the editor as the cursor left it
+  pub filled_behind : (r : Result Unit Error) (old made last left : State S) (path : Path) (entries : List Planned) → left ≡ last → prefix ≡ path → IsMade means old path made
+      → OnOk r (ArePutIn means prefix made entries last) → OnOk r (IsFilled means old path entries left)
+  filled_behind (Ok it) old made last left path entries is_left same_prefix is_made put =
+      let here = subst (λ (state : State S). ArePutIn means prefix made entries state) (sym is_left) put in
+      (made, is_made, subst (λ (p : Path). ArePutIn means p made entries left) same_prefix here)
+  filled_behind (Err error) old made last left path entries is_left same_prefix is_made put = tt
+
+  pub refused_in : (r : Result Unit Error) (old made : State S) (path : Path) (entries : List Planned) → prefix ≡ path → IsMade means old path made
+      → IfErr r (AreNotPutIn means prefix made entries) → IfErr r (IsNotFilled means old path entries)
+  refused_in (Ok it) old made path entries same_prefix is_made refused = tt
+  refused_in (Err error) old made path entries same_prefix is_made refused = inr (made, is_made, subst (λ (p : Path). AreNotPutIn means p made entries error) same_prefix refused)
+
+  module _ (trees : Trees) (T : Table) (n : ℕ) (agrees : AgreesWithStore T trees) where
+    put_in_files : (old new : State S) (entries : List Planned) → ArePutIn means prefix old entries new → AreTreesOf (means.objects old.store) trees
+        → SameFiles (EditorFiles T n new) (History T n (map (put_at prefix) entries) (EditorFiles T n old))
+    put_in_files old new [] none fits = subst (λ (state : State S). SameFiles (EditorFiles T n new) (EditorFiles T n state)) none (same_refl _)
+    put_in_files old new (entry ∷ entries) (between, put, rest) fits =
+        let done = put trees fits in
+        let still = subst (λ (store : S). AreTreesOf (means.objects store) trees) (sym (ap (λ (state : State S). state.store) done.rest)) fits in
+        same_trans _ _ _ (put_in_files between new entries rest still)
+        (same_history T n (map (put_at prefix) entries) (EditorFiles T n between) (Upserted T n (from_root prefix (names_of entry.path.items)) (mode_of_kind entry.kind) entry.id (EditorFiles T n old)) (done.files T n agrees))
+
+    filled_files : (old new : State S) (entries : List Planned) → IsFilled means old prefix entries new → AreTreesOf (means.objects old.store) trees
+        → SameFiles (EditorFiles T n new) (History T n (steps_at prefix entries) (EditorFiles T n old))
+    filled_files old new entries (made, is_made, put) fits =
+        let done = is_made trees fits in
+        let still = subst (λ (store : S). AreTreesOf (means.objects store) trees) (sym (ap (λ (state : State S). state.store) done.rest)) fits in
+        same_trans _ _ _ (put_in_files made new entries put still) (same_history T n (map (put_at prefix) entries) (EditorFiles T n made) (Assured prefix (EditorFiles T n old)) (done.files T n agrees))
+
+    -- the tree that is named has the files that the steps make of the root's
+    pub checked_out_files : {F : Type 0} (gave : F → Pair → F → Type 0) (out : F) (store : S) (object_hash : Kind) (root : List EntryView) (entries : List Planned) (written : Written)
+        → IsCheckedOut means (started store object_hash root) prefix entries gave out written → AreTreesOf (means.objects store) trees → AgreesWithPairs T written.trees.items
+        → SameFiles (NamedFiles T n written.id) (History T n (steps_at prefix entries) (Files T n root))
+    checked_out_files gave out store object_hash root entries written (filled, left, last, is_filled, wrote) fits pairs =
+        same_trans _ _ _ (wrote.files T n pairs)
+        (same_trans _ _ _ (filled_files (started store object_hash root) filled entries is_filled fits)
+        (same_history T n (steps_at prefix entries) (EditorFiles T n (started store object_hash root)) (Files T n root) (root_files T n root)))

@@ -1,5 +1,5 @@
 //! A planner of checkouts that works in one directory of a root.
-ghost use Rattle.std.specs.Prelude.{◌≡◌, ℕ, IfOk, IfSome, Ok, OnOk, map};
+ghost use Rattle.std.specs.Prelude.{◌≡◌, ℕ, Err, IfErr, IfOk, Ok, OnOk};
 ghost use Rattle.std.specs.Fn.{CalledAt};
 ghost use Rattle.gixobj_base.specs.Entries.{IsWellFormed};
 ghost use Rattle.gixobj_directories.specs.Calls.{IsCallableOnTrees, names_of};
@@ -7,16 +7,17 @@ ghost use Rattle.gixobj_directories.specs.Openings.{AreTreesOf};
 ghost use Rattle.gixobj_editor.specs.Cursors.{prefix_of};
 ghost use Rattle.gixobj_files.specs.Files.{Files, NamedFiles, SameFiles, Table, Trees};
 ghost use Rattle.gixobj_files.specs.History.{History};
-ghost use Rattle.gixobj_files.specs.State.{EditorFiles};
 ghost use Rattle.gixobj_files.specs.Tables.{AgreesWithPairs, AgreesWithStore};
-ghost use Rattle.gixobj_callers.specs.Checkouts.{put_at, steps_at};
+ghost use Rattle.gixobj_callers.specs.Checkouts.{AreNotPutIn, ArePutIn, IsCheckedOut, IsFilled, IsNotFilled, RefusesCheckout, steps_at};
+ghost use Rattle.gixobj_callers.specs.Plans.{started};
 
 use bstr::BString;
 use gixobj_base::Tree;
 use gixobj_base::hash::{Kind, ObjectId};
 use gixobj_base::tree::EntryKind;
 use gixobj_data::Find;
-use gixobj_editor::editor::{Cursor, Editor, Error, Written};
+use gixobj_editor::editor::{Cursor, Editor, Error, WriteError, Written};
+use std::fmt::Display;
 
 /// An entry that is to be put in, at a path from the directory of the checkout.
 #[derive(Debug, Drop)]
@@ -29,10 +30,21 @@ pub struct Planned {
     pub id: ObjectId,
 }
 
+/// Why no checkout is handed out.
+#[derive(Debug, Drop, thiserror::Error)]
+#[error_bound(E: Display)]
+pub enum CheckoutError<E> {
+    /// The directory wasn't made, or an entry wasn't put in. Nothing was handed out.
+    #[error("not edited: {0}")]
+    Edit(Error),
+    /// Handing out was refused.
+    #[error("not written: {0}")]
+    Write(WriteError<E>),
+}
+
 /// A root with entries put into the directory at a prefix, handed out. The directory is made where it is missing,
 /// also in place of a file; else what is in it stays. In each table that agrees with the store and with what was
 /// handed out, the tree that is named has, to every depth, exactly the files that these steps make of the root's.
-/// `None` where handing out was refused.
 pub fn with_entries_at<S: Find + Drop, E: Drop, F: FnMut(&Tree) -> Result<ObjectId, E> + Drop>(
     root: Tree,
     store: S,
@@ -40,17 +52,22 @@ pub fn with_entries_at<S: Find + Drop, E: Drop, F: FnMut(&Tree) -> Result<Object
     prefix: &[BString],
     entries: &[Planned],
     out: F,
-) -> Result<Option<Written>, Error>
+) -> Result<Written, CheckoutError<E>>
     requires well_formed { IsWellFormed root }
     requires callable { IsCallableOnTrees F.pre (λ f p g. CalledAt F.FnMut f p.1 (Ok p.0) g) out }
-    ensures { IfOk result (λ it. IfSome it (λ written. (trees : Trees) → AreTreesOf (S.objects store) trees → (T : Table) (n : ℕ) → AgreesWithStore T trees → AgreesWithPairs T written.trees.items
-        → SameFiles (NamedFiles T n written.id) (History T n (steps_at (prefix_of (names_of prefix.now)) entries.now) (Files T n root)))) }
+    ensures files { IfOk result (λ written. (trees : Trees) → AreTreesOf (S.objects store) trees → (T : Table) (n : ℕ) → AgreesWithStore T trees → AgreesWithPairs T written.trees.items
+        → SameFiles (NamedFiles T n written.id) (History T n (steps_at (prefix_of (names_of prefix.now)) entries.now) (Files T n root))) }
+    // The directory was filled, and then the write came through; or else it is told which of them didn't, and why.
+    ensures done { IfOk result (IsCheckedOut (record { objects = S.objects; may_fail = S.may_fail }) (started store object_hash root) (prefix_of (names_of prefix.now)) entries.now (λ f p g. CalledAt F.FnMut f p.1 (Ok p.0) g) out) }
+    ensures refusal { IfErr result (RefusesCheckout (record { objects = S.objects; may_fail = S.may_fail }) (started store object_hash root) (prefix_of (names_of prefix.now)) entries.now (λ f p g. CalledAt F.FnMut f p.1 (Ok p.0) g) (λ f t e g. CalledAt F.FnMut f t (Err e) g) out) }
 {
     let mut editor = Editor::new(root, store, object_hash);
-    put_entries_at(&mut editor, prefix, entries)?;
+    if let Err(error) = put_entries_at(&mut editor, prefix, entries) {
+        return Err(CheckoutError::Edit(error));
+    }
     match editor.write(out) {
-        Ok(written) => Ok(Some(written)),
-        Err(_) => Ok(None),
+        Ok(written) => Ok(written),
+        Err(error) => Err(CheckoutError::Write(error)),
     }
 }
 
@@ -60,8 +77,8 @@ fn put_entries_at<S: Find>(
     prefix: &[BString],
     entries: &[Planned],
 ) -> Result<(), Error>
-    ensures { OnOk result ((trees : Trees) → AreTreesOf (S.objects editor.old.store) trees → (T : Table) (n : ℕ) → AgreesWithStore T trees
-        → SameFiles (EditorFiles T n editor.new) (History T n (steps_at (prefix_of (names_of prefix.now)) entries.now) (EditorFiles T n editor.old))) }
+    ensures filled { OnOk result (IsFilled (record { objects = S.objects; may_fail = S.may_fail }) editor.old (prefix_of (names_of prefix.now)) entries.now editor.new) }
+    ensures refusal { IfErr result (IsNotFilled (record { objects = S.objects; may_fail = S.may_fail }) editor.old (prefix_of (names_of prefix.now)) entries.now) }
 {
     let mut cursor = editor.cursor_at(prefix)?;
     put_entries(&mut cursor, entries)
@@ -70,8 +87,8 @@ fn put_entries_at<S: Find>(
 /// Puts entries into the directory of a cursor.
 fn put_entries<S: Find>(cursor: &mut Cursor<'_, S>, entries: &[Planned]) -> Result<(), Error>
     ensures same_reference { cursor.new.editor.ghost_name ≡ cursor.old.editor.ghost_name }
-    ensures files { OnOk result ((trees : Trees) → AreTreesOf (S.objects cursor.old.editor.now.store) trees → (T : Table) (n : ℕ) → AgreesWithStore T trees
-        → SameFiles (EditorFiles T n cursor.new.editor.now) (History T n (map (put_at cursor.old.editor.now.prefix) entries.now) (EditorFiles T n cursor.old.editor.now))) }
+    ensures put_in { OnOk result (ArePutIn (record { objects = S.objects; may_fail = S.may_fail }) cursor.old.editor.now.prefix cursor.old.editor.now entries.now cursor.new.editor.now) }
+    ensures refusal { IfErr result (AreNotPutIn (record { objects = S.objects; may_fail = S.may_fail }) cursor.old.editor.now.prefix cursor.old.editor.now entries.now) }
 {
     for entry in entries {
         cursor.try_upsert(&entry.path, entry.kind, entry.id)?;

@@ -1,5 +1,4 @@
-//! An importer of history, which does edits and has the trees kept that they make, and makes commits its own and
-//! writes them.
+//! An importer of history: of edits, whose trees it has kept, and of commits, which it makes its own and writes.
 ghost use Rattle.std.specs.Prelude.{◌≡◌, ◌↔◌, ℕ, Contains, Err, IfErr, IfOk, IsTrue, OnErr, not, position};
 ghost use Rattle.std.specs.Fn.{FnReturnsAt};
 ghost use Rattle.gixobj_codec.specs.Commit.{CommitLines, IsCommitText};
@@ -82,12 +81,10 @@ pub fn import_files<S: Keep, E: Drop, F: Fn(&Tree) -> Result<ObjectId, E> + Drop
     out: F,
 ) -> Result<Written, ImportError<E>>
     requires callable { IsCallable F.pre out }
-
     ensures root { IfOk result (λ written. (T : Table) (n : ℕ) → AgreesWithObjects T (S.objects editor.old.store) → AgreesWithPairs T written.trees.items
         → SameFiles (NamedFiles T n written.id) (History T n (import_steps edits.items) (EditorFiles T n editor.old))) }
     ensures goes_on { IfOk result (λ written. (T : Table) (n : ℕ) → AgreesWithPairs T written.trees.items → SameFiles (EditorFiles T n editor.new) (NamedFiles T n written.id)) }
     ensures kept { IfOk result (λ written. S.objects editor.new.store ≡ with_trees written.trees.items (S.objects editor.old.store)) }
-
     // Each edit came through, and then the write; or else it is told which call didn't, and why.
     ensures done { IfOk result (λ written. IsWriteBehind (record { objects = S.objects; may_fail = S.may_fail }) (λ tree answer. FnReturnsAt F.Fn out tree answer) editor.old edits.items (EditReply.Written written) editor.new) }
     ensures fails { IfErr result (λ error. FailsImport (record { objects = S.objects; may_fail = S.may_fail }) (λ tree answer. FnReturnsAt F.Fn out tree answer) editor.old edits.items error editor.new) }

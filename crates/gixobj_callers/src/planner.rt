@@ -1,13 +1,11 @@
 //! A planner of checkouts, which goes through the entries of trees, and makes a tree from a stored one.
-ghost use Rattle.std.specs.Prelude.{◌≡◌, ℕ, [], All, Err, IfErr, IfOk, IfSome, IsFalse, List, MatchBool, Ok};
+ghost use Rattle.std.specs.Prelude.{◌≡◌, ℕ, All, Err, IfErr, IfOk, IsFalse, List, MatchBool, Ok};
 ghost use Rattle.std.specs.Fn.{CalledAt};
-ghost use Rattle.gixobj_base.specs.Entries.{EntryView, IsWellFormed};
-ghost use Rattle.gixobj_base.specs.Hash.{id_kind};
+ghost use Rattle.gixobj_base.specs.Entries.{EntryView};
 ghost use Rattle.gixobj_base.specs.Mode.{mode_of_kind};
 ghost use Rattle.gixobj_directories.specs.Calls.{IsCallableOnTrees, names_of};
 ghost use Rattle.gixobj_directories.specs.Openings.{AreTreesOf};
-ghost use Rattle.gixobj_files.specs.Files.{Files, NamedFiles, SameFiles, Table, Trees, Upserted, is_null};
-ghost use Rattle.gixobj_files.specs.State.{root_alone};
+ghost use Rattle.gixobj_files.specs.Files.{NamedFiles, SameFiles, Table, Trees, Upserted, is_null};
 ghost use Rattle.gixobj_files.specs.Tables.{AgreesWithPairs, AgreesWithStore};
 ghost use Rattle.gixobj_codec.specs.TreeReading.{IsNoTreeText, IsTreeText};
 ghost use Rattle.gixobj_codec.specs.TreeRewriting.{ReadsBack};
@@ -70,30 +68,6 @@ pub fn read_back(alloc: Global, tree: &Tree, kind: Kind) -> Result<Tree, CopyErr
     }
 }
 
-/// A root with an entry put in at a path, handed out. In each table that agrees with the store and with what
-/// was handed out, the tree that is named has, to every depth, exactly the files that the edit makes of the
-/// root's. `None` where handing out was refused.
-pub fn with_entry<S: Find + Drop, E: Drop, F: FnMut(&Tree) -> Result<ObjectId, E> + Drop>(
-    root: Tree,
-    store: S,
-    path: &[BString],
-    kind: EntryKind,
-    id: ObjectId,
-    out: F,
-) -> Result<Option<Written>, Error>
-    requires well_formed { IsWellFormed root }
-    requires callable { IsCallableOnTrees F.pre (λ f p g. CalledAt F.FnMut f p.1 (Ok p.0) g) out }
-    ensures { IfOk result (λ it. IfSome it (λ written. (trees : Trees) → AreTreesOf (S.objects store) trees → (T : Table) (n : ℕ) → AgreesWithStore T trees → AgreesWithPairs T written.trees.items
-        → SameFiles (NamedFiles T n written.id) (Upserted T n (names_of path.now) (mode_of_kind kind) id (Files T n root)))) }
-{
-    let mut editor = Editor::new(root, store, id.kind());
-    editor.try_upsert(path, kind, id)?;
-    match editor.write(out) {
-        Ok(written) => Ok(Some(written)),
-        Err(_) => Ok(None),
-    }
-}
-
 /// Why a stored tree is no root.
 #[derive(Debug, Drop, thiserror::Error)]
 pub enum RootError {
@@ -144,23 +118,6 @@ pub fn root_in<S: Find>(alloc: Global, store: &S, id: ObjectId) -> Result<Tree, 
     Ok(root)
 }
 
-/// A new editor of a stored root, with ids of the kind of its own.
-fn editor_in<S: Find + Drop>(
-    alloc: Global,
-    root: ObjectId,
-    store: S,
-) -> Result<Editor<S>, RootError>
-    ensures root { IfOk result (λ editor. (entries : List EntryView) × IsRoot (S.objects store) root entries × (editor.dirs ≡ root_alone entries)) }
-    ensures same_store { IfOk result (λ editor. editor.store ≡ store) }
-    ensures lookups { IfOk result (λ editor. editor.lookups ≡ 0) }
-    ensures object_hash { IfOk result (λ editor. editor.object_hash ≡ id_kind root) }
-    ensures prefix { IfOk result (λ editor. editor.prefix ≡ []) }
-    ensures refusal { IfErr result (RefusesRoot (S.objects store) (S.may_fail store) root) }
-{
-    let tree = root_in(alloc, &store, root)?;
-    Ok(Editor::new(tree, store, root.kind()))
-}
-
 /// A stored root with an entry put in at a path, handed out. The root is looked up by its id; that of the empty tree is
 /// found in every store.
 ///
@@ -177,18 +134,17 @@ pub fn with_entry_in_stored<S: Find + Drop, E: Drop, F: FnMut(&Tree) -> Result<O
     out: F,
 ) -> Result<Written, PlanError<E>>
     requires callable { IsCallableOnTrees F.pre (λ f p g. CalledAt F.FnMut f p.1 (Ok p.0) g) out }
-
     ensures files { IfOk result (λ written. IsFalse (is_null root) → (trees : Trees) → AreTreesOf (S.objects store) trees → (T : Table) (n : ℕ) → AgreesWithStore T trees → AgreesWithPairs T written.trees.items
         → SameFiles (NamedFiles T n written.id) (Upserted T n (names_of path.now) (mode_of_kind kind) id (NamedFiles T n root))) }
-
     // The root was found, the edit came through, and then the write; or else it is told which of them didn't, and why.
     ensures done { IfOk result (IsPlanned (record { objects = S.objects; may_fail = S.may_fail }) store root (names_of path.now) (mode_of_kind kind) id (λ f p g. CalledAt F.FnMut f p.1 (Ok p.0) g) out) }
     ensures refusal { IfErr result (RefusesPlan (record { objects = S.objects; may_fail = S.may_fail }) store root (names_of path.now) (mode_of_kind kind) id (λ f p g. CalledAt F.FnMut f p.1 (Ok p.0) g) (λ f t e g. CalledAt F.FnMut f t (Err e) g) out) }
 {
-    let mut editor = match editor_in(alloc, root, store) {
-        Ok(editor) => editor,
+    let tree = match root_in(alloc, &store, root) {
+        Ok(tree) => tree,
         Err(error) => return Err(PlanError::Root(error)),
     };
+    let mut editor = Editor::new(tree, store, root.kind());
     if let Err(error) = editor.try_upsert(path, kind, id) {
         return Err(PlanError::Edit(error));
     }

@@ -1,18 +1,45 @@
--- The root's files, then those after the steps, then those of the tree that is named.
-use Rattle.std.proofs.Common.{sym, subst}
-use Rattle.gixobj_callers.specs.Checkouts.{steps_at}
-use Rattle.gixobj_callers.proofs.Histories.{same_history}
+-- What a new editor of the root makes of the entries, and the write behind them.
+use Rattle.std.proofs.Common.{subst}
+use Rattle.gixobj_callers.specs.Checkouts.{IsFilled, IsNotFilled}
+use Rattle.gixobj_callers.proofs.Planned.{is_started}
+use Rattle.gixobj_callers.proofs.PutIn.{checked_out_files}
 use Rattle.gixobj_callers.proofs.checkout.with_entries_at.Goals as goal
 use Rattle.gixobj_directories.specs.Calls.{names_of}
-use Rattle.gixobj_directories.specs.Openings.{AreTreesOf}
 use Rattle.gixobj_editor.specs.Cursors.{prefix_of}
-use Rattle.gixobj_files.specs.Files.{Files}
-use Rattle.gixobj_files.specs.State.{EditorFiles}
-use Rattle.gixobj_files.proofs.EditedFiles.{same_trans}
+use Rattle.gixobj_files.specs.State.{State}
+use Rattle.gixobj_runs.specs.Replies.{Meaning}
 
-pub returns-in-Ok : goal.returns-in-Ok
-returns-in-Ok g c = λ trees fits T n agrees pairs.
-    let put = c.in_ok-put_entries_at.ensures {u = tt} trees (subst (λ store. AreTreesOf (g.S.Store.objects store) trees) (sym c.new-editor.ensures.store) fits) T n agrees in
-    let wrote = (c.in-Ok.ensures {u = tt}).written in
-    same_trans _ _ _ (wrote.1.files T n pairs)
-    (same_trans _ _ _ put (same_history T n (steps_at (prefix_of (names_of c.args.prefix.now)) c.args.entries.now) (EditorFiles T n c.new-editor.result) (Files T n c.args.root) (c.new-editor.ensures.files T n)))
+pub returns-in-Err-clause-refusal : goal.returns-in-Err-clause-refusal
+returns-in-Err-clause-refusal g c =
+    let means : Meaning g.row.S.Denot = record { objects = g.S.Store.objects; may_fail = g.S.Store.may_fail } in
+    let new = c.new-editor.ensures in
+    let begun = is_started c.new-editor.result c.args.store c.args.object_hash c.args.root new.dirs new.store new.lookups new.object_hash new.prefix in
+    subst (λ (state : State g.row.S.Denot). IsNotFilled means state (prefix_of (names_of c.args.prefix.now)) c.args.entries.now c.in-Err.error) begun (c.in-Err.ensures {u = tt}).refusal
+
+pub returns-in-Ok-clause-files : goal.returns-in-Ok-clause-files
+returns-in-Ok-clause-files g c = λ trees fits T n agrees pairs.
+    let means : Meaning g.row.S.Denot = record { objects = g.S.Store.objects; may_fail = g.S.Store.may_fail } in
+    let new = c.new-editor.ensures in
+    let begun = is_started c.new-editor.result c.args.store c.args.object_hash c.args.root new.dirs new.store new.lookups new.object_hash new.prefix in
+    let filled = subst (λ (state : State g.row.S.Denot). IsFilled means state (prefix_of (names_of c.args.prefix.now)) c.args.entries.now c.put_entries_at.new.editor) begun (c.in_default.ensures {u = tt}).filled in
+    let (last, wrote) = (c.in-Ok.ensures {u = tt}).written in
+    checked_out_files means (prefix_of (names_of c.args.prefix.now)) trees T n agrees _ c.args.out c.args.store c.args.object_hash c.args.root c.args.entries.now c.in-Ok.written
+    (c.put_entries_at.new.editor, c.write.new.self, last, filled, wrote) fits pairs
+
+pub returns-in-Ok-clause-done : goal.returns-in-Ok-clause-done
+returns-in-Ok-clause-done g c =
+    let means : Meaning g.row.S.Denot = record { objects = g.S.Store.objects; may_fail = g.S.Store.may_fail } in
+    let new = c.new-editor.ensures in
+    let begun = is_started c.new-editor.result c.args.store c.args.object_hash c.args.root new.dirs new.store new.lookups new.object_hash new.prefix in
+    let filled = subst (λ (state : State g.row.S.Denot). IsFilled means state (prefix_of (names_of c.args.prefix.now)) c.args.entries.now c.put_entries_at.new.editor) begun (c.in_default.ensures {u = tt}).filled in
+    let (last, wrote) = (c.in-Ok.ensures {u = tt}).written in
+    (c.put_entries_at.new.editor, c.write.new.self, last, filled, wrote)
+
+pub returns-clause-refusal : goal.returns-clause-refusal
+returns-clause-refusal g c =
+    let means : Meaning g.row.S.Denot = record { objects = g.S.Store.objects; may_fail = g.S.Store.may_fail } in
+    let new = c.new-editor.ensures in
+    let begun = is_started c.new-editor.result c.args.store c.args.object_hash c.args.root new.dirs new.store new.lookups new.object_hash new.prefix in
+    let filled = subst (λ (state : State g.row.S.Denot). IsFilled means state (prefix_of (names_of c.args.prefix.now)) c.args.entries.now c.put_entries_at.new.editor) begun (c.in_default.ensures {u = tt}).filled in
+    let (last, stopped) = (c.in-Err-write.ensures {u = tt}).stopped in
+    (c.put_entries_at.new.editor, last, filled, stopped)
