@@ -1,0 +1,7 @@
+//! Tests of callers of the readers and the writers, each once with ample memory.
+#![tactic(auto)]
+
+#[cfg(test)]
+mod copies;
+#[cfg(test)]
+mod tags;
