@@ -1,9 +1,9 @@
 //! Answers about actors, as the recorded ones are written.
 
+use crate::recorded::texts::{bytes_of, fault, hex_of, size_text, text_of, written_text};
 use crate::texts::time_text;
 use gixobj_base::actor::{Signature, SignatureRef};
 use gixobj_base::decode;
-use gixobj_recorded::texts::{bytes_of, fault, hex_of, size_text, text_of, written_text};
 use std::alloc::{AllocError, Global};
 
 /// What the public calls say of an actor's line.

@@ -1,9 +1,9 @@
 //! Answers of the public calls, as the recorded ones are written.
 
+use crate::recorded::texts::{bytes_of, text_of};
 use bstr::ByteSlice;
 use gixobj_base::decode::{LooseHeaderDecodeError, ParseIntegerErrorKind, loose_header};
 use gixobj_base::tree::{EntryMode, name_order};
-use gixobj_recorded::texts::{bytes_of, text_of};
 use std::alloc::{AllocError, Global};
 use std::cmp::Ordering;
 

@@ -6,12 +6,12 @@ mod told;
 
 use crate::actors::{actor_text, owned_text};
 use crate::objects::id_text;
+use crate::recorded::objects::{put_sizes, written_of};
+use crate::recorded::texts::{Columns, bytes_of, fault, hex_of, text_of};
 use crate::texts::{hex_if_some, time_text};
 use gixobj_base::hash::Kind::Sha1;
 use gixobj_base::{Kind, compute_hash, decode};
 use gixobj_codec::{Commit, CommitRef};
-use gixobj_recorded::objects::{put_sizes, written_of};
-use gixobj_recorded::texts::{Columns, bytes_of, fault, hex_of, text_of};
 use std::alloc::{AllocError, Global};
 pub(crate) use told::token_answer;
 

@@ -1,22 +1,26 @@
-//! Asks the public calls for what the Rust crate answered, as `data/` has it, and prints for each
-//! file how many answers agree, and the first ones that don't.
+//! Asks the public calls for what `git` or the Rust crate answered, or for what a rule says, as `data/` has it,
+//! and prints for each file how many answers agree, and the ones that don't.
 #![tactic(auto)]
 
 mod actors;
 mod answers;
 mod commits;
+mod kinds;
+mod loose_objects;
 mod objects;
+mod recorded;
 mod tables;
 mod tags;
 mod texts;
+mod trees;
 
-use gixobj_recorded::tables::replay_all;
+use recorded::tables::replay_all;
 use std::io::Write;
 use std::process::ExitCode;
 use tables::TABLES;
 
 fn main(rt: HostRuntime) -> ExitCode {
-    match replay_all(&rt, &TABLES) {
+    match replay_all(&rt, TABLES) {
         Ok(true) => ExitCode::SUCCESS,
         Ok(false) => ExitCode::FAILURE,
         Err(error) => {

@@ -1,9 +1,9 @@
 //! Ids, as the recorded answers have them.
 
+use crate::recorded::texts::{fault, hex_of};
 use bstr::BStr;
 use gixobj_base::decode;
 use gixobj_base::hash::ObjectId;
-use gixobj_recorded::texts::{fault, hex_of};
 use std::alloc::{AllocError, Global};
 
 /// An id, in hex as it stands in an object and as it is written.

@@ -1,12 +1,14 @@
 //! The tables of this program.
-ghost use Rattle.std.specs.Prelude.{◌≡◌, ◌++◌, ◌∷◌, IfSome};
 
 use crate::actors::actor_answer;
 use crate::answers::{header_answer, mode_answer, number_answer, order_answer};
 use crate::commits::{commit_answer, size_answer, token_answer};
+use crate::kinds::kind_answer;
+use crate::loose_objects::object_answer;
+use crate::recorded::tables::{Recorded, named_parts};
 use crate::tags::{name_answer, tag_answer, tag_token_answer};
+use crate::trees::{tree_answer, tree_token_answer};
 use gixobj_base::parse::{split_at_byte, split_at_last_byte};
-use gixobj_recorded::tables::Recorded;
 use std::alloc::{AllocError, Global};
 
 /// A file of recorded answers.
@@ -34,10 +36,18 @@ pub(crate) enum Table {
     TagTokens,
     /// Names of tags judged.
     TagNames,
+    /// Trees read whole and written.
+    Trees,
+    /// Trees told entry by entry.
+    TreeTokens,
+    /// Loose objects read and written.
+    Objects,
+    /// Words of kinds.
+    Kinds,
 }
 
 /// All of them.
-pub(crate) const TABLES: [Table; 11] = [
+pub(crate) const TABLES: &[Table] = &[
     Table::Modes,
     Table::ModeNumbers,
     Table::NameOrder,
@@ -49,6 +59,10 @@ pub(crate) const TABLES: [Table; 11] = [
     Table::Tags,
     Table::TagTokens,
     Table::TagNames,
+    Table::Trees,
+    Table::TreeTokens,
+    Table::Objects,
+    Table::Kinds,
 ];
 
 impl Recorded for Table {
@@ -65,6 +79,10 @@ impl Recorded for Table {
             Table::Tags => ("tags", "tags.tsv"),
             Table::TagTokens => ("tag tokens", "tag-tokens.tsv"),
             Table::TagNames => ("tag names", "tag-names.tsv"),
+            Table::Trees => ("trees", "trees.tsv"),
+            Table::TreeTokens => ("tree tokens", "tree-tokens.tsv"),
+            Table::Objects => ("objects", "objects.tsv"),
+            Table::Kinds => ("kinds", "kinds.tsv"),
         }
     }
 
@@ -81,18 +99,32 @@ impl Recorded for Table {
             Table::Tags => tag_answer(alloc, question),
             Table::TagTokens => tag_token_answer(alloc, question),
             Table::TagNames => name_answer(alloc, question),
+            Table::Trees => tree_answer(alloc, question),
+            Table::TreeTokens => tree_token_answer(alloc, question),
+            Table::Objects => object_answer(alloc, question),
+            Table::Kinds => kind_answer(alloc, question),
         }
     }
 
-    fn parts<'a>(self, line: &'a [u8]) -> Option<(&'a [u8], &'a [u8])>
-        ensures { IfSome result (λ it. line.now ≡ it.0.now ++ 9 ∷ it.1.now) }
-    {
-        if line.starts_with(b"#") {
-            return None;
-        }
+    /// Rows of the Rust crate's recorded answers begin with the question, all others with their name and
+    /// where the answer is from.
+    fn parts<'a>(self, line: &'a [u8]) -> Option<(&'a [u8], &'a [u8])> {
         match self {
             Table::NameOrder => split_at_last_byte(line, b'\t'),
-            _ => split_at_byte(line, b'\t'),
+            Table::Modes
+            | Table::ModeNumbers
+            | Table::LooseHeaders
+            | Table::Actors
+            | Table::Commits
+            | Table::CommitSizes
+            | Table::CommitTokens
+            | Table::Tags
+            | Table::TagTokens
+            | Table::TagNames
+            | Table::Trees
+            | Table::TreeTokens
+            | Table::Objects => split_at_byte(line, b'\t'),
+            _ => named_parts(line),
         }
     }
 }

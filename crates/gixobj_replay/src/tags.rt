@@ -4,16 +4,16 @@ mod told;
 
 use crate::actors::{actor_after, owned_text};
 use crate::objects::id_text;
+use crate::recorded::objects::{put_sizes, written_of};
+use crate::recorded::texts::{
+    Columns, bytes_of, fault, hex_of, name_fault, text_and_kind, text_of,
+};
 use crate::texts::{hex_after, hex_if_some};
 use bstr::BStr;
 use gixobj_base::actor::{Signature, SignatureRef};
 use gixobj_base::decode;
 use gixobj_codec::tag::write;
 use gixobj_codec::{Tag, TagRef};
-use gixobj_recorded::objects::{put_sizes, written_of};
-use gixobj_recorded::texts::{
-    Columns, bytes_of, fault, hex_of, name_fault, text_and_kind, text_of,
-};
 use gixobj_text::signature;
 use gixobj_text::signature::Format;
 use std::alloc::{AllocError, Global};

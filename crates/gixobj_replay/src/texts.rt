@@ -1,8 +1,8 @@
 //! How parts of commits and tags are spelled in the files of recorded answers.
 
+use crate::recorded::texts::hex_of;
 use bstr::BStr;
 use gixobj_base::date::Time;
-use gixobj_recorded::texts::hex_of;
 use std::alloc::{AllocError, Global};
 
 /// The bytes in hex digits, or `-`.

@@ -2,11 +2,11 @@
 
 use crate::actors::{actor_after, actor_text, borrowed_text};
 use crate::objects::told_id;
+use crate::recorded::texts::{Columns, bytes_of, fault, hex_of, text_of};
 use crate::texts::hex_after;
 use gixobj_base::hash::Kind::Sha1;
 use gixobj_codec::CommitRefIter;
 use gixobj_codec::commit::ref_iter::Token;
-use gixobj_recorded::texts::{Columns, bytes_of, fault, hex_of, text_of};
 use std::alloc::{AllocError, Global};
 
 /// What the public calls tell of a commit token by token.

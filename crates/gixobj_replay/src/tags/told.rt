@@ -3,10 +3,10 @@
 use super::tagger_text;
 use crate::actors::actor_after;
 use crate::objects::told_id;
+use crate::recorded::texts::{Columns, fault, text_and_kind, text_of};
 use crate::texts::{hex_after, hex_if_some};
 use gixobj_codec::TagRefIter;
 use gixobj_codec::tag::ref_iter::Token;
-use gixobj_recorded::texts::{Columns, fault, text_and_kind, text_of};
 use std::alloc::{AllocError, Global};
 
 /// What the public calls tell of a tag token by token.

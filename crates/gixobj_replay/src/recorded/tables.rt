@@ -1,5 +1,4 @@
 //! Tables of recorded answers: a row is a question, a tab, and the answer.
-ghost use Rattle.std.specs.Prelude.{◌≡◌, ◌++◌, ◌∷◌, IfSome};
 
 use gixobj_base::parse::split_at_byte;
 use std::alloc::{AllocError, Global};
@@ -8,22 +7,22 @@ use std::rt::Files;
 use std::{fs, io};
 
 /// A file of recorded answers.
-pub trait Recorded: Copy {
+pub(crate) trait Recorded: Copy {
     /// The name that is printed, and that of the file.
     fn names(self) -> (&'static str, &'static str);
 
     /// What the public calls answer, as the file would have it.
     fn answer(self, alloc: Global, question: &[u8]) -> Result<Vec<u8>, AllocError>;
 
-    /// The question of a row and its answer, or none where the line is no row.
-    fn parts<'a>(self, line: &'a [u8]) -> Option<(&'a [u8], &'a [u8])>
-        ensures { IfSome result (λ it. line.now ≡ it.0.now ++ 9 ∷ it.1.now) }
-    {
-        if line.starts_with(b"#") {
-            return None;
-        }
-        split_at_byte(line, b'\t')
-    }
+    /// The question of a row and its answer, or none where the line is no row of this table.
+    fn parts<'a>(self, line: &'a [u8]) -> Option<(&'a [u8], &'a [u8])>;
+}
+
+/// The question and the answer of a row that begins with its name and where its answer is from.
+pub(crate) fn named_parts(line: &[u8]) -> Option<(&[u8], &[u8])> {
+    let (_name, line) = split_at_byte(line, b'\t')?;
+    let (_from, line) = split_at_byte(line, b'\t')?;
+    split_at_byte(line, b'\t')
 }
 
 /// How many answers agree, and how many there are.
@@ -37,7 +36,7 @@ struct Count {
 
 /// Compares the answers of the tables, prints for each how many agree, and each answer that doesn't.
 /// Answers whether all agree.
-pub fn replay_all<R: Files + Print + AllocGlobal, T: Recorded>(
+pub(crate) fn replay_all<R: Files + Print + AllocGlobal, T: Recorded>(
     rt: &R,
     tables: &[T],
 ) -> io::Result<bool> {
@@ -69,6 +68,9 @@ fn replay<T: Recorded, W: Write>(
 ) -> Result<Count, AllocError> {
     let mut count = Count { same: 0, all: 0 };
     for line in text.split(|byte| *byte == b'\n') {
+        if line.starts_with(b"#") {
+            continue;
+        }
         let Some((question, recorded)) = table.parts(line) else {
             continue;
         };

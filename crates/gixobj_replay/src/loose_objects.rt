@@ -1,9 +1,9 @@
 //! Answers about loose objects of any kind, as the recorded ones are written.
 
+use crate::recorded::objects::{put_sizes, written_of};
+use crate::recorded::texts::{Columns, text_and_kind, text_of};
 use gixobj_base::Kind;
 use gixobj_codec::{LooseDecodeError, ObjectRef};
-use gixobj_recorded::objects::{put_sizes, written_of};
-use gixobj_recorded::texts::{Columns, text_and_kind, text_of};
 use std::alloc::{AllocError, Global};
 
 /// What the public calls say of a loose object that is read and written.

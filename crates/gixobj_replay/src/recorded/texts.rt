@@ -1,7 +1,4 @@
 //! How answers are spelled in the files of recorded ones.
-ghost use Rattle.std.specs.Prelude.{◌≡◌, ◌∷◌, IfOk};
-ghost use Rattle.std.specs.String.{string_bytes};
-ghost use Rattle.hex.specs.Hex.{encode_lower};
 
 use gixobj_base::encode::RefNameFault;
 use gixobj_base::parse::split_at_byte;
@@ -9,7 +6,7 @@ use gixobj_base::{decode, encode, hash};
 use std::alloc::{AllocError, Global};
 
 /// The bytes of `x` and hex digits; none for another text.
-pub fn bytes_of(alloc: Global, field: &[u8]) -> Vec<u8> {
+pub(crate) fn bytes_of(alloc: Global, field: &[u8]) -> Vec<u8> {
     match field {
         [b'x', digits @ ..] => match hex::decode(alloc, digits) {
             Ok(bytes) => bytes,
@@ -20,7 +17,7 @@ pub fn bytes_of(alloc: Global, field: &[u8]) -> Vec<u8> {
 }
 
 /// The bytes of a text, and behind a space the kind of its ids.
-pub fn text_and_kind(alloc: Global, question: &[u8]) -> (Vec<u8>, hash::Kind) {
+pub(crate) fn text_and_kind(alloc: Global, question: &[u8]) -> (Vec<u8>, hash::Kind) {
     let (text, word) = split_at_byte(question, b' ').unwrap_or((question, b""));
     let hash_kind = match word {
         b"sha256" => hash::Kind::Sha256,
@@ -30,23 +27,19 @@ pub fn text_and_kind(alloc: Global, question: &[u8]) -> (Vec<u8>, hash::Kind) {
 }
 
 /// The bytes of a text.
-pub fn text_of(alloc: Global, text: &str) -> Result<Vec<u8>, AllocError>
-    ensures { IfOk result (λ answer. answer.items ≡ text.now) }
-{
+pub(crate) fn text_of(alloc: Global, text: &str) -> Result<Vec<u8>, AllocError> {
     Vec::from_slice(alloc, text.as_bytes())
 }
 
 /// `x`, and the bytes in hex digits.
-pub fn hex_of(alloc: Global, bytes: &[u8]) -> Result<String, AllocError>
-    ensures { IfOk result (λ text. string_bytes text ≡ 120 ∷ encode_lower bytes.now) }
-{
+pub(crate) fn hex_of(alloc: Global, bytes: &[u8]) -> Result<String, AllocError> {
     let mut text = String::from_str(alloc, "x")?;
     text.push_str(hex::encode(alloc, bytes)?.as_str())?;
     Ok(text)
 }
 
 /// A count of bytes.
-pub fn size_text(alloc: Global, size: Option<u64>) -> Result<String, AllocError> {
+pub(crate) fn size_text(alloc: Global, size: Option<u64>) -> Result<String, AllocError> {
     match size {
         Some(size) => format!(in alloc; "{size}"),
         None => String::from_str(alloc, "-"),
@@ -54,7 +47,7 @@ pub fn size_text(alloc: Global, size: Option<u64>) -> Result<String, AllocError>
 }
 
 /// How writing went, and the bytes that were written.
-pub fn written_text(
+pub(crate) fn written_text(
     alloc: Global,
     outcome: Result<(), encode::Error>,
     written: &[u8],
@@ -72,7 +65,7 @@ pub fn written_text(
 }
 
 /// What is wrong with the name of a tag.
-pub fn name_fault(fault: RefNameFault) -> &'static str {
+pub(crate) fn name_fault(fault: RefNameFault) -> &'static str {
     match fault {
         RefNameFault::Empty => "err InvalidRefName Empty",
         RefNameFault::DotStart => "err InvalidRefName DotStart",
@@ -87,7 +80,7 @@ pub fn name_fault(fault: RefNameFault) -> &'static str {
 }
 
 /// Why nothing is read.
-pub fn fault(error: &decode::Error) -> &'static str {
+pub(crate) fn fault(error: &decode::Error) -> &'static str {
     match error {
         decode::Error::Malformed => "err",
         decode::Error::OutOfMemory => "err OutOfMemory",
@@ -96,27 +89,27 @@ pub fn fault(error: &decode::Error) -> &'static str {
 
 /// The columns of an answer, apart by tabs.
 #[derive(Drop)]
-pub struct Columns {
+pub(crate) struct Columns {
     text: String,
 }
 
 impl Columns {
     /// No columns.
-    pub fn new(alloc: Global) -> Columns {
+    pub(crate) fn new(alloc: Global) -> Columns {
         Columns {
             text: String::new(alloc),
         }
     }
 
     /// One more column: a word, and a value behind a space.
-    pub fn put(&mut self, word: &str, value: &str) -> Result<(), AllocError> {
+    pub(crate) fn put(&mut self, word: &str, value: &str) -> Result<(), AllocError> {
         self.put_word(word)?;
         self.text.push_str(" ")?;
         self.text.push_str(value)
     }
 
     /// One more column: a word.
-    pub fn put_word(&mut self, word: &str) -> Result<(), AllocError> {
+    pub(crate) fn put_word(&mut self, word: &str) -> Result<(), AllocError> {
         if !self.text.is_empty() {
             self.text.push_str("\t")?;
         }
@@ -124,7 +117,7 @@ impl Columns {
     }
 
     /// Their text.
-    pub fn as_str(&self) -> &str {
+    pub(crate) fn as_str(&self) -> &str {
         self.text.as_str()
     }
 }

@@ -1,11 +1,11 @@
 //! Answers about objects of any kind, as the recorded ones are written.
 
-use crate::texts::{Columns, hex_of, size_text, written_text};
+use crate::recorded::texts::{Columns, hex_of, size_text, written_text};
 use gixobj_base::WriteTo;
 use std::alloc::{AllocError, Global};
 
 /// What is written of an object, borrowed or owned.
-pub fn written_of<T: WriteTo>(alloc: Global, object: &T) -> Result<String, AllocError>
+pub(crate) fn written_of<T: WriteTo>(alloc: Global, object: &T) -> Result<String, AllocError>
     requires { T.can_write object.now }
 {
     let mut out = Vec::new(alloc);
@@ -14,7 +14,7 @@ pub fn written_of<T: WriteTo>(alloc: Global, object: &T) -> Result<String, Alloc
 }
 
 /// The columns of an object's size and of its loose header, under these words.
-pub fn put_sizes<T: WriteTo>(
+pub(crate) fn put_sizes<T: WriteTo>(
     alloc: Global,
     object: &T,
     size: &str,

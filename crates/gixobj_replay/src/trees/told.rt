@@ -1,9 +1,9 @@
 //! Answers about trees that are told entry by entry, as the recorded ones are written.
 
 use super::entry_text;
+use crate::recorded::texts::{Columns, fault, text_and_kind, text_of};
 use gixobj_codec::TreeRefIter;
 use gixobj_codec::laws::bytes_left_end_the_text;
-use gixobj_recorded::texts::{Columns, fault, text_and_kind, text_of};
 use std::alloc::{AllocError, Global};
 
 /// What the public calls tell of a tree entry by entry.

@@ -2,11 +2,11 @@
 
 mod told;
 
+use crate::recorded::objects::{put_sizes, written_of};
+use crate::recorded::texts::{Columns, fault, hex_of, text_and_kind, text_of};
 use gixobj_base::{OutOfMemory, Tree, decode};
 use gixobj_codec::TreeRef;
 use gixobj_codec::tree::EntryRef;
-use gixobj_recorded::objects::{put_sizes, written_of};
-use gixobj_recorded::texts::{Columns, fault, hex_of, text_and_kind, text_of};
 use std::alloc::{AllocError, Global};
 pub(crate) use told::tree_token_answer;
 

@@ -1,5 +1,5 @@
 use Rattle.std.proofs.Common.{Some}
-use Rattle.gixobj_replay_objects.proofs.trees.told.tree_token_answer.Goals as goal
+use Rattle.gixobj_replay.proofs.trees.told.tree_token_answer.Goals as goal
 
 pub loop-entry-init : goal.loop-entry-init
 loop-entry-init c = c.bytes_left_end_the_text.ensures.starts _ _ c.from_bytes-told.result c.from_bytes-told.ensures
