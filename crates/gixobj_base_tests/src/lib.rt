@@ -8,10 +8,6 @@ mod blob;
 #[cfg(test)]
 mod date;
 #[cfg(test)]
-mod decode;
-#[cfg(test)]
-mod digest;
-#[cfg(test)]
 mod fields;
 #[cfg(test)]
 mod hash;

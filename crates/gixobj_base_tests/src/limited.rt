@@ -1,5 +1,6 @@
 //! A writer that fails, for tests.
 
+use gixobj_base::encode::Error;
 use std::io;
 use std::io::{ErrorKind, Write};
 
@@ -23,5 +24,12 @@ impl Write for Limited {
 
     fn flush(&mut self) -> io::Result<()> {
         Ok(())
+    }
+}
+
+impl Limited {
+    /// Whether writing ended with this writer's failure, and it holds exactly so many bytes of a text.
+    pub fn stopped_at(&self, outcome: &Result<(), Error>, text: &[u8], room: usize) -> bool {
+        matches!(outcome, Err(Error::Writer(_))) && Some(self.held.as_slice()) == text.get(..room)
     }
 }

@@ -1,7 +1,7 @@
-//! Want of memory.
+//! Want of memory, and the texts of errors.
 
 use gixobj_base::tree::Tree;
-use gixobj_base::{OutOfMemory, decode};
+use gixobj_base::{OutOfMemory, decode, stream_hash};
 use std::alloc::AllocError;
 use std::test::Fail;
 
@@ -20,5 +20,14 @@ fn an_empty_tree(rt: HostRuntime) -> Result<(), Fail> {
     let empty = Tree::empty(rt.alloc());
     assert!(rt; empty.entries.is_empty());
     assert!(rt; empty.entries.capacity() == 0);
+    Ok(())
+}
+
+#[test]
+fn texts_of_errors(rt: HostRuntime) -> Result<(), Fail> {
+    let malformed = decode::Error::Malformed.to_string(rt.alloc())?;
+    assert!(rt; malformed.as_str() == "malformed object");
+    let ended = stream_hash::Error::UnexpectedEof.to_string(rt.alloc())?;
+    assert!(rt; ended.as_str() == "the stream ended before the content did");
     Ok(())
 }

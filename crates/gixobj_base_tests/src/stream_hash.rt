@@ -183,10 +183,3 @@ fn ten_million_bytes(rt: HostRuntime) -> Result<(), Fail> {
     assert!(rt; Some(compute_hash(hash::Kind::Sha1, Kind::Blob, &content)) == id);
     Ok(())
 }
-
-#[test]
-fn texts_of_errors(rt: HostRuntime) -> Result<(), Fail> {
-    let ended = Error::UnexpectedEof.to_string(rt.alloc())?;
-    assert!(rt; ended.as_str() == "the stream ended before the content did");
-    Ok(())
-}

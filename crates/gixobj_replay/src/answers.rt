@@ -11,7 +11,7 @@ use std::cmp::Ordering;
 pub(crate) fn mode_answer(alloc: Global, question: &[u8]) -> Result<Vec<u8>, AllocError> {
     let bytes = bytes_of(alloc, question);
     match EntryMode::from_bytes(bytes.as_slice()) {
-        Some(mode) => mode_text(alloc, mode),
+        Some(mode) => text_of(alloc, mode_text(alloc, mode)?.as_str()),
         None => text_of(alloc, "none"),
     }
 }
@@ -21,19 +21,19 @@ pub(crate) fn number_answer(alloc: Global, question: &[u8]) -> Result<Vec<u8>, A
     let digits = str::from_utf8(question).unwrap_or("");
     let number = u32::from_str_radix(digits, 8).unwrap_or(0);
     match EntryMode::try_from(number) {
-        Ok(mode) => mode_text(alloc, mode),
+        Ok(mode) => text_of(alloc, mode_text(alloc, mode)?.as_str()),
         Err(number) => text_of(alloc, format!(in alloc; "err {number}")?.as_str()),
     }
 }
 
 /// A mode: its text, value, word and tests.
-fn mode_text(alloc: Global, mode: EntryMode) -> Result<Vec<u8>, AllocError> {
+pub(crate) fn mode_text(alloc: Global, mode: EntryMode) -> Result<String, AllocError> {
     let mut buffer = [0; 6];
-    let mut answer = text_of(alloc, "ok ")?;
-    answer.extend_from_slice(mode.as_bytes(&mut buffer).as_bytes())?;
+    let text = mode.as_bytes(&mut buffer);
+    let text = str::from_utf8(text.as_bytes()).unwrap_or("");
     let value = mode.value();
     let word = mode.as_str();
-    answer.extend_from_slice(format!(in alloc; " {value:06o} {word}")?.as_bytes())?;
+    let mut answer = format!(in alloc; "ok {text} {value:06o} {word}")?;
     let tests = [
         (mode.is_tree(), " is-tree"),
         (mode.is_link(), " is-link"),
@@ -45,7 +45,7 @@ fn mode_text(alloc: Global, mode: EntryMode) -> Result<Vec<u8>, AllocError> {
     ];
     for (holds, word) in tests {
         if holds {
-            answer.extend_from_slice(word.as_bytes())?;
+            answer.push_str(word)?;
         }
     }
     Ok(answer)

@@ -13,7 +13,12 @@ pub(crate) fn kind_answer(alloc: Global, question: &[u8]) -> Result<Vec<u8>, All
         Ok(kind) => {
             columns.put("ok", spelled(alloc, kind.as_bytes())?.as_str())?;
             columns.put("printed", format!(in alloc; "{kind}")?.as_str())?;
-            put_tests(kind, &mut columns)?;
+            columns.put_holding(&[
+                (kind.is_tree(), "is-tree"),
+                (kind.is_blob(), "is-blob"),
+                (kind.is_commit(), "is-commit"),
+                (kind.is_tag(), "is-tag"),
+            ])?;
         }
         Err(Error::InvalidObjectKind { kind }) => {
             columns.put("err", spelled(alloc, kind.as_slice())?.as_str())?;
@@ -21,20 +26,4 @@ pub(crate) fn kind_answer(alloc: Global, question: &[u8]) -> Result<Vec<u8>, All
         Err(Error::OutOfMemory) => columns.put_word("err OutOfMemory")?,
     }
     text_of(alloc, columns.as_str())
-}
-
-/// A column of each test of a kind that holds.
-fn put_tests(kind: Kind, columns: &mut Columns) -> Result<(), AllocError> {
-    let tests = [
-        (kind.is_tree(), "is-tree"),
-        (kind.is_blob(), "is-blob"),
-        (kind.is_commit(), "is-commit"),
-        (kind.is_tag(), "is-tag"),
-    ];
-    for (holds, word) in tests {
-        if holds {
-            columns.put_word(word)?;
-        }
-    }
-    Ok(())
 }

@@ -2,16 +2,23 @@
 //! and prints for each file how many answers agree, and the ones that don't.
 #![tactic(auto)]
 
+mod actor_lines;
 mod actors;
 mod answers;
 mod commits;
+mod entry_modes;
+mod header_fields;
+mod header_texts;
+mod ids;
 mod kinds;
+mod listed_trees;
 mod loose_objects;
 mod objects;
 mod recorded;
 mod tables;
 mod tags;
 mod texts;
+mod times;
 mod trees;
 
 use recorded::tables::replay_all;

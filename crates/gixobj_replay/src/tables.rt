@@ -1,12 +1,19 @@
 //! The tables of this program.
 
+use crate::actor_lines::actor_line_answer;
 use crate::actors::actor_answer;
 use crate::answers::{header_answer, mode_answer, number_answer, order_answer};
 use crate::commits::{commit_answer, size_answer, token_answer};
+use crate::entry_modes::entry_mode_answer;
+use crate::header_fields::header_field_answer;
+use crate::header_texts::header_text_answer;
+use crate::ids::{id_answer, object_id_answer};
 use crate::kinds::kind_answer;
+use crate::listed_trees::{listed_tree_answer, well_formed_answer};
 use crate::loose_objects::object_answer;
-use crate::recorded::tables::{Recorded, named_parts};
+use crate::recorded::tables::{Recorded, behind_source, named_parts};
 use crate::tags::{name_answer, tag_answer, tag_token_answer};
+use crate::times::time_answer;
 use crate::trees::{tree_answer, tree_token_answer};
 use gixobj_base::parse::{split_at_byte, split_at_last_byte};
 use std::alloc::{AllocError, Global};
@@ -44,6 +51,26 @@ pub(crate) enum Table {
     Objects,
     /// Words of kinds.
     Kinds,
+    /// Modes of texts, numbers and kinds.
+    EntryModes,
+    /// Near names in order.
+    NearNames,
+    /// Ids read, made and written.
+    Ids,
+    /// Ids of objects.
+    ObjectIds,
+    /// Loose headers written, and what refusals say.
+    HeaderTexts,
+    /// Times read and written.
+    Times,
+    /// Lines of actors read, and the actors written.
+    ActorLines,
+    /// Header fields read.
+    HeaderFields,
+    /// Trees of listed entries, written.
+    ListedTrees,
+    /// Trees of listed entries, judged.
+    WellFormedTrees,
 }
 
 /// All of them.
@@ -63,6 +90,16 @@ pub(crate) const TABLES: &[Table] = &[
     Table::TreeTokens,
     Table::Objects,
     Table::Kinds,
+    Table::EntryModes,
+    Table::NearNames,
+    Table::Ids,
+    Table::ObjectIds,
+    Table::HeaderTexts,
+    Table::Times,
+    Table::ActorLines,
+    Table::HeaderFields,
+    Table::ListedTrees,
+    Table::WellFormedTrees,
 ];
 
 impl Recorded for Table {
@@ -83,6 +120,16 @@ impl Recorded for Table {
             Table::TreeTokens => ("tree tokens", "tree-tokens.tsv"),
             Table::Objects => ("objects", "objects.tsv"),
             Table::Kinds => ("kinds", "kinds.tsv"),
+            Table::EntryModes => ("entry modes", "entry-modes.tsv"),
+            Table::NearNames => ("near names", "near-names.tsv"),
+            Table::Ids => ("ids", "ids.tsv"),
+            Table::ObjectIds => ("object ids", "object-ids.tsv"),
+            Table::HeaderTexts => ("header texts", "header-texts.tsv"),
+            Table::Times => ("times", "times.tsv"),
+            Table::ActorLines => ("actor lines", "actor-lines.tsv"),
+            Table::HeaderFields => ("header fields", "header-fields.tsv"),
+            Table::ListedTrees => ("listed trees", "listed-trees.tsv"),
+            Table::WellFormedTrees => ("well-formed trees", "well-formed-trees.tsv"),
         }
     }
 
@@ -90,7 +137,7 @@ impl Recorded for Table {
         match self {
             Table::Modes => mode_answer(alloc, question),
             Table::ModeNumbers => number_answer(alloc, question),
-            Table::NameOrder => order_answer(alloc, question),
+            Table::NameOrder | Table::NearNames => order_answer(alloc, question),
             Table::LooseHeaders => header_answer(alloc, question),
             Table::Actors => actor_answer(alloc, question),
             Table::Commits => commit_answer(alloc, question),
@@ -103,6 +150,15 @@ impl Recorded for Table {
             Table::TreeTokens => tree_token_answer(alloc, question),
             Table::Objects => object_answer(alloc, question),
             Table::Kinds => kind_answer(alloc, question),
+            Table::EntryModes => entry_mode_answer(alloc, question),
+            Table::Ids => id_answer(alloc, question),
+            Table::ObjectIds => object_id_answer(alloc, question),
+            Table::HeaderTexts => header_text_answer(alloc, question),
+            Table::Times => time_answer(alloc, question),
+            Table::ActorLines => actor_line_answer(alloc, question),
+            Table::HeaderFields => header_field_answer(alloc, question),
+            Table::ListedTrees => listed_tree_answer(alloc, question),
+            Table::WellFormedTrees => well_formed_answer(alloc, question),
         }
     }
 
@@ -111,6 +167,7 @@ impl Recorded for Table {
     fn parts<'a>(self, line: &'a [u8]) -> Option<(&'a [u8], &'a [u8])> {
         match self {
             Table::NameOrder => split_at_last_byte(line, b'\t'),
+            Table::NearNames => split_at_last_byte(behind_source(line)?, b'\t'),
             Table::Modes
             | Table::ModeNumbers
             | Table::LooseHeaders

@@ -53,3 +53,9 @@ fn push_spelled(alloc: Global, byte: u8, text: &mut String) -> Result<(), AllocE
         _ => text.push(char::from(byte)),
     }
 }
+
+/// How bytes are spelled, between quotes.
+pub(crate) fn quoted(alloc: Global, bytes: &[u8]) -> Result<String, AllocError> {
+    let text = spelled(alloc, bytes)?;
+    format!(in alloc; "\"{text}\"")
+}

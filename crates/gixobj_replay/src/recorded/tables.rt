@@ -20,9 +20,14 @@ pub(crate) trait Recorded: Copy {
 
 /// The question and the answer of a row that begins with its name and where its answer is from.
 pub(crate) fn named_parts(line: &[u8]) -> Option<(&[u8], &[u8])> {
+    split_at_byte(behind_source(line)?, b'\t')
+}
+
+/// What stands behind the name of a row and where its answer is from.
+pub(crate) fn behind_source(line: &[u8]) -> Option<&[u8]> {
     let (_name, line) = split_at_byte(line, b'\t')?;
     let (_from, line) = split_at_byte(line, b'\t')?;
-    split_at_byte(line, b'\t')
+    Some(line)
 }
 
 /// How many answers agree, and how many there are.

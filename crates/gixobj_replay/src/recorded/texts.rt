@@ -19,11 +19,15 @@ pub(crate) fn bytes_of(alloc: Global, field: &[u8]) -> Vec<u8> {
 /// The bytes of a text, and behind a space the kind of its ids.
 pub(crate) fn text_and_kind(alloc: Global, question: &[u8]) -> (Vec<u8>, hash::Kind) {
     let (text, word) = split_at_byte(question, b' ').unwrap_or((question, b""));
-    let hash_kind = match word {
+    (bytes_of(alloc, text), kind_of_ids(word))
+}
+
+/// The kind of ids that a word names.
+pub(crate) fn kind_of_ids(word: &[u8]) -> hash::Kind {
+    match word {
         b"sha256" => hash::Kind::Sha256,
         _ => hash::Kind::Sha1,
-    };
-    (bytes_of(alloc, text), hash_kind)
+    }
 }
 
 /// The bytes of a text.
@@ -53,15 +57,20 @@ pub(crate) fn written_text(
     written: &[u8],
 ) -> Result<String, AllocError> {
     let bytes = hex_of(alloc, written)?;
-    let word = match outcome {
+    let word = outcome_word(outcome);
+    format!(in alloc; "{word} {bytes}")
+}
+
+/// How writing went.
+pub(crate) fn outcome_word(outcome: Result<(), encode::Error>) -> &'static str {
+    match outcome {
         Ok(()) => "ok",
         Err(encode::Error::IllegalActor) => "err IllegalActor",
         Err(encode::Error::EmptyValue) => "err EmptyValue",
         Err(encode::Error::StartsWithDash) => "err StartsWithDash",
         Err(encode::Error::InvalidRefName(fault)) => name_fault(fault),
         Err(_) => "err another",
-    };
-    format!(in alloc; "{word} {bytes}")
+    }
 }
 
 /// What is wrong with the name of a tag.
@@ -114,6 +123,16 @@ impl Columns {
             self.text.push_str("\t")?;
         }
         self.text.push_str(word)
+    }
+
+    /// One more column for each test that holds: its word.
+    pub(crate) fn put_holding(&mut self, tests: &[(bool, &str)]) -> Result<(), AllocError> {
+        for (holds, word) in tests {
+            if *holds {
+                self.put_word(word)?;
+            }
+        }
+        Ok(())
     }
 
     /// Their text.
