@@ -5,6 +5,7 @@
 mod actors;
 mod answers;
 mod commits;
+mod git_tags;
 mod kinds;
 mod loose_objects;
 mod objects;
