@@ -10,6 +10,7 @@ mod entry_modes;
 mod header_fields;
 mod header_texts;
 mod ids;
+mod git_tags;
 mod kinds;
 mod listed_trees;
 mod loose_objects;

@@ -8,6 +8,7 @@ use crate::entry_modes::entry_mode_answer;
 use crate::header_fields::header_field_answer;
 use crate::header_texts::header_text_answer;
 use crate::ids::{id_answer, object_id_answer};
+use crate::git_tags::{git_name_answer, git_tag_answer, tag_parts_answer};
 use crate::kinds::kind_answer;
 use crate::listed_trees::{listed_tree_answer, well_formed_answer};
 use crate::loose_objects::object_answer;
@@ -43,6 +44,14 @@ pub(crate) enum Table {
     TagTokens,
     /// Names of tags judged.
     TagNames,
+    /// Names of tags that git judged.
+    GitTagNames,
+    /// Tags of which git tells, read, told and written.
+    GitTags,
+    /// Other texts of tags, read, told and written.
+    TagTexts,
+    /// Tags made of parts, written.
+    TagParts,
     /// Trees read whole and written.
     Trees,
     /// Trees told entry by entry.
@@ -86,6 +95,10 @@ pub(crate) const TABLES: &[Table] = &[
     Table::Tags,
     Table::TagTokens,
     Table::TagNames,
+    Table::GitTagNames,
+    Table::GitTags,
+    Table::TagTexts,
+    Table::TagParts,
     Table::Trees,
     Table::TreeTokens,
     Table::Objects,
@@ -116,6 +129,10 @@ impl Recorded for Table {
             Table::Tags => ("tags", "tags.tsv"),
             Table::TagTokens => ("tag tokens", "tag-tokens.tsv"),
             Table::TagNames => ("tag names", "tag-names.tsv"),
+            Table::GitTagNames => ("tag names of git", "git-tag-names.tsv"),
+            Table::GitTags => ("tags of git", "git-tags.tsv"),
+            Table::TagTexts => ("tag texts", "tag-texts.tsv"),
+            Table::TagParts => ("tag parts", "tag-parts.tsv"),
             Table::Trees => ("trees", "trees.tsv"),
             Table::TreeTokens => ("tree tokens", "tree-tokens.tsv"),
             Table::Objects => ("objects", "objects.tsv"),
@@ -146,6 +163,9 @@ impl Recorded for Table {
             Table::Tags => tag_answer(alloc, question),
             Table::TagTokens => tag_token_answer(alloc, question),
             Table::TagNames => name_answer(alloc, question),
+            Table::GitTagNames => git_name_answer(alloc, question),
+            Table::GitTags | Table::TagTexts => git_tag_answer(alloc, question),
+            Table::TagParts => tag_parts_answer(alloc, question),
             Table::Trees => tree_answer(alloc, question),
             Table::TreeTokens => tree_token_answer(alloc, question),
             Table::Objects => object_answer(alloc, question),

@@ -11,7 +11,7 @@ use crate::recorded::texts::{
 use crate::texts::{hex_after, hex_if_some};
 use bstr::BStr;
 use gixobj_base::actor::{Signature, SignatureRef};
-use gixobj_base::decode;
+use gixobj_base::{decode, encode};
 use gixobj_codec::tag::write;
 use gixobj_codec::{Tag, TagRef};
 use gixobj_text::signature;
@@ -52,7 +52,7 @@ fn put_fields(alloc: Global, tag: &TagRef<'_>, columns: &mut Columns) -> Result<
 }
 
 /// A tagger, or that there is none, or the fault of its line.
-fn tagger_text(
+pub(crate) fn tagger_text(
     alloc: Global,
     tagger: Result<Option<SignatureRef<'_>>, decode::Error>,
 ) -> Result<String, AllocError> {
@@ -71,12 +71,17 @@ fn signature_text(
     let Some(signature) = signature else {
         return String::from_str(alloc, "none");
     };
-    let word = match signature.format {
+    let word = format_word(signature.format);
+    hex_after(alloc, word, signature.bytes.as_bytes())
+}
+
+/// The format of a signature.
+pub(crate) fn format_word(format: Format) -> &'static str {
+    match format {
         Format::OpenPgp => "OpenPgp",
         Format::X509 => "X509",
         Format::Ssh => "Ssh",
-    };
-    hex_after(alloc, word, signature.bytes.as_bytes())
+    }
 }
 
 /// The columns of an owned tag, or why there is none.
@@ -111,9 +116,19 @@ fn owned_if_some(alloc: Global, actor: &Option<Signature>) -> Result<String, All
 pub(crate) fn name_answer(alloc: Global, question: &[u8]) -> Result<Vec<u8>, AllocError> {
     let bytes = bytes_of(alloc, question);
     let answer = match write::validated_name(BStr::new(bytes.as_slice())) {
-        Ok(_) => "ok",
-        Err(write::Error::StartsWithDash) => "err StartsWithDash",
-        Err(write::Error::InvalidRefName(fault)) => name_fault(fault),
+        Ok(name) if name.as_bytes() == bytes.as_slice() => "ok",
+        Ok(_) => "ok another",
+        Err(refusal) => refused_name(refusal),
     };
     text_of(alloc, answer)
+}
+
+/// Why a name is refused, also by a writer.
+fn refused_name(refusal: write::Error) -> &'static str {
+    match (refusal, encode::Error::from(refusal)) {
+        (write::Error::StartsWithDash, encode::Error::StartsWithDash) => "err StartsWithDash",
+        (write::Error::InvalidRefName(fault), encode::Error::InvalidRefName(same))
+            if fault == same => { name_fault(fault) }
+        _ => "err another",
+    }
 }
