@@ -11,3 +11,5 @@ mod laws;
 mod objects;
 #[cfg(test)]
 mod public_paths;
+#[cfg(test)]
+mod trees;

@@ -5,6 +5,7 @@
 mod actors;
 mod answers;
 mod commits;
+mod git_trees;
 mod objects;
 mod tables;
 mod tags;

@@ -4,6 +4,7 @@ ghost use Rattle.std.specs.Prelude.{◌≡◌, ◌++◌, ◌∷◌, IfSome};
 use crate::actors::actor_answer;
 use crate::answers::{header_answer, mode_answer, number_answer, order_answer};
 use crate::commits::{commit_answer, size_answer, token_answer};
+use crate::git_trees::git_tree_answer;
 use crate::tags::{name_answer, tag_answer, tag_token_answer};
 use gixobj_base::parse::{split_at_byte, split_at_last_byte};
 use gixobj_recorded::tables::Recorded;
@@ -34,10 +35,14 @@ pub(crate) enum Table {
     TagTokens,
     /// Names of tags judged.
     TagNames,
+    /// Trees that `git` made or reads.
+    GitTrees,
+    /// Texts of trees that `git` doesn't write.
+    OddTrees,
 }
 
 /// All of them.
-pub(crate) const TABLES: [Table; 11] = [
+pub(crate) const TABLES: [Table; 13] = [
     Table::Modes,
     Table::ModeNumbers,
     Table::NameOrder,
@@ -49,6 +54,8 @@ pub(crate) const TABLES: [Table; 11] = [
     Table::Tags,
     Table::TagTokens,
     Table::TagNames,
+    Table::GitTrees,
+    Table::OddTrees,
 ];
 
 impl Recorded for Table {
@@ -65,6 +72,8 @@ impl Recorded for Table {
             Table::Tags => ("tags", "tags.tsv"),
             Table::TagTokens => ("tag tokens", "tag-tokens.tsv"),
             Table::TagNames => ("tag names", "tag-names.tsv"),
+            Table::GitTrees => ("git trees", "git-trees.tsv"),
+            Table::OddTrees => ("odd trees", "odd-trees.tsv"),
         }
     }
 
@@ -81,6 +90,7 @@ impl Recorded for Table {
             Table::Tags => tag_answer(alloc, question),
             Table::TagTokens => tag_token_answer(alloc, question),
             Table::TagNames => name_answer(alloc, question),
+            Table::GitTrees | Table::OddTrees => git_tree_answer(alloc, question),
         }
     }
 
@@ -92,7 +102,22 @@ impl Recorded for Table {
         }
         match self {
             Table::NameOrder => split_at_last_byte(line, b'\t'),
+            Table::GitTrees | Table::OddTrees => named_parts(line),
             _ => split_at_byte(line, b'\t'),
         }
+    }
+}
+
+/// A row's name, where its answer is from and its question, and its answer.
+fn named_parts(line: &[u8]) -> Option<(&[u8], &[u8])>
+    ensures { IfSome result (λ it. line.now ≡ it.0.now ++ 9 ∷ it.1.now) }
+{
+    let (_name, rest) = split_at_byte(line, b'\t')?;
+    let (_from, rest) = split_at_byte(rest, b'\t')?;
+    let (_question, answer) = split_at_byte(rest, b'\t')?;
+    let end = line.len().checked_sub(answer.len())?.checked_sub(1)?;
+    match line.split_at_checked(end)? {
+        (question, [b'\t', answer @ ..]) => Some((question, answer)),
+        _ => None,
     }
 }
