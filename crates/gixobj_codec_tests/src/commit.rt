@@ -18,6 +18,7 @@ use gixobj_codec::commit::ref_iter::Token;
 use gixobj_codec::commit::{Commit, CommitRef, CommitRefIter};
 pub(crate) use signed::SIGNED;
 use std::alloc::{AllocError, Global};
+pub(crate) use writers::stops;
 
 /// The lines of a first commit of the empty tree.
 const FRONT: &[u8] = b"tree 4b825dc642cb6eb9a060e54bf8d69288fbee4904\n\

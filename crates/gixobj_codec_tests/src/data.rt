@@ -6,7 +6,8 @@ use gixobj_codec::commit::ref_iter::Token;
 use std::alloc::Global;
 use std::hash::{DefaultHasher, Hash, Hasher};
 
-fn hash_of<T: Hash>(value: &T) -> u64 {
+/// The hash of a value.
+pub(crate) fn hash_of<T: Hash>(value: &T) -> u64 {
     let mut state = DefaultHasher::new();
     value.hash(&mut state);
     state.finish()

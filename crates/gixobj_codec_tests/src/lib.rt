@@ -13,3 +13,5 @@ mod objects;
 mod public_paths;
 #[cfg(test)]
 mod tags;
+#[cfg(test)]
+mod trees;

@@ -14,6 +14,7 @@ mod git_tags;
 mod kinds;
 mod listed_trees;
 mod loose_objects;
+mod git_trees;
 mod objects;
 mod recorded;
 mod tables;

@@ -13,6 +13,7 @@ use crate::kinds::kind_answer;
 use crate::listed_trees::{listed_tree_answer, well_formed_answer};
 use crate::loose_objects::object_answer;
 use crate::recorded::tables::{Recorded, behind_source, named_parts};
+use crate::git_trees::git_tree_answer;
 use crate::tags::{name_answer, tag_answer, tag_token_answer};
 use crate::times::time_answer;
 use crate::trees::{tree_answer, tree_token_answer};
@@ -84,6 +85,14 @@ pub(crate) enum Table {
 
 /// All of them.
 pub(crate) const TABLES: &[Table] = &[
+    /// Trees that `git` made or reads.
+    GitTrees,
+    /// Texts of trees that `git` doesn't write.
+    OddTrees,
+}
+
+/// All of them.
+pub(crate) const TABLES: [Table; 13] = [
     Table::Modes,
     Table::ModeNumbers,
     Table::NameOrder,
@@ -113,6 +122,8 @@ pub(crate) const TABLES: &[Table] = &[
     Table::HeaderFields,
     Table::ListedTrees,
     Table::WellFormedTrees,
+    Table::GitTrees,
+    Table::OddTrees,
 ];
 
 impl Recorded for Table {
@@ -147,6 +158,8 @@ impl Recorded for Table {
             Table::HeaderFields => ("header fields", "header-fields.tsv"),
             Table::ListedTrees => ("listed trees", "listed-trees.tsv"),
             Table::WellFormedTrees => ("well-formed trees", "well-formed-trees.tsv"),
+            Table::GitTrees => ("git trees", "git-trees.tsv"),
+            Table::OddTrees => ("odd trees", "odd-trees.tsv"),
         }
     }
 
@@ -179,6 +192,7 @@ impl Recorded for Table {
             Table::HeaderFields => header_field_answer(alloc, question),
             Table::ListedTrees => listed_tree_answer(alloc, question),
             Table::WellFormedTrees => well_formed_answer(alloc, question),
+            Table::GitTrees | Table::OddTrees => git_tree_answer(alloc, question),
         }
     }
 
@@ -202,6 +216,22 @@ impl Recorded for Table {
             | Table::TreeTokens
             | Table::Objects => split_at_byte(line, b'\t'),
             _ => named_parts(line),
+            Table::GitTrees | Table::OddTrees => named_parts(line),
+            _ => split_at_byte(line, b'\t'),
         }
+    }
+}
+
+/// A row's name, where its answer is from and its question, and its answer.
+fn named_parts(line: &[u8]) -> Option<(&[u8], &[u8])>
+    ensures { IfSome result (λ it. line.now ≡ it.0.now ++ 9 ∷ it.1.now) }
+{
+    let (_name, rest) = split_at_byte(line, b'\t')?;
+    let (_from, rest) = split_at_byte(rest, b'\t')?;
+    let (_question, answer) = split_at_byte(rest, b'\t')?;
+    let end = line.len().checked_sub(answer.len())?.checked_sub(1)?;
+    match line.split_at_checked(end)? {
+        (question, [b'\t', answer @ ..]) => Some((question, answer)),
+        _ => None,
     }
 }

@@ -113,7 +113,7 @@ fn stops_at<T: WriteTo>(alloc: Global, commit: &T, text: &[u8], room: usize) -> 
 }
 
 /// Whether each writer with less room than the text stops.
-fn stops<T: WriteTo>(alloc: Global, commit: &T, text: &[u8]) -> bool
+pub(crate) fn stops<T: WriteTo>(alloc: Global, commit: &T, text: &[u8]) -> bool
     requires { T.can_write commit.now }
 {
     for room in 0..text.len() {

@@ -1,13 +1,12 @@
 //! What is refused of borrowed trees, and writers that fail.
 
-use crate::git::plain::EXAMPLE;
-use crate::trees::{ENTRY, ONES, written};
+use super::{ENTRY, EXAMPLE, ONES};
+use crate::commit::stops;
 use bstr::BStr;
 use gixobj_base::WriteTo;
 use gixobj_base::encode::Error;
 use gixobj_base::hash::{Kind, ObjectId};
 use gixobj_base::tree::EntryKind;
-use gixobj_base_tests::limited::Limited;
 use gixobj_codec::TreeRef;
 use gixobj_codec::tree::EntryRef;
 use std::alloc::{AllocError, Global};
@@ -59,44 +58,18 @@ fn names_with_a_zero_byte(rt: HostRuntime) -> Result<(), Fail> {
     Ok(())
 }
 
-/// Whether a writer that takes so many bytes and then fails holds exactly those.
-fn stops_at<T: WriteTo>(alloc: Global, tree: &T, text: &[u8], room: usize) -> bool
-    requires { T.can_write tree.now }
-{
-    let Ok(held) = Vec::with_capacity(alloc, text.len()) else {
-        return false;
-    };
-    let mut writer = Limited { held, room };
-    match tree.write_to(alloc, &mut writer) {
-        Err(Error::Writer(_)) => Some(writer.held.as_slice()) == text.get(..room),
-        _ => false,
-    }
-}
-
-/// Whether each writer with less room than the text stops.
-fn stops<T: WriteTo>(alloc: Global, tree: &T, text: &[u8]) -> bool
-    requires { T.can_write tree.now }
-{
-    for room in 0..text.len() {
-        if !stops_at(alloc, tree, text, room) {
-            return false;
-        }
-    }
-    true
-}
-
 #[test]
 fn writers_that_fail(rt: HostRuntime) -> Result<(), Fail> {
-    let text = EXAMPLE.bytes;
-    let tree = TreeRef::from_bytes(rt.alloc(), text, Kind::Sha1)?;
-    assert!(rt; stops(rt.alloc(), &tree, text));
+    let tree = TreeRef::from_bytes(rt.alloc(), EXAMPLE, Kind::Sha1)?;
+    assert!(rt; stops(rt.alloc(), &tree, EXAMPLE));
     Ok(())
 }
 
 /// Whether so many bytes are counted and written of a tree.
 fn has_size(alloc: Global, tree: &TreeRef<'_>, len: usize) -> bool {
-    match written(alloc, tree) {
-        Ok(out) => out.len() == len && tree.size() == Some(len as u64),
+    let mut out = Vec::new(alloc);
+    match tree.write_to(alloc, &mut out) {
+        Ok(()) => out.len() == len && tree.size() == Some(len as u64),
         Err(_) => false,
     }
 }

@@ -1,6 +1,5 @@
 //! The tree without entries.
 
-use crate::trees::is_written;
 use gixobj_base::hash::Kind;
 use gixobj_base::{OutOfMemory, Tree};
 use gixobj_codec::TreeRef;
@@ -29,6 +28,5 @@ fn no_bytes(rt: HostRuntime) -> Result<(), Fail> {
     let tree = TreeRef::from_bytes(rt.alloc(), b"", Kind::Sha1)?;
     assert!(rt; tree.entries.is_empty());
     assert!(rt; tree.entries.capacity() == 0);
-    assert!(rt; is_written(rt.alloc(), &tree, b""));
     Ok(())
 }

@@ -1,5 +1,5 @@
 use Rattle.gixobj_codec.specs.EntryGiving.{IsTail, bytes_left}
-use Rattle.gixobj_trees_tests.proofs.offsets.offsets.Given as goal
+use Rattle.gixobj_codec_tests.proofs.trees.offsets.offsets.Given as goal
 
 -- what the reader has left is the end of the text
 abbrev pub invariant-loop-told : goal.invariant-loop-told

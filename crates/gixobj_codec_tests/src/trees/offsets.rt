@@ -1,8 +1,6 @@
 //! How far the reader of entries is.
 
-use crate::git::plain::EXAMPLE;
-use crate::told::tells;
-use crate::trees::{ENTRY, tree_text};
+use super::{ENTRY, EXAMPLE, tree_text};
 use gixobj_base::hash::Kind;
 use gixobj_codec::laws::bytes_left_end_the_text;
 use gixobj_codec::tree::EntryRef;
@@ -35,7 +33,7 @@ const PLACES: &[usize] = &[0, 36, 67, 104, 136, 170, 204];
 
 #[test]
 fn behind_each_entry(rt: HostRuntime) {
-    assert!(rt; begin_at(rt.alloc(), EXAMPLE.bytes, PLACES));
+    assert!(rt; begin_at(rt.alloc(), EXAMPLE, PLACES));
     assert!(rt; begin_at(rt.alloc(), b"", &[0]));
 }
 
@@ -45,6 +43,17 @@ fn behind_an_error(rt: HostRuntime) -> Result<(), Fail> {
     let text = tree_text(rt.alloc(), &["100644 a\0", "100648 b\0", "100644 c\0"])?;
     assert!(rt; begin_at(rt.alloc(), &text, &[0, 29, 87]));
     Ok(())
+}
+
+/// Whether a reader tells these entries, and then ends.
+fn tells(mut told: TreeRefIter<'_>, entries: &[EntryRef<'_>]) -> bool {
+    for entry in entries {
+        match told.next() {
+            Some(Ok(it)) if it == *entry => {}
+            _ => return false,
+        }
+    }
+    told.next().is_none()
 }
 
 /// Whether a reader of what stands there tells these entries.
@@ -68,7 +77,7 @@ fn goes_on_at(text: &[u8], offsets: &[usize], entries: &[EntryRef<'_>]) -> bool 
 /// A reader of what stands there goes on with the next entry.
 #[test]
 fn resumed(rt: HostRuntime) -> Result<(), Fail> {
-    let text = EXAMPLE.bytes;
+    let text = EXAMPLE;
     let tree = TreeRef::from_bytes(rt.alloc(), text, Kind::Sha1)?;
     assert!(rt; goes_on_at(text, PLACES, &tree.entries));
     Ok(())

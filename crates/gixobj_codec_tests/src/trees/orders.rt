@@ -1,6 +1,7 @@
 //! Orders and hashes of borrowed entries and trees, which are those of the owned ones.
 
-use crate::trees::tree_text;
+use super::tree_text;
+use crate::data::hash_of;
 use bstr::BString;
 use gixobj_base::hash::{Kind, ObjectId};
 use gixobj_base::tree::{Entry, EntryKind};
@@ -8,14 +9,7 @@ use gixobj_codec::TreeRef;
 use gixobj_codec::tree::EntryRef;
 use std::alloc::{AllocError, Global};
 use std::cmp::Ordering;
-use std::hash::{DefaultHasher, Hash, Hasher};
 use std::test::Fail;
-
-fn hash_of<T: Hash>(value: &T) -> u64 {
-    let mut state = DefaultHasher::new();
-    value.hash(&mut state);
-    state.finish()
-}
 
 /// Each entry comes before the next one.
 fn ascending(alloc: Global) -> Result<Vec<Entry>, AllocError> {

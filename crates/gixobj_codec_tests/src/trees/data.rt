@@ -1,8 +1,13 @@
 //! Trees that are not yet read.
 
-use crate::trees::{ENTRY, LONGER_ENTRY};
+use super::ENTRY;
 use gixobj_base::{Kind, hash};
 use gixobj_codec::Data;
+
+/// The same entry with twelve bytes more, as many as an id of SHA-256 has.
+const LONGER_ENTRY: &[u8] = b"100644 a\0\
+    \x01\x01\x01\x01\x01\x01\x01\x01\x01\x01\x01\x01\x01\x01\x01\x01\x01\x01\x01\x01\
+    \x02\x02\x02\x02\x02\x02\x02\x02\x02\x02\x02\x02";
 
 /// Whether a text of an object of this kind is told as a tree, and whether its first entry is told.
 fn tells_an_entry(text: &[u8], kind: Kind, hash_kind: hash::Kind) -> Option<bool> {
