@@ -5,7 +5,10 @@
 mod actors;
 mod answers;
 mod commits;
+mod git_commits;
+mod git_objects;
 mod objects;
+mod spelling;
 mod tables;
 mod tags;
 mod texts;
