@@ -1,27 +1,15 @@
 //! Objects whose content is not yet read.
 
+use crate::commit::PLAIN;
+use crate::helpers::hash_of;
 use gixobj_base::{Kind, hash};
 use gixobj_codec::Data;
 use gixobj_codec::commit::ref_iter::Token;
 use std::alloc::Global;
-use std::hash::{DefaultHasher, Hash, Hasher};
-
-/// The hash of a value.
-pub(crate) fn hash_of<T: Hash>(value: &T) -> u64 {
-    let mut state = DefaultHasher::new();
-    value.hash(&mut state);
-    state.finish()
-}
-
-/// A first commit of the empty tree.
-const COMMIT: &[u8] = b"tree 4b825dc642cb6eb9a060e54bf8d69288fbee4904\n\
-    author A <a@b> 0 +0000\n\
-    committer A <a@b> 0 +0000\n\
-    \nhi\n";
 
 /// Whether the commit is told as an object of this kind, and whether it tells a tree first.
 fn tells_a_tree(alloc: Global, kind: Kind, hash_kind: hash::Kind) -> Option<bool> {
-    let mut tokens = Data::new(COMMIT, kind, hash_kind).try_into_commit_iter(alloc)?;
+    let mut tokens = Data::new(PLAIN, kind, hash_kind).try_into_commit_iter(alloc)?;
     Some(matches!(&tokens.next(), Some(Ok(Token::Tree { .. }))))
 }
 

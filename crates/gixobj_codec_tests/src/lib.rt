@@ -6,6 +6,8 @@ mod commit;
 #[cfg(test)]
 mod data;
 #[cfg(test)]
+mod helpers;
+#[cfg(test)]
 mod laws;
 #[cfg(test)]
 mod objects;

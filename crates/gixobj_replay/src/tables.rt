@@ -14,6 +14,8 @@ use crate::listed_trees::{listed_tree_answer, well_formed_answer};
 use crate::loose_objects::object_answer;
 use crate::recorded::tables::{Recorded, behind_source, named_parts};
 use crate::git_trees::git_tree_answer;
+use crate::git_commits::{beginning_answer, call_answer, search_answer, shape_answer};
+use crate::git_objects::loose_answer;
 use crate::tags::{name_answer, tag_answer, tag_token_answer};
 use crate::times::time_answer;
 use crate::trees::{tree_answer, tree_token_answer};
@@ -93,6 +95,22 @@ pub(crate) const TABLES: &[Table] = &[
 
 /// All of them.
 pub(crate) const TABLES: [Table; 13] = [
+    /// Commits of which git is asked.
+    GitCommits,
+    /// Commits of which git says something else, or nothing.
+    OddCommits,
+    /// Headers of commits found by their names.
+    CommitHeaders,
+    /// Beginnings of commits, and damaged ones.
+    CommitBeginnings,
+    /// Calls on a commit's reader of tokens.
+    CommitCalls,
+    /// Loose objects of each kind.
+    GitObjects,
+}
+
+/// All of them.
+pub(crate) const TABLES: [Table; 17] = [
     Table::Modes,
     Table::ModeNumbers,
     Table::NameOrder,
@@ -124,6 +142,12 @@ pub(crate) const TABLES: [Table; 13] = [
     Table::WellFormedTrees,
     Table::GitTrees,
     Table::OddTrees,
+    Table::GitCommits,
+    Table::OddCommits,
+    Table::CommitHeaders,
+    Table::CommitBeginnings,
+    Table::CommitCalls,
+    Table::GitObjects,
 ];
 
 impl Recorded for Table {
@@ -160,6 +184,12 @@ impl Recorded for Table {
             Table::WellFormedTrees => ("well-formed trees", "well-formed-trees.tsv"),
             Table::GitTrees => ("git trees", "git-trees.tsv"),
             Table::OddTrees => ("odd trees", "odd-trees.tsv"),
+            Table::GitCommits => ("git commits", "git-commits.tsv"),
+            Table::OddCommits => ("odd commits", "odd-commits.tsv"),
+            Table::CommitHeaders => ("commit headers", "commit-headers.tsv"),
+            Table::CommitBeginnings => ("commit beginnings", "commit-beginnings.tsv"),
+            Table::CommitCalls => ("commit calls", "commit-calls.tsv"),
+            Table::GitObjects => ("git objects", "git-objects.tsv"),
         }
     }
 
@@ -193,6 +223,11 @@ impl Recorded for Table {
             Table::ListedTrees => listed_tree_answer(alloc, question),
             Table::WellFormedTrees => well_formed_answer(alloc, question),
             Table::GitTrees | Table::OddTrees => git_tree_answer(alloc, question),
+            Table::GitCommits | Table::OddCommits => shape_answer(alloc, asked(question)),
+            Table::CommitHeaders => search_answer(alloc, asked(question)),
+            Table::CommitBeginnings => beginning_answer(alloc, asked(question)),
+            Table::CommitCalls => call_answer(alloc, asked(question)),
+            Table::GitObjects => loose_answer(alloc, asked(question)),
         }
     }
 
@@ -217,6 +252,12 @@ impl Recorded for Table {
             | Table::Objects => split_at_byte(line, b'\t'),
             _ => named_parts(line),
             Table::GitTrees | Table::OddTrees => named_parts(line),
+            Table::GitCommits
+            | Table::OddCommits
+            | Table::CommitHeaders
+            | Table::CommitBeginnings
+            | Table::CommitCalls
+            | Table::GitObjects => named_parts(line),
             _ => split_at_byte(line, b'\t'),
         }
     }
@@ -233,5 +274,27 @@ fn named_parts(line: &[u8]) -> Option<(&[u8], &[u8])>
     match line.split_at_checked(end)? {
         (question, [b'\t', answer @ ..]) => Some((question, answer)),
         _ => None,
+    }
+}
+/// The first three columns of a row, its name, where its answer is from and its question, and the answer.
+fn named_parts(line: &[u8]) -> Option<(&[u8], &[u8])>
+    ensures { IfSome result (λ it. line.now ≡ it.0.now ++ 9 ∷ it.1.now) }
+{
+    let (_, rest) = split_at_byte(line, b'\t')?;
+    let (_, rest) = split_at_byte(rest, b'\t')?;
+    let (_, answer) = split_at_byte(rest, b'\t')?;
+    let end = line.len().checked_sub(answer.len())?;
+    let (columns, answer) = line.split_at_checked(end)?;
+    match columns {
+        [question @ .., b'\t'] => Some((question, answer)),
+        _ => None,
+    }
+}
+
+/// The question of such a row.
+fn asked(columns: &[u8]) -> &[u8] {
+    match split_at_last_byte(columns, b'\t') {
+        Some((_, question)) => question,
+        None => columns,
     }
 }

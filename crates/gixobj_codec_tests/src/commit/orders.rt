@@ -1,6 +1,7 @@
 //! Orders and hashes of commits and tokens.
 
 use super::{PLAIN, owned_form};
+use crate::helpers::hash_of;
 use bstr::{BStr, BString};
 use gixobj_base::decode::Error;
 use gixobj_base::hash::Kind;
@@ -9,14 +10,8 @@ use gixobj_codec::{Commit, CommitRef, CommitRefIter};
 use std::alloc::Global;
 use std::borrow::CowSlice;
 use std::cmp::Ordering;
-use std::hash::{DefaultHasher, Hash, Hasher};
+use std::hash::Hash;
 use std::test::Fail;
-
-fn hash_of<T: Hash>(value: &T) -> u64 {
-    let mut state = DefaultHasher::new();
-    value.hash(&mut state);
-    state.finish()
-}
 
 /// A commit with a header.
 const TEXT: &[u8] = b"tree 4b825dc642cb6eb9a060e54bf8d69288fbee4904\n\
@@ -88,6 +83,17 @@ fn with_a_later_message(alloc: Global) -> Result<Commit, Error> {
     let mut commit = copy(alloc)?;
     commit.message = BString::from_slice(alloc, b"ho\n")?;
     Ok(commit)
+}
+
+/// The owned form of the plain commit, by the other name of the call.
+fn owned_again(alloc: Global) -> Result<Commit, Error> {
+    CommitRef::from_bytes(alloc, PLAIN, Kind::Sha1)?.to_owned(alloc)
+}
+
+#[test]
+fn plain_commit_owned_twice(rt: HostRuntime) {
+    let first = owned_form(rt.alloc(), PLAIN, Kind::Sha1);
+    assert!(rt; are_made_in_order(&owned_again(rt.alloc()), &first, Ordering::Equal));
 }
 
 #[test]

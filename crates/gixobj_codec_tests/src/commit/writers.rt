@@ -1,11 +1,9 @@
 //! Commits of many lines, of both kinds of ids, and writers that fail.
-ghost use Rattle.gixobj_codec.specs.CommitViews.{commit_lines};
-ghost use Rattle.gixobj_codec.specs.CommitWriting.{HasIds};
 
-use super::{PLAIN, are_written, commit_with, is_written, owned_form, written};
+use super::{PLAIN, owned_form};
+use crate::helpers::{stops, written};
 use gixobj_base::hash::{Kind, ObjectId};
 use gixobj_base::{WriteTo, encode};
-use gixobj_base_tests::limited::Limited;
 use gixobj_codec::{Commit, CommitRef, CommitRefIter};
 use std::alloc::{AllocError, Global};
 use std::test::Fail;
@@ -24,6 +22,32 @@ fn long_commit(alloc: Global) -> Result<Vec<u8>, AllocError> {
     Ok(text)
 }
 
+/// Whether a commit is written so, and counted with as many bytes.
+fn is_written<T: WriteTo>(alloc: Global, commit: &T, wanted: &[u8]) -> bool
+    requires { T.can_write commit.now }
+{
+    match written(alloc, commit) {
+        Ok(out) => out.as_slice() == wanted && commit.size() == Some(wanted.len() as u64),
+        Err(_) => false,
+    }
+}
+
+/// Whether the commit of a text is written back as it is read.
+fn is_kept(alloc: Global, text: &[u8]) -> bool {
+    match CommitRef::from_bytes(alloc, text, Kind::Sha1) {
+        Ok(commit) => is_written(alloc, &commit, text),
+        Err(_) => false,
+    }
+}
+
+/// Whether it is written back as it is read, and as it is owned.
+fn is_written_back(alloc: Global, text: &[u8]) -> bool {
+    match owned_form(alloc, text, Kind::Sha1) {
+        Ok(commit) => is_written(alloc, &commit, text) && is_kept(alloc, text),
+        Err(_) => false,
+    }
+}
+
 /// How many parents the commit of a text has.
 fn parents_of(alloc: Global, text: &[u8]) -> Option<usize> {
     match CommitRef::from_bytes(alloc, text, Kind::Sha1) {
@@ -36,41 +60,9 @@ fn parents_of(alloc: Global, text: &[u8]) -> Option<usize> {
 fn a_thousand_parents_and_headers(rt: HostRuntime) -> Result<(), Fail> {
     let text = long_commit(rt.alloc())?;
     assert!(rt; text.len() == 55_099);
-    assert!(rt; are_written(rt.alloc(), &text, Kind::Sha1, &text, &text));
+    assert!(rt; is_written_back(rt.alloc(), &text));
     assert!(rt; parents_of(rt.alloc(), &text) == Some(1000));
     assert!(rt; CommitRefIter::from_bytes(rt.alloc(), &text, Kind::Sha1).count() == 2004);
-    Ok(())
-}
-
-/// The lines of a commit with two parents, and its author and committer.
-pub(super) const SHA256_LINES: &[u8] =
-    b"tree 6ef19b41225c5369f1c104d45d8d85efa9b057b53b14b4b9b939dd74decc5321\n\
-    parent 473a0f4c3be8a93681a267e3b1e9a7dcda1185436fe141f7749120a303721813\n\
-    parent 6ef19b41225c5369f1c104d45d8d85efa9b057b53b14b4b9b939dd74decc5321\n\
-    author A <a@b> 0 +0000\n\
-    committer A <a@b> 0 +0000\n\
-    gpgsig A\n\
-    gpgsig-sha256 B\n\
-    \nhi\n";
-
-/// Whether a commit has this tree and these two parents.
-fn has_ids(commit: &CommitRef<'_>, tree: ObjectId, first: ObjectId, second: ObjectId) -> bool
-    requires { HasIds (commit_lines commit.now) }
-{
-    let mut parents = commit.parents();
-    commit.tree() == tree
-        && parents.next() == Some(first)
-        && parents.next() == Some(second)
-        && parents.next().is_none()
-}
-
-#[test]
-fn all_parents(rt: HostRuntime) -> Result<(), Fail> {
-    let commit = CommitRef::from_bytes(rt.alloc(), SHA256_LINES, Kind::Sha256)?;
-    let tree = ObjectId::empty_tree(Kind::Sha256);
-    let blob = ObjectId::empty_blob(Kind::Sha256);
-    assert!(rt; has_ids(&commit, tree, blob, tree));
-    assert!(rt; is_written(rt.alloc(), &commit, SHA256_LINES));
     Ok(())
 }
 
@@ -98,47 +90,25 @@ fn ids_of_both_kinds(rt: HostRuntime) -> Result<(), Fail> {
     Ok(())
 }
 
-/// Whether a writer that takes so many bytes and then fails holds exactly those.
-fn stops_at<T: WriteTo>(alloc: Global, commit: &T, text: &[u8], room: usize) -> bool
-    requires { T.can_write commit.now }
-{
-    let Ok(held) = Vec::with_capacity(alloc, text.len()) else {
-        return false;
-    };
-    let mut writer = Limited { held, room };
-    match commit.write_to(alloc, &mut writer) {
-        Err(encode::Error::Writer(_)) => Some(writer.held.as_slice()) == text.get(..room),
-        _ => false,
-    }
-}
-
-/// Whether each writer with less room than the text stops.
-pub(crate) fn stops<T: WriteTo>(alloc: Global, commit: &T, text: &[u8]) -> bool
-    requires { T.can_write commit.now }
-{
-    for room in 0..text.len() {
-        if !stops_at(alloc, commit, text, room) {
-            return false;
-        }
-    }
-    true
-}
-
-/// Lines of headers behind the committer.
-const LINES: &[u8] = b"encoding UTF-8\nx A\n B\ny \n";
+/// A commit with an encoding and with headers.
+const TEXT: &[u8] = b"tree 4b825dc642cb6eb9a060e54bf8d69288fbee4904\n\
+    author A <a@b> 0 +0000\n\
+    committer A <a@b> 0 +0000\n\
+    encoding UTF-8\n\
+    x A\n B\n\
+    y \n\
+    \nhi\n";
 
 #[test]
 fn writers_that_fail(rt: HostRuntime) -> Result<(), Fail> {
-    let text = commit_with(rt.alloc(), LINES)?;
-    let commit = CommitRef::from_bytes(rt.alloc(), &text, Kind::Sha1)?;
-    assert!(rt; stops(rt.alloc(), &commit, &text));
+    let commit = CommitRef::from_bytes(rt.alloc(), TEXT, Kind::Sha1)?;
+    assert!(rt; stops(rt.alloc(), &commit, TEXT));
     Ok(())
 }
 
 #[test]
 fn writers_that_fail_owned(rt: HostRuntime) -> Result<(), Fail> {
-    let text = commit_with(rt.alloc(), LINES)?;
-    let owned = owned_form(rt.alloc(), &text, Kind::Sha1)?;
-    assert!(rt; stops(rt.alloc(), &owned, &text));
+    let owned = owned_form(rt.alloc(), TEXT, Kind::Sha1)?;
+    assert!(rt; stops(rt.alloc(), &owned, TEXT));
     Ok(())
 }

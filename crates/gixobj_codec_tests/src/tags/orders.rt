@@ -1,5 +1,6 @@
 //! Orders and hashes of tags and tokens.
 
+use crate::helpers::hash_of;
 use crate::tags::{BARE, tag_with};
 use bstr::{BStr, BString};
 use gixobj_base::actor::SignatureRef;
@@ -10,14 +11,8 @@ use gixobj_codec::tag::ref_iter::Token;
 use gixobj_codec::{Tag, TagRef};
 use std::alloc::Global;
 use std::cmp::Ordering;
-use std::hash::{DefaultHasher, Hash, Hasher};
+use std::hash::Hash;
 use std::test::Fail;
-
-fn hash_of<T: Hash>(value: &T) -> u64 {
-    let mut state = DefaultHasher::new();
-    value.hash(&mut state);
-    state.finish()
-}
 
 /// Whether values compare so, and are alike where they are equal.
 fn compare_as<T: Ord + Hash>(first: &T, second: &T, wanted: Ordering) -> bool {

@@ -1,9 +1,9 @@
 //! Tags written into writers that fail, and with an id of another kind.
 
+use crate::helpers::stops;
 use crate::tags::{BARE, tag_with};
 use gixobj_base::hash::{Kind, ObjectId};
 use gixobj_base::{WriteTo, encode};
-use gixobj_base_tests::limited::Limited;
 use gixobj_codec::TagRef;
 use std::alloc::Global;
 use std::test::Fail;
@@ -26,32 +26,6 @@ fn ids_of_both_kinds(rt: HostRuntime) -> Result<(), Fail> {
     Ok(())
 }
 
-/// Whether a writer that takes so many bytes and then fails holds exactly those.
-fn stops_at<T: WriteTo>(alloc: Global, tag: &T, text: &[u8], room: usize) -> bool
-    requires { T.can_write tag.now }
-{
-    let Ok(held) = Vec::with_capacity(alloc, text.len()) else {
-        return false;
-    };
-    let mut writer = Limited { held, room };
-    match tag.write_to(alloc, &mut writer) {
-        Err(encode::Error::Writer(_)) => Some(writer.held.as_slice()) == text.get(..room),
-        _ => false,
-    }
-}
-
-/// Whether each writer with less room than a tag takes stops.
-fn stops<T: WriteTo>(alloc: Global, tag: &T, text: &[u8]) -> bool
-    requires { T.can_write tag.now }
-{
-    for room in 0..text.len() {
-        if !stops_at(alloc, tag, text, room) {
-            return false;
-        }
-    }
-    has_size(alloc, tag, text.len() as u64)
-}
-
 /// A tagger, a message and a signature.
 const REST: &[u8] = b"tagger A <a@b> 0 +0000\n\
     \n\
@@ -62,7 +36,8 @@ const REST: &[u8] = b"tagger A <a@b> 0 +0000\n\
 fn writers_that_fail(rt: HostRuntime) -> Result<(), Fail> {
     let text = tag_with(rt.alloc(), REST)?;
     let tag = TagRef::from_bytes(&text, Kind::Sha1)?;
-    assert!(rt; stops(rt.alloc(), &tag, &text));
-    assert!(rt; stops(rt.alloc(), &tag.into_owned(rt.alloc())?, &text));
+    assert!(rt; has_size(rt.alloc(), &tag, text.len() as u64) && stops(rt.alloc(), &tag, &text));
+    let owned = tag.into_owned(rt.alloc())?;
+    assert!(rt; has_size(rt.alloc(), &owned, text.len() as u64) && stops(rt.alloc(), &owned, &text));
     Ok(())
 }

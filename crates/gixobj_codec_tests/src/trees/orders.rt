@@ -1,7 +1,7 @@
 //! Orders and hashes of borrowed entries and trees, which are those of the owned ones.
 
 use super::tree_text;
-use crate::data::hash_of;
+use crate::helpers::hash_of;
 use bstr::BString;
 use gixobj_base::hash::{Kind, ObjectId};
 use gixobj_base::tree::{Entry, EntryKind};

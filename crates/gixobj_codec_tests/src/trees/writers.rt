@@ -1,7 +1,7 @@
 //! What is refused of borrowed trees, and writers that fail.
 
 use super::{ENTRY, EXAMPLE, ONES};
-use crate::commit::stops;
+use crate::helpers::stops;
 use bstr::BStr;
 use gixobj_base::WriteTo;
 use gixobj_base::encode::Error;
