@@ -6,6 +6,7 @@ mod actors;
 mod answers;
 mod commits;
 mod objects;
+mod scripts;
 mod tables;
 mod tags;
 mod texts;

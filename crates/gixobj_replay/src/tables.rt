@@ -4,6 +4,7 @@ ghost use Rattle.std.specs.Prelude.{◌≡◌, ◌++◌, ◌∷◌, IfSome};
 use crate::actors::actor_answer;
 use crate::answers::{header_answer, mode_answer, number_answer, order_answer};
 use crate::commits::{commit_answer, size_answer, token_answer};
+use crate::scripts::script_answer;
 use crate::tags::{name_answer, tag_answer, tag_token_answer};
 use gixobj_base::parse::{split_at_byte, split_at_last_byte};
 use gixobj_recorded::tables::Recorded;
@@ -34,10 +35,14 @@ pub(crate) enum Table {
     TagTokens,
     /// Names of tags judged.
     TagNames,
+    /// Scripts of edits run.
+    Scripts,
+    /// The same, drawn at random.
+    RandomScripts,
 }
 
 /// All of them.
-pub(crate) const TABLES: [Table; 11] = [
+pub(crate) const TABLES: [Table; 13] = [
     Table::Modes,
     Table::ModeNumbers,
     Table::NameOrder,
@@ -49,6 +54,8 @@ pub(crate) const TABLES: [Table; 11] = [
     Table::Tags,
     Table::TagTokens,
     Table::TagNames,
+    Table::Scripts,
+    Table::RandomScripts,
 ];
 
 impl Recorded for Table {
@@ -65,6 +72,8 @@ impl Recorded for Table {
             Table::Tags => ("tags", "tags.tsv"),
             Table::TagTokens => ("tag tokens", "tag-tokens.tsv"),
             Table::TagNames => ("tag names", "tag-names.tsv"),
+            Table::Scripts => ("scripts", "scripts.tsv"),
+            Table::RandomScripts => ("random scripts", "random-scripts.tsv"),
         }
     }
 
@@ -81,6 +90,7 @@ impl Recorded for Table {
             Table::Tags => tag_answer(alloc, question),
             Table::TagTokens => tag_token_answer(alloc, question),
             Table::TagNames => name_answer(alloc, question),
+            Table::Scripts | Table::RandomScripts => script_answer(alloc, question),
         }
     }
 
@@ -91,7 +101,9 @@ impl Recorded for Table {
             return None;
         }
         match self {
-            Table::NameOrder => split_at_last_byte(line, b'\t'),
+            Table::NameOrder | Table::Scripts | Table::RandomScripts => {
+                split_at_last_byte(line, b'\t')
+            }
             _ => split_at_byte(line, b'\t'),
         }
     }
