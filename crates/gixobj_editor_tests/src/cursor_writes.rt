@@ -1,40 +1,12 @@
-//! Writes by cursors, also refused ones. Ids are those that `git mktree --missing` answers.
+//! Refused writes by cursors, and writes behind them. Ids are those that `git mktree --missing` answers.
 
-use crate::cursors::{Visit, all_visited, visited};
-use crate::rows::{EMPTY, Edit, Row, answered, empty_editor, id_of, path_of, writes};
-use crate::writes::went_out;
+use crate::cursor_calls::{hands_out, upserted_by};
+use crate::samples::{FILE, empty_editor, id_of, path_of, upserted, writes};
 use gixobj_base::Tree;
-use gixobj_editor::editor::{Cursor, Editor, WriteError, Written};
+use gixobj_editor::editor::{Cursor, Editor, WriteError};
 use gixobj_store::Memory;
 use std::alloc::Global;
 use std::test::Fail;
-
-fn written(alloc: Global, cursor: &mut Cursor<'_, Memory>) -> Option<Written> {
-    match cursor.write(|tree: &Tree| id_of(alloc, tree)) {
-        Ok(written) => Some(written),
-        Err(_) => None,
-    }
-}
-
-/// Whether a write by a cursor hands out trees of these ids, in this order, the last one being its own.
-fn hands_out(alloc: Global, cursor: &mut Cursor<'_, Memory>, ids: &[&[u8]]) -> bool {
-    match written(alloc, cursor) {
-        Some(written) => went_out(&written, ids),
-        None => false,
-    }
-}
-
-/// Whether a write by a cursor at this directory hands out trees of these ids.
-fn writes_at(
-    alloc: Global,
-    editor: &mut Editor<Memory>,
-    directory: &[u8],
-    ids: &[&[u8]],
-) -> Result<bool, Fail> {
-    let directory = path_of(alloc, directory)?;
-    let mut cursor = editor.cursor_at(&directory)?;
-    Ok(hands_out(alloc, &mut cursor, ids))
-}
 
 /// Whether a write by a cursor stops at its call of this number, with the refusal of the closure.
 fn stops_at(alloc: Global, cursor: &mut Cursor<'_, Memory>, number: u8) -> bool {
@@ -53,50 +25,13 @@ fn stops_at(alloc: Global, cursor: &mut Cursor<'_, Memory>, number: u8) -> bool 
     stopped && calls == number
 }
 
-/// The tree of the file `b`.
-const B: &[u8] = b"ba0ec9c341e1d7e56243006b86ff39209e431800";
-
-#[test]
-fn a_directory_and_then_a_new_root(rt: HostRuntime) -> Result<(), Fail> {
-    let alloc = rt.alloc();
-    let mut editor = empty_editor(alloc);
-    let visit: Visit = (b"a", 0, &[(Edit::File, b"b", 0)]);
-    assert!(rt; visited(alloc, &mut editor, &visit)?);
-    assert!(rt; writes_at(alloc, &mut editor, b"a", &[B])?);
-    editor.set_root(Tree::empty(alloc));
-    assert!(rt; writes(alloc, &mut editor, 1, EMPTY));
-    Ok(())
-}
-
-#[test]
-fn a_directory_twice_and_then_the_root(rt: HostRuntime) -> Result<(), Fail> {
-    let alloc = rt.alloc();
-    let mut editor = empty_editor(alloc);
-    let visit: Visit = (b"a", 0, &[(Edit::File, b"b", 0)]);
-    assert!(rt; visited(alloc, &mut editor, &visit)?);
-    assert!(rt; writes_at(alloc, &mut editor, b"a", &[B])?);
-    assert!(rt; writes_at(alloc, &mut editor, b"a", &[B])?);
-    assert!(rt;
-        writes(
-            alloc,
-            &mut editor,
-            2,
-            b"c046873eb0a8741fe7a4842297bb773a1fa3198b"
-        )
-    );
-    Ok(())
-}
-
 /// An editor of the files `a/x`, `b/y` and `c/d/z`.
 fn of_three_files(alloc: Global) -> Result<Editor<Memory>, Fail> {
     let mut editor = empty_editor(alloc);
-    let rows: &[Row] = &[
-        (Edit::File, b"a x", 0, 0),
-        (Edit::File, b"b y", 0, 0),
-        (Edit::File, b"c d z", 0, 0),
-    ];
-    if !answered(alloc, &mut editor, rows)? {
-        return Err("three files")?;
+    for path in [b"a x".as_slice(), b"b y".as_slice(), b"c d z".as_slice()] {
+        if upserted(alloc, &mut editor, path, FILE)? != 0 {
+            return Err("three files")?;
+        }
     }
     Ok(editor)
 }
@@ -106,21 +41,6 @@ const D: &[u8] = b"454696ff9405b4937895f817649e1c760a885202";
 
 /// The tree of the directory `c`.
 const C: &[u8] = b"3906cb5db1f32691b79896648a123b2f66f57291";
-
-/// Whether one cursor at the directory `c` writes twice: what is open in it and its own tree, and then that alone.
-fn writes_twice(alloc: Global, editor: &mut Editor<Memory>) -> Result<bool, Fail> {
-    let directory = path_of(alloc, b"c")?;
-    let mut cursor = editor.cursor_at(&directory)?;
-    Ok(hands_out(alloc, &mut cursor, &[D, C]) && hands_out(alloc, &mut cursor, &[C]))
-}
-
-#[test]
-fn one_cursor_twice(rt: HostRuntime) -> Result<(), Fail> {
-    let alloc = rt.alloc();
-    let mut editor = of_three_files(alloc)?;
-    assert!(rt; writes_twice(alloc, &mut editor)?);
-    Ok(())
-}
 
 /// The ids of the trees that stand below a directory and its own, where the files are these three.
 const HANDED_OUT: &[(&[u8], &[&[u8]])] = &[
@@ -142,8 +62,8 @@ fn handed_out() -> &'static [(&'static [u8], &'static [&'static [u8]])] {
     HANDED_OUT
 }
 
-/// Whether a write at a directory that stops at its call of this number has lost nothing: the next one hands out
-/// trees of all these ids.
+/// Whether a write at a directory that stops at its call of this number has lost nothing: the next one by the same
+/// cursor hands out trees of all these ids, and the one behind it the last alone.
 fn stops_and_goes_on(
     alloc: Global,
     directory: &[u8],
@@ -153,7 +73,12 @@ fn stops_and_goes_on(
     let mut editor = of_three_files(alloc)?;
     let directory = path_of(alloc, directory)?;
     let mut cursor = editor.cursor_at(&directory)?;
-    Ok(stops_at(alloc, &mut cursor, number) && hands_out(alloc, &mut cursor, ids))
+    let last = ids.get(ids.len().saturating_sub(1)..).unwrap_or(&[]);
+    Ok(
+        stops_at(alloc, &mut cursor, number)
+            && hands_out(alloc, &mut cursor, ids)
+            && hands_out(alloc, &mut cursor, last),
+    )
 }
 
 /// Whether that is so at each call of a write.
@@ -177,30 +102,28 @@ fn failed_out_at_each_tree(rt: HostRuntime) -> Result<(), Fail> {
     Ok(())
 }
 
-/// Whether a write by a cursor at the directory `a` stops at its second tree.
+/// Whether a cursor at the directory `a` puts the files `b/c` and `d` in, and a write by it stops at its second tree.
 fn stops_in_a(alloc: Global, editor: &mut Editor<Memory>) -> Result<bool, Fail> {
     let directory = path_of(alloc, b"a")?;
     let mut cursor = editor.cursor_at(&directory)?;
-    Ok(stops_at(alloc, &mut cursor, 2))
+    let first = upserted_by(alloc, &mut cursor, b"b c")?;
+    let second = upserted_by(alloc, &mut cursor, b"d")?;
+    Ok(first == 0 && second == 0 && stops_at(alloc, &mut cursor, 2))
 }
+
+/// The trees of the directories `a/b` and `a` with these files, and of the root that has the file `q` too.
+const BELOW_AND_ROOT: &[&[u8]] = &[
+    b"6d2d932c1fe444535ef3f0316634b59cfde9c945",
+    b"cd6ccc3dd14a018ceba3ecf6f471bc693c0f31d3",
+    b"00b56d73674c580d9a5189c4680fe80c930202fe",
+];
 
 #[test]
 fn failed_out_and_then_the_root(rt: HostRuntime) -> Result<(), Fail> {
     let alloc = rt.alloc();
     let mut editor = empty_editor(alloc);
-    let visits: &[Visit] = &[
-        (b".", 0, &[(Edit::File, b"q", 0)]),
-        (b"a", 0, &[(Edit::File, b"b c", 0), (Edit::File, b"d", 0)]),
-    ];
-    assert!(rt; all_visited(alloc, &mut editor, visits)?);
+    assert!(rt; upserted(alloc, &mut editor, b"q", FILE)? == 0);
     assert!(rt; stops_in_a(alloc, &mut editor)?);
-    assert!(rt;
-        writes(
-            alloc,
-            &mut editor,
-            3,
-            b"00b56d73674c580d9a5189c4680fe80c930202fe"
-        )
-    );
+    assert!(rt; writes(alloc, &mut editor, BELOW_AND_ROOT));
     Ok(())
 }

@@ -1,25 +1,15 @@
 //! Three rows whose answers stay the same where a growth is refused on the way, and the call is made again: what was
 //! refused has lost nothing.
 
-use crate::rows::tree_of;
+use crate::samples::{FILE, empty_editor, id_of, names, path_of, stored_file};
+use crate::writes::stops_at_the_second;
 use bstr::BString;
-use gixobj_base::hash::{Kind as HashKind, ObjectId};
 use gixobj_base::tree::EntryKind;
-use gixobj_base::{Kind, Tree, WriteTo, compute_hash, encode};
+use gixobj_base::{Tree, encode};
 use gixobj_editor::editor::{Editor, Error, WriteError, Written};
 use gixobj_store::Memory;
-use std::alloc::{AllocError, Global};
+use std::alloc::Global;
 use std::test::Fail;
-
-const FILE: ObjectId = ObjectId::Sha1([1; 20]);
-
-fn path_of(alloc: Global, names: &[&[u8]]) -> Result<Vec<BString>, AllocError> {
-    let mut path = Vec::new(alloc);
-    for name in names {
-        path.push(BString::from_slice(alloc, name)?)?;
-    }
-    Ok(path)
-}
 
 /// Puts a file in, and once more where memory was wanting.
 fn put(editor: &mut Editor<Memory>, path: &[BString]) -> Result<(), Error> {
@@ -27,12 +17,6 @@ fn put(editor: &mut Editor<Memory>, path: &[BString]) -> Result<(), Error> {
         Err(Error::OutOfMemory) => editor.try_upsert(path, EntryKind::Blob, FILE),
         answer => answer,
     }
-}
-
-fn id_of(alloc: Global, tree: &Tree) -> Result<ObjectId, encode::Error> {
-    let mut out = Vec::new(alloc);
-    tree.write_to(alloc, &mut out)?;
-    Ok(compute_hash(HashKind::Sha1, Kind::Tree, &out))
 }
 
 /// A write, and once more where it was refused.
@@ -46,50 +30,32 @@ fn written(
     }
 }
 
-fn is_written(alloc: Global, editor: &mut Editor<Memory>, count: usize, root: &[u8]) -> bool {
+/// Whether a write hands out so many trees, the last of this id.
+fn is_written(alloc: Global, editor: &mut Editor<Memory>, count: usize, root: &str) -> bool {
     match written(alloc, editor) {
-        Ok(it) => it.trees.len() == count && ObjectId::from_hex(root) == Some(it.id),
+        Ok(written) => names(&written, root, count),
         Err(_) => false,
     }
-}
-
-fn empty_editor(alloc: Global) -> Editor<Memory> {
-    Editor::new(Tree::empty(alloc), Memory::new(alloc), HashKind::Sha1)
 }
 
 /// Whether a directory that was removed and made again has its new file alone.
 fn remove_then_again(alloc: Global) -> Result<bool, Error> {
     let mut editor = empty_editor(alloc);
-    put(&mut editor, &path_of(alloc, &[b"a", b"b"])?)?;
-    editor.try_remove(&path_of(alloc, &[b"a"])?)?;
-    put(&mut editor, &path_of(alloc, &[b"a", b"c"])?)?;
-    let root = b"f80f23b9ec7e1c6321e5ec3c2551a24e9c7afab2";
+    put(&mut editor, &path_of(alloc, b"a b")?)?;
+    editor.try_remove(&path_of(alloc, b"a")?)?;
+    put(&mut editor, &path_of(alloc, b"a c")?)?;
+    let root = "f80f23b9ec7e1c6321e5ec3c2551a24e9c7afab2";
     Ok(is_written(alloc, &mut editor, 2, root))
-}
-
-/// Whether a write stops at its second tree.
-fn stops(alloc: Global, editor: &mut Editor<Memory>) -> bool {
-    let mut asked = false;
-    let out = |tree: &Tree| {
-        if asked {
-            return Err(7u8);
-        }
-        asked = true;
-        match id_of(alloc, tree) {
-            Ok(id) => Ok(id),
-            Err(_) => Err(8),
-        }
-    };
-    matches!(editor.write(out), Err(WriteError::Out(7)))
 }
 
 /// Whether nothing is lost where the second tree of a write is refused.
 fn failed_out(alloc: Global) -> Result<bool, Error> {
     let mut editor = empty_editor(alloc);
-    put(&mut editor, &path_of(alloc, &[b"a", b"x"])?)?;
-    put(&mut editor, &path_of(alloc, &[b"b", b"y"])?)?;
-    let stopped = stops(alloc, &mut editor) || stops(alloc, &mut editor);
-    let root = b"77bbb40fde4f7afc2609858ec55da053db6ba24f";
+    put(&mut editor, &path_of(alloc, b"a x")?)?;
+    put(&mut editor, &path_of(alloc, b"b y")?)?;
+    let stopped = stops_at_the_second(alloc, &mut editor)
+        || stops_at_the_second(alloc, &mut editor);
+    let root = "77bbb40fde4f7afc2609858ec55da053db6ba24f";
     Ok(stopped && is_written(alloc, &mut editor, 3, root))
 }
 
@@ -116,27 +82,13 @@ fn put_at(
     }
 }
 
-/// An editor whose root has the directory `a` alone, which is stored and has the file `b`. None for want of memory.
-fn over_a_stored_directory(alloc: Global) -> Option<Editor<Memory>> {
-    let directory = tree_of(alloc, EntryKind::Blob, b"b", FILE).ok()?;
-    let mut text = Vec::new(alloc);
-    directory.write_to(alloc, &mut text).ok()?;
-    let mut store = Memory::new(alloc);
-    let id = store.insert(Kind::Tree, HashKind::Sha1, &text).ok()?;
-    let root = tree_of(alloc, EntryKind::Tree, b"a", id).ok()?;
-    if !root.is_well_formed() {
-        return None;
-    }
-    Some(Editor::new(root, store, HashKind::Sha1))
-}
-
 /// Whether a cursor at a stored directory keeps its file beside a new one. None for want of memory before its edits.
 fn cursor_keeps(alloc: Global) -> Option<bool> {
-    let mut editor = over_a_stored_directory(alloc)?;
-    let directory = path_of(alloc, &[b"a"]).ok()?;
-    let path = path_of(alloc, &[b"c"]).ok()?;
+    let mut editor = stored_file(alloc, &[b"a", b"b"]).ok()?;
+    let directory = path_of(alloc, b"a").ok()?;
+    let path = path_of(alloc, b"c").ok()?;
     let put = put_at(&mut editor, &directory, &path).is_ok();
-    let root = b"d79ed5c1e2ff97a59beb0fc1a1b79b68aa0be74a";
+    let root = "d79ed5c1e2ff97a59beb0fc1a1b79b68aa0be74a";
     Some(put && is_written(alloc, &mut editor, 2, root))
 }
 

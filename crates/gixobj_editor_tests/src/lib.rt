@@ -1,4 +1,4 @@
-//! Tests of the editor of nested trees.
+//! Tests of the editor of nested trees: of what a script doesn't say, and of stores and closures that refuse.
 #![tactic(auto)]
 
 #[cfg(test)]
@@ -6,12 +6,12 @@ mod cursor_calls;
 #[cfg(test)]
 mod cursor_writes;
 #[cfg(test)]
-mod cursors;
+mod entries;
 #[cfg(test)]
 mod growths;
 #[cfg(test)]
-mod rows;
+mod runs;
 #[cfg(test)]
-mod upserts;
+mod samples;
 #[cfg(test)]
 mod writes;

@@ -1,74 +1,36 @@
-//! What a write hands out. Ids are those that `git mktree --missing` answers.
+//! What a write hands out where it was refused before, and where a tree gets the null id; and a copy of an editor. Ids are
+//! those that `git mktree --missing` answers.
 
-use crate::rows::{Edit, Row, answered, empty_editor, id_of};
-use crate::upserts::{editor_of, upserted};
+use crate::samples::{FILE, empty_editor, id_of, upserted, went_out};
 use gixobj_base::Tree;
 use gixobj_base::hash::{Kind as HashKind, ObjectId};
-use gixobj_editor::editor::{Editor, WriteError, Written};
+use gixobj_editor::editor::{Editor, WriteError};
 use gixobj_store::Memory;
 use std::alloc::Global;
 use std::test::Fail;
 
-/// The tree of the file `b` of the id of twenty bytes 2.
-const BELOW: &[u8] = b"0396118a714ac90ec311ca1360e1071785f8715d";
-
-/// That tree as the directory `a`, and beside it the file `c` of the same id.
-const ROOT: &[u8] = b"296a9f7205d0b3de4670d86abd0b38a2f8091f21";
-
-fn written(alloc: Global, editor: &mut Editor<Memory>) -> Result<Written, Fail> {
-    match editor.try_write(&mut |tree: &Tree| id_of(alloc, tree)) {
-        Ok(written) => Ok(written),
-        Err(_) => Err("a refused write")?,
-    }
-}
-
-fn is_id(id: ObjectId, hex: &[u8]) -> bool {
-    ObjectId::from_hex(hex) == Some(id)
-}
-
-#[test]
-fn a_directory_and_then_the_root(rt: HostRuntime) -> Result<(), Fail> {
-    let alloc = rt.alloc();
-    let empty = ObjectId::empty_tree(HashKind::Sha1);
-    let mut editor = editor_of(alloc, Memory::new(alloc), empty)?;
-    assert!(rt; upserted(alloc, &mut editor, &[b"a", b"b"])? == 0);
-    assert!(rt; upserted(alloc, &mut editor, &[b"c"])? == 0);
-    let first = written(alloc, &mut editor)?;
-    assert!(rt; first.trees.len() == 2);
-    assert!(rt; is_id(first.trees[0].0, BELOW) && is_id(first.id, ROOT));
-    let again = written(alloc, &mut editor)?;
-    assert!(rt; again.trees.len() == 1 && is_id(again.id, ROOT));
-    Ok(())
-}
-
-/// Whether trees of these ids went out, in this order, the last one being the one that is named.
-pub(crate) fn went_out(written: &Written, ids: &[&[u8]]) -> bool {
-    written.trees.len() == ids.len()
-        && written
-            .trees
-            .iter()
-            .zip(ids)
-            .all(|((id, _), hex)| is_id(*id, hex))
-        && written
-            .trees
-            .last()
-            .is_some_and(|(id, _)| *id == written.id)
-}
-
 /// Whether a write stops at its second tree, with the refusal of the closure.
-fn stops_at_the_second(alloc: Global, editor: &mut Editor<Memory>) -> bool {
-    let mut calls = 0u8;
+pub(crate) fn stops_at_the_second(alloc: Global, editor: &mut Editor<Memory>) -> bool {
+    let mut asked = false;
     let out = |tree: &Tree| {
-        if calls == 1 {
+        if asked {
             return Err(7u8);
         }
-        calls = 1;
+        asked = true;
         match id_of(alloc, tree) {
             Ok(id) => Ok(id),
             Err(_) => Err(8),
         }
     };
     matches!(editor.write(out), Err(WriteError::Out(7)))
+}
+
+/// Whether a write through a borrowed closure hands out trees of these ids.
+fn writes_by_a_borrowed(alloc: Global, editor: &mut Editor<Memory>, ids: &[&[u8]]) -> bool {
+    match editor.try_write(&mut |tree: &Tree| id_of(alloc, tree)) {
+        Ok(written) => went_out(alloc, &written, ids),
+        Err(_) => false,
+    }
 }
 
 /// The trees of the directories `a` and `b`, each of one file `x` or `y`, and of the root.
@@ -87,9 +49,40 @@ fn all_three() -> &'static [&'static [u8]] {
 fn failed_out(rt: HostRuntime) -> Result<(), Fail> {
     let alloc = rt.alloc();
     let mut editor = empty_editor(alloc);
-    let rows: &[Row] = &[(Edit::File, b"a x", 0, 0), (Edit::File, b"b y", 0, 0)];
-    assert!(rt; answered(alloc, &mut editor, rows)?);
+    assert!(rt; upserted(alloc, &mut editor, b"a x", FILE)? == 0);
+    assert!(rt; upserted(alloc, &mut editor, b"b y", FILE)? == 0);
     assert!(rt; stops_at_the_second(alloc, &mut editor));
-    assert!(rt; went_out(&written(alloc, &mut editor)?, all_three()));
+    assert!(rt; writes_by_a_borrowed(alloc, &mut editor, all_three()));
+    Ok(())
+}
+
+/// Whether a write hands out two trees, the second of them empty, where each gets the null id.
+fn leaves_a_directory_out(editor: &mut Editor<Memory>) -> bool {
+    let out = |_: &Tree| Ok::<ObjectId, u8>(ObjectId::null(HashKind::Sha1));
+    match editor.write(out) {
+        Ok(written) => match written.trees.as_slice() {
+            [_, (_, root)] => root.entries.is_empty(),
+            _ => false,
+        },
+        Err(_) => false,
+    }
+}
+
+#[test]
+fn a_null_answer_leaves_a_directory_out(rt: HostRuntime) -> Result<(), Fail> {
+    let alloc = rt.alloc();
+    let mut editor = empty_editor(alloc);
+    assert!(rt; upserted(alloc, &mut editor, b"a b", FILE)? == 0);
+    assert!(rt; leaves_a_directory_out(&mut editor));
+    Ok(())
+}
+
+#[test]
+fn a_copy_goes_its_own_way(rt: HostRuntime) -> Result<(), Fail> {
+    let alloc = rt.alloc();
+    let mut editor = Editor::new(Tree::empty(alloc), 1u8, HashKind::Sha1);
+    let mut copied = editor.clone()?;
+    *copied.store_mut() = 2;
+    assert!(rt; *editor.store_mut() == 1 && *copied.store_mut() == 2);
     Ok(())
 }

@@ -21,6 +21,7 @@ mod git_commits;
 mod git_objects;
 mod objects;
 mod spelling;
+mod scripts;
 mod tables;
 mod tags;
 mod texts;

@@ -16,6 +16,7 @@ use crate::recorded::tables::{Recorded, behind_source, named_parts};
 use crate::git_trees::git_tree_answer;
 use crate::git_commits::{beginning_answer, call_answer, search_answer, shape_answer};
 use crate::git_objects::loose_answer;
+use crate::scripts::script_answer;
 use crate::tags::{name_answer, tag_answer, tag_token_answer};
 use crate::times::time_answer;
 use crate::trees::{tree_answer, tree_token_answer};
@@ -111,6 +112,14 @@ pub(crate) const TABLES: [Table; 13] = [
 
 /// All of them.
 pub(crate) const TABLES: [Table; 17] = [
+    /// Scripts of edits run.
+    Scripts,
+    /// The same, drawn at random.
+    RandomScripts,
+}
+
+/// All of them.
+pub(crate) const TABLES: [Table; 13] = [
     Table::Modes,
     Table::ModeNumbers,
     Table::NameOrder,
@@ -148,6 +157,8 @@ pub(crate) const TABLES: [Table; 17] = [
     Table::CommitBeginnings,
     Table::CommitCalls,
     Table::GitObjects,
+    Table::Scripts,
+    Table::RandomScripts,
 ];
 
 impl Recorded for Table {
@@ -190,6 +201,8 @@ impl Recorded for Table {
             Table::CommitBeginnings => ("commit beginnings", "commit-beginnings.tsv"),
             Table::CommitCalls => ("commit calls", "commit-calls.tsv"),
             Table::GitObjects => ("git objects", "git-objects.tsv"),
+            Table::Scripts => ("scripts", "scripts.tsv"),
+            Table::RandomScripts => ("random scripts", "random-scripts.tsv"),
         }
     }
 
@@ -228,6 +241,7 @@ impl Recorded for Table {
             Table::CommitBeginnings => beginning_answer(alloc, asked(question)),
             Table::CommitCalls => call_answer(alloc, asked(question)),
             Table::GitObjects => loose_answer(alloc, asked(question)),
+            Table::Scripts | Table::RandomScripts => script_answer(alloc, question),
         }
     }
 
@@ -258,6 +272,9 @@ impl Recorded for Table {
             | Table::CommitBeginnings
             | Table::CommitCalls
             | Table::GitObjects => named_parts(line),
+            Table::NameOrder | Table::Scripts | Table::RandomScripts => {
+                split_at_last_byte(line, b'\t')
+            }
             _ => split_at_byte(line, b'\t'),
         }
     }

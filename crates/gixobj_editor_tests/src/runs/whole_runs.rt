@@ -1,14 +1,14 @@
 //! A run of the whole script of ten lines, whatever growth is refused on the way: the answers behind the one for memory
 //! follow from the commands that were accepted and the trees that were kept.
 
-use crate::failing::Failing;
-use crate::growths::{AMPLE, Ample, Outcome, commands_of, outcome_of};
-use crate::samples::{TEN_LINES, editor_over, id_of};
+use crate::runs::growths::{AMPLE, Ample, Outcome, outcome_of};
+use crate::runs::samples::{TEN_LINES, commands_of, editor_over, run_on};
+use crate::samples::number_of;
+use gixobj_base::encode;
 use gixobj_base::hash::ObjectId;
-use gixobj_base::{OutOfMemory, Tree, encode};
-use gixobj_editor::editor::{Editor, Error};
+use gixobj_editor::editor::Error;
 use gixobj_keeping::KeepError;
-use gixobj_runs::{Command, EditReply, Reply, run};
+use gixobj_runs::{Command, EditReply, Reply};
 use std::alloc::{AllocError, Global};
 use std::test::Fail;
 
@@ -22,18 +22,6 @@ enum Came {
     Refused(u8),
     Wrote(ObjectId),
     WriteRefused,
-}
-
-/// The number of a refusal.
-fn number_of(refusal: &Error) -> u8 {
-    match refusal {
-        Error::EmptyPathComponent => 1,
-        Error::SlashInPathComponent => 2,
-        Error::FindExistingObject(_) => 3,
-        Error::CannotRemoveNonLeaf { .. } => 4,
-        Error::MalformedTree => 5,
-        Error::OutOfMemory => 6,
-    }
 }
 
 fn edit_came_to(reply: &EditReply<encode::Error>) -> Came {
@@ -131,15 +119,6 @@ fn commands_but(alloc: Global, left_out: usize) -> Result<Vec<Command>, AllocErr
         }
     }
     Ok(commands)
-}
-
-/// A run of commands.
-fn run_on(
-    alloc: Global,
-    editor: &mut Editor<Failing>,
-    commands: Vec<Command>,
-) -> Result<Vec<Reply<encode::Error>>, OutOfMemory> {
-    run(alloc, editor, commands, |tree: &Tree| id_of(alloc, tree))
 }
 
 /// A run of commands on the empty root, over a store that refuses calls of `keep`.

@@ -1,16 +1,15 @@
 //! An edit in a directory that is refused between others, and a root that is refused: the rest of the run goes on.
 
-use crate::samples::{editor_over, id_of, names};
+use crate::runs::samples::{editor_over, run_on};
+use crate::samples::{FILE, names};
 use bstr::BString;
 use gixobj_base::Tree;
 use gixobj_base::hash::ObjectId;
 use gixobj_base::tree::{Entry, EntryKind};
 use gixobj_editor::editor::Error;
-use gixobj_runs::{Command, Edit, EditReply, Reply, run};
+use gixobj_runs::{Command, Edit, EditReply, Reply};
 use std::alloc::{AllocError, Global};
 use std::test::Fail;
-
-const FILE: ObjectId = ObjectId::Sha1([1; 20]);
 
 /// The id of a directory with the files `b` and `c`, as `git mktree --missing` answers it.
 const DIRECTORY: &str = "902b8b41da66fef3bfdbf578a9b45304b9114c0e";
@@ -60,8 +59,7 @@ fn goes_on_in_the_directory<E>(replies: &[Reply<E>]) -> bool {
 fn edit_refused_halfway(rt: HostRuntime) -> Result<(), Fail> {
     let alloc = rt.alloc();
     let mut editor = editor_over(alloc, &[], &[]);
-    let out = |tree: &Tree| id_of(alloc, tree);
-    let replies = run(alloc, &mut editor, edits_in_a_directory(alloc)?, out)?;
+    let replies = run_on(alloc, &mut editor, edits_in_a_directory(alloc)?)?;
     assert!(rt; goes_on_in_the_directory(&replies));
     Ok(())
 }
@@ -102,8 +100,7 @@ fn keeps_its_root<E>(replies: &[Reply<E>]) -> bool {
 fn root_refused(rt: HostRuntime) -> Result<(), Fail> {
     let alloc = rt.alloc();
     let mut editor = editor_over(alloc, &[], &[]);
-    let out = |tree: &Tree| id_of(alloc, tree);
-    let replies = run(alloc, &mut editor, malformed_root(alloc)?, out)?;
+    let replies = run_on(alloc, &mut editor, malformed_root(alloc)?)?;
     assert!(rt; keeps_its_root(&replies));
     Ok(())
 }

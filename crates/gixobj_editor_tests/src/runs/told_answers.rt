@@ -1,4 +1,4 @@
-//! The lines of answers.
+//! The lines of answers that no script in memory has.
 
 use bstr::BString;
 use gixobj_base::encode;
@@ -9,49 +9,12 @@ use gixobj_runs::{EditReply, Reply};
 use gixobj_script::{Answer, Refusal, answer_lines};
 use std::test::Fail;
 
-const WITH_THREE: &[u8] = b"3c4e9cd789d88d8d89c1073707c3585e41b0e614";
-
-const DIRECTORY: &[u8] = b"d8329fc1cc938780ffdd9f94e0d364e0ea74f579";
-
-const WITH_TWO: &[u8] = b"0155eb4229851634a0f03eb265b69f5a2d56f341";
+const ID: &[u8] = b"0155eb4229851634a0f03eb265b69f5a2d56f341";
 
 #[test]
-fn answers_to_a_script(rt: HostRuntime) -> Result<(), Fail> {
-    let with_three = ObjectId::from_hex(WITH_THREE).ok_or("an id")?;
-    let answers = [
-        Answer::Done,
-        Answer::Done,
-        Answer::Done,
-        Answer::Wrote(with_three, 2),
-        Answer::Done,
-        Answer::Wrote(with_three, 2),
-        Answer::Wrote(ObjectId::from_hex(DIRECTORY).ok_or("an id")?, 1),
-        Answer::Done,
-        Answer::Wrote(ObjectId::from_hex(WITH_TWO).ok_or("an id")?, 1),
-        Answer::Refused(Refusal::EmptyName),
-    ];
-    let lines = "ok
-ok
-ok
-wrote 3c4e9cd789d88d8d89c1073707c3585e41b0e614 2
-ok
-wrote 3c4e9cd789d88d8d89c1073707c3585e41b0e614 2
-wrote d8329fc1cc938780ffdd9f94e0d364e0ea74f579 1
-ok
-wrote 0155eb4229851634a0f03eb265b69f5a2d56f341 1
-refused 1
-lookups 2
-";
-    assert_eq!(rt;
-        answer_lines(rt.alloc(), &answers, 2)?.as_slice(),
-        lines.as_bytes()
-    );
-    Ok(())
-}
-
-#[test]
-fn other_answers(rt: HostRuntime) -> Result<(), Fail> {
+fn answers_of_all_kinds(rt: HostRuntime) -> Result<(), Fail> {
     let alloc = rt.alloc();
+    let id = ObjectId::from_hex(ID).ok_or("an id")?;
     let answers = [
         Answer::Refused(Refusal::SlashInName),
         Answer::Refused(Refusal::DirectoryNotFound),
@@ -61,8 +24,8 @@ fn other_answers(rt: HostRuntime) -> Result<(), Fail> {
         Answer::Refused(Refusal::OutOfMemory),
         Answer::RefusedOut,
         Answer::RefusedMemory,
-        Answer::Unkept(ObjectId::from_hex(WITH_TWO).ok_or("an id")?),
-        Answer::Wrote(ObjectId::from_hex(WITH_TWO).ok_or("an id")?, usize::MAX),
+        Answer::Unkept(id),
+        Answer::Wrote(id, usize::MAX),
     ];
     let lines = "refused 2
 refused 3

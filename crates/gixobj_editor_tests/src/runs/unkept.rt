@@ -1,15 +1,13 @@
 //! Stores that refuse to keep a tree, or fail to find one: what is told, and how the run goes on.
 
-use crate::failing::{Failing, OFFLINE};
-use crate::samples::{editor_over, id_of, names};
-use gixobj_base::hash::{Kind as HashKind, ObjectId};
-use gixobj_base::{Tree, encode};
+use crate::runs::failing::{Failing, OFFLINE};
+use crate::runs::samples::{editor_over, replies_to, tells};
+use crate::samples::names;
+use gixobj_base::encode;
+use gixobj_base::hash::ObjectId;
 use gixobj_data::Find;
-use gixobj_edit::edit_on;
-use gixobj_editor::editor::Editor;
 use gixobj_keeping::KeepError;
-use gixobj_runs::{EditReply, Reply, run};
-use gixobj_script::read_script;
+use gixobj_runs::{EditReply, Reply};
 use std::alloc::Global;
 use std::test::Fail;
 
@@ -97,46 +95,25 @@ lookups 2
 ];
 
 /// Whether this is told of the script, and the store was asked as often as is told.
-fn tells(
+fn tells_and_asks(
     alloc: Global,
     lookups_that_fail: &'static [u64],
     keeps_that_fail: &'static [u64],
     wanted: &str,
 ) -> bool {
     let mut editor = editor_over(alloc, lookups_that_fail, keeps_that_fail);
-    let out = |tree: &Tree| id_of(alloc, tree);
-    match edit_on(
-        alloc,
-        &mut editor,
-        WRITE_AGAIN.as_bytes(),
-        HashKind::Sha1,
-        out,
-    ) {
-        Ok(text) => {
-            text.as_slice() == wanted.as_bytes() && editor.lookups() == editor.store_mut().lookups()
-        }
-        Err(_) => false,
-    }
+    tells(alloc, &mut editor, WRITE_AGAIN, wanted)
+        && editor.lookups() == editor.store_mut().lookups()
 }
 
 #[test]
 fn told_of_refusals(rt: HostRuntime) {
     for &(lookups_that_fail, keeps_that_fail, wanted) in ROWS {
         assert!(rt;
-            tells(rt.alloc(), lookups_that_fail, keeps_that_fail, wanted),
+            tells_and_asks(rt.alloc(), lookups_that_fail, keeps_that_fail, wanted),
             "{wanted}"
         );
     }
-}
-
-/// The replies to a script.
-fn replies_to(
-    alloc: Global,
-    editor: &mut Editor<Failing>,
-    script: &str,
-) -> Result<Vec<Reply<encode::Error>>, Fail> {
-    let commands = read_script(alloc, script.as_bytes(), HashKind::Sha1)?;
-    Ok(run(alloc, editor, commands, |tree: &Tree| id_of(alloc, tree))?)
 }
 
 /// Whether the last reply says that two trees went out, and the second wasn't kept.

@@ -1,14 +1,13 @@
 //! The script of ten lines, whatever growth is refused on the way: want of memory is answered where it comes, the other
 //! answers stay, and what is given again with memory gets the answer that it gets with ample memory.
 
-use crate::failing::Failing;
-use crate::samples::{TEN_LINES, editor_over, id_of, names};
-use gixobj_base::hash::Kind as HashKind;
-use gixobj_base::{Tree, encode};
+use crate::runs::failing::Failing;
+use crate::runs::samples::{TEN_LINES, commands_of, editor_over, run_on};
+use crate::samples::names;
+use gixobj_base::encode;
 use gixobj_editor::editor::{Editor, Error, WriteError, Written};
 use gixobj_keeping::{Keep, KeepError};
-use gixobj_runs::{Command, EditReply, Reply, run};
-use gixobj_script::read_script;
+use gixobj_runs::{EditReply, Reply};
 use std::alloc::{AllocError, Global};
 use std::test::Fail;
 
@@ -133,14 +132,6 @@ fn judged_all(
     }
 }
 
-/// The commands of a script.
-pub(crate) fn commands_of(alloc: Global, script: &str) -> Result<Vec<Command>, AllocError> {
-    match read_script(alloc, script.as_bytes(), HashKind::Sha1) {
-        Ok(commands) => Ok(commands),
-        Err(_) => Err(AllocError),
-    }
-}
-
 /// What comes of the command of a line, given alone.
 fn comes_of(
     alloc: Global,
@@ -149,7 +140,7 @@ fn comes_of(
     ample: Ample,
 ) -> Result<Outcome, AllocError> {
     let commands = commands_of(alloc, line)?;
-    match run(alloc, editor, commands, |tree: &Tree| id_of(alloc, tree)) {
+    match run_on(alloc, editor, commands) {
         Ok(replies) => Ok(judged_all(editor, &replies, ample)),
         Err(_) => Ok(Outcome::Wanting),
     }

@@ -1,0 +1,12 @@
+//! Tests of whole runs: scripts and lists of commands, over a store that counts what it is asked for, and refuses; and
+//! of what is told of them.
+
+mod failing;
+mod growths;
+mod refused_halfway;
+mod refused_out;
+mod samples;
+mod ten_lines;
+mod told_answers;
+mod unkept;
+mod whole_runs;

@@ -1,0 +1,76 @@
+//! What several tests run, and how.
+
+use crate::runs::failing::Failing;
+use crate::samples::id_of;
+use gixobj_base::hash::Kind as HashKind;
+use gixobj_base::{OutOfMemory, Tree, encode};
+use gixobj_edit::edit_on;
+use gixobj_editor::editor::Editor;
+use gixobj_runs::{Command, Reply, run};
+use gixobj_script::read_script;
+use std::alloc::{AllocError, Global};
+use std::test::Fail;
+
+/// Edits before and after writes: what a write handed out is looked up again.
+pub(crate) const TEN_LINES: &str = "upsert blob fa49b077972391ad58037050f2a75f74e3671e92 new.txt
+upsert blob 1f7a7a472abf3dd9643fd615f6da379c4acb3e3a test.txt
+at bak upsert blob 83baae61804e65cc73a7201a7252750c76066a30 test.txt
+write
+remove bak/none
+write
+at bak write
+leaf bak/test.txt
+write
+upsert blob 83baae61804e65cc73a7201a7252750c76066a30 q//r
+";
+
+/// An editor of the empty root over a store without objects, with lookups and calls of `keep` that fail.
+pub(crate) fn editor_over(
+    alloc: Global,
+    lookups_that_fail: &'static [u64],
+    keeps_that_fail: &'static [u64],
+) -> Editor<Failing> {
+    let store = Failing::new(alloc, lookups_that_fail, keeps_that_fail);
+    Editor::new(Tree::empty(alloc), store, HashKind::Sha1)
+}
+
+/// The commands of a script.
+pub(crate) fn commands_of(alloc: Global, script: &str) -> Result<Vec<Command>, AllocError> {
+    match read_script(alloc, script.as_bytes(), HashKind::Sha1) {
+        Ok(commands) => Ok(commands),
+        Err(_) => Err(AllocError),
+    }
+}
+
+/// A run of commands.
+pub(crate) fn run_on(
+    alloc: Global,
+    editor: &mut Editor<Failing>,
+    commands: Vec<Command>,
+) -> Result<Vec<Reply<encode::Error>>, OutOfMemory> {
+    run(alloc, editor, commands, |tree: &Tree| id_of(alloc, tree))
+}
+
+/// The replies to a script.
+pub(crate) fn replies_to(
+    alloc: Global,
+    editor: &mut Editor<Failing>,
+    script: &str,
+) -> Result<Vec<Reply<encode::Error>>, Fail> {
+    let commands = commands_of(alloc, script)?;
+    Ok(run_on(alloc, editor, commands)?)
+}
+
+/// Whether this is told of a script.
+pub(crate) fn tells(
+    alloc: Global,
+    editor: &mut Editor<Failing>,
+    script: &str,
+    wanted: &str,
+) -> bool {
+    let out = |tree: &Tree| id_of(alloc, tree);
+    match edit_on(alloc, editor, script.as_bytes(), HashKind::Sha1, out) {
+        Ok(text) => text.as_slice() == wanted.as_bytes(),
+        Err(_) => false,
+    }
+}
