@@ -2,9 +2,8 @@
 //! of a plain list that went through the same.
 
 use crate::listing::Listed;
-use crate::scripts::{
-    self, Numbers, begins, copy_of, drawn_path, forget, id_of, names, put, writes,
-};
+use crate::samples::id_of;
+use crate::scripts::{self, Numbers, begins, copy_of, drawn_path, forget, names, put, writes};
 use bstr::BString;
 use gix_object::Tree;
 use gix_object::hash::{Kind as HashKind, ObjectId};

@@ -1,12 +1,12 @@
 //! A walk through a store of one's own: two commits, each with a tree, as `git` names them.
 
-use bstr::BString;
+use crate::samples::{id, path_of};
 use gix_object::hash::{Kind as HashKind, ObjectId};
 use gix_object::tree::Entry;
 use gix_object::{Data, Kind};
 use gixobj_callers::history::{Error, ancestor, entry_of};
 use gixobj_callers::shelf::Shelf;
-use std::alloc::{AllocError, Global};
+use std::alloc::Global;
 use std::test::Fail;
 
 /// What `git mktree --missing` answers for the file `test.txt` of the id `83baae61804e65cc73a7201a7252750c76066a30`.
@@ -45,11 +45,6 @@ const SECOND_TEXT: &[u8] = b"tree 3c4e9cd789d88d8d89c1073707c3585e41b0e614\n\
 /// What `git rev-parse` answers for `bak/test.txt` of the second commit.
 const VERSION_1: &[u8] = b"83baae61804e65cc73a7201a7252750c76066a30";
 
-/// The id that the hex digits spell; of others the null id.
-fn id(hex: &[u8]) -> ObjectId {
-    ObjectId::from_hex(hex).unwrap_or(ObjectId::null(HashKind::Sha1))
-}
-
 fn object(hex: &[u8], kind: Kind, text: &'static [u8]) -> (ObjectId, Data<'static>) {
     (id(hex), Data::new(text, kind, HashKind::Sha1))
 }
@@ -76,19 +71,11 @@ fn ancestors(rt: HostRuntime) -> Result<(), Fail> {
     Ok(())
 }
 
-fn names(alloc: Global, path: &[&str]) -> Result<Vec<BString>, AllocError> {
-    let mut names = Vec::new(alloc);
-    for name in path {
-        names.push(BString::from_slice(alloc, name.as_bytes())?)?;
-    }
-    Ok(names)
-}
-
 /// The entry at a path in the tree of a commit of these objects.
 fn at(alloc: Global, commit: &[u8], path: &[&str]) -> Result<Option<Entry>, Fail> {
     let objects = objects();
     let store = Shelf { objects: &objects };
-    Ok(entry_of(alloc, &store, id(commit), &names(alloc, path)?)?)
+    Ok(entry_of(alloc, &store, id(commit), &path_of(alloc, path)?)?)
 }
 
 /// Whether the entry is that of the file in the inner tree.
@@ -115,7 +102,7 @@ fn no_commit(rt: HostRuntime) -> Result<(), Fail> {
     let alloc = rt.alloc();
     let objects = objects();
     let store = Shelf { objects: &objects };
-    let found = entry_of(alloc, &store, id(ROOT), &names(alloc, &["bak"])?);
+    let found = entry_of(alloc, &store, id(ROOT), &path_of(alloc, &["bak"])?);
     assert!(rt; matches!(&found, Err(Error::Commit(_))));
     Ok(())
 }

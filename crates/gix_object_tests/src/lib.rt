@@ -18,4 +18,6 @@ mod readme;
 #[cfg(test)]
 mod run_scripts;
 #[cfg(test)]
+mod samples;
+#[cfg(test)]
 mod scripts;

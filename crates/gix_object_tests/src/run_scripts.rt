@@ -2,7 +2,8 @@
 
 use crate::cursor_scripts::{assure, below, joined};
 use crate::listing::{Listed, files_of};
-use crate::scripts::{Numbers, are_same, begins, drawn_path, forget, id_of, put};
+use crate::samples::id_of;
+use crate::scripts::{Numbers, are_same, begins, drawn_path, forget, put};
 use bstr::BString;
 use gix_object::hash::{Kind as HashKind, ObjectId};
 use gix_object::tree::editor::{Command, Edit, EditReply, Editor, Error, Reply, Written, run};

@@ -2,11 +2,12 @@
 //! edits.
 
 use crate::listing::{Listed, files_of};
+use crate::samples::{id_of, text_of};
 use bstr::BString;
 use gix_object::hash::{Kind as HashKind, ObjectId};
 use gix_object::tree::EntryKind;
 use gix_object::tree::editor::{Editor, Error, Written};
-use gix_object::{Kind, Tree, WriteTo, compute_hash, encode};
+use gix_object::{Kind, Tree};
 use gixobj_store::Memory;
 use std::alloc::{AllocError, Global};
 use std::test::Fail;
@@ -98,17 +99,6 @@ pub(crate) fn are_same(files: &[Listed], others: &[Listed]) -> bool {
         && files
             .iter()
             .all(|file| others.iter().any(|other| is_same(file, other)))
-}
-
-fn text_of(alloc: Global, tree: &Tree) -> Result<Vec<u8>, encode::Error> {
-    let mut text = Vec::new(alloc);
-    tree.write_to(alloc, &mut text)?;
-    Ok(text)
-}
-
-pub(crate) fn id_of(alloc: Global, tree: &Tree) -> Result<ObjectId, encode::Error> {
-    let text = text_of(alloc, tree)?;
-    Ok(compute_hash(HashKind::Sha1, Kind::Tree, &text))
 }
 
 /// An edit, done to both.

@@ -1,9 +1,11 @@
 //! Objects that come back as they were.
 
-use gixobj_base::hash::{Kind, ObjectId};
+use crate::samples::id;
+use gix_object::hash::Kind;
+use gix_object::{Tree, TreeRef, decode};
 use gixobj_callers::planner::{is_tree, read_back};
 use gixobj_callers::store::{TakeError, taken_over, tree_copy_of};
-use gixobj_codec::TreeRef;
+use std::alloc::Global;
 use std::test::Fail;
 
 /// The tree of the one file `test.txt`, as `git mktree` writes it.
@@ -19,24 +21,20 @@ const HELLO: &[u8] = b"hello\n";
 
 const HELLO_ID: &[u8] = b"ce013625030ba8dba906f756967f9e9ca394464a";
 
+/// The tree of this text.
+fn tree_of(alloc: Global, text: &[u8]) -> Result<Tree, decode::Error> {
+    let tree = TreeRef::from_bytes(alloc, text, Kind::Sha1)?;
+    Ok(tree.into_owned(alloc)?)
+}
+
 #[test]
-fn texts_of_trees(rt: HostRuntime) {
+fn trees_copied(rt: HostRuntime) -> Result<(), Fail> {
+    let alloc = rt.alloc();
     assert!(rt; is_tree(TREE, Kind::Sha1));
     assert!(rt; !is_tree(CUT, Kind::Sha1));
-}
-
-#[test]
-fn tree_copied(rt: HostRuntime) -> Result<(), Fail> {
-    let alloc = rt.alloc();
     assert!(rt; tree_copy_of(alloc, TREE, Kind::Sha1)?.as_slice() == TREE);
     assert!(rt; tree_copy_of(alloc, CUT, Kind::Sha1).is_err());
-    Ok(())
-}
-
-#[test]
-fn tree_read_back(rt: HostRuntime) -> Result<(), Fail> {
-    let alloc = rt.alloc();
-    let tree = TreeRef::from_bytes(alloc, TREE, Kind::Sha1)?.into_owned(alloc)?;
+    let tree = tree_of(alloc, TREE)?;
     assert!(rt; read_back(alloc, &tree, Kind::Sha1)? == tree);
     Ok(())
 }
@@ -44,9 +42,9 @@ fn tree_read_back(rt: HostRuntime) -> Result<(), Fail> {
 #[test]
 fn blob_taken_over(rt: HostRuntime) -> Result<(), Fail> {
     let alloc = rt.alloc();
-    let id = ObjectId::from_hex(HELLO_ID).ok_or("an id")?;
-    assert!(rt; taken_over(alloc, b"blob 6\0hello\n", id.as_oid())?.as_slice() == HELLO);
-    let refusal = taken_over(alloc, b"blob 5\0hello", id.as_oid());
+    let hello = id(HELLO_ID);
+    assert!(rt; taken_over(alloc, b"blob 6\0hello\n", hello.as_oid())?.as_slice() == HELLO);
+    let refusal = taken_over(alloc, b"blob 5\0hello", hello.as_oid());
     assert!(rt; matches!(&refusal, Err(TakeError::Verify(_))));
     Ok(())
 }

@@ -1,0 +1,95 @@
+//! Edits that are imported into a store.
+
+use super::{FIRST, SECOND};
+use crate::samples::{id, id_of, path_of};
+use gix_object::hash::Kind;
+use gix_object::tree::EntryKind;
+use gix_object::tree::editor::{Edit, Editor, Error, WriteError, Written};
+use gix_object::{Tree, encode};
+use gixobj_callers::importer::{ImportError, import_files};
+use gixobj_store::Memory;
+use std::alloc::{AllocError, Global};
+use std::test::Fail;
+
+/// A file that is put at a path.
+fn file_at(alloc: Global, names: &[&str], hex: &[u8]) -> Result<Edit, AllocError> {
+    Ok(Edit::Upsert {
+        path: path_of(alloc, names)?,
+        kind: EntryKind::Blob,
+        id: id(hex),
+    })
+}
+
+fn empty_editor(alloc: Global) -> Editor<Memory> {
+    Editor::new(Tree::empty(alloc), Memory::new(alloc), Kind::Sha1)
+}
+
+fn import(
+    alloc: Global,
+    editor: &mut Editor<Memory>,
+    edits: Vec<Edit>,
+) -> Result<Written, ImportError<encode::Error>> {
+    import_files(alloc, editor, edits, |tree: &Tree| id_of(alloc, tree))
+}
+
+/// Whether an import makes a root of this id, and two trees go out.
+fn is_imported(alloc: Global, editor: &mut Editor<Memory>, edits: Vec<Edit>, root: &[u8]) -> bool {
+    match import(alloc, editor, edits) {
+        Ok(written) => written.id == id(root) && written.trees.len() == 2,
+        Err(_) => false,
+    }
+}
+
+/// What `git mktree --missing` answers for `040000 tree f09792be40f18f537c28b624b7bc7771f25082e1`, a tab and `a`, and
+/// `100644 blob`, the second id, a tab and `c`; the tree `a` is what it answers for `100644 blob`, the first id, a tab
+/// and `b`.
+const IMPORTED: &[u8] = b"4308448a0c406025f0a267505e3259565bf6351e";
+
+/// What it answers in the same way for the files `a/b` of the first id and `a/d` of the second.
+const GONE_ON: &[u8] = b"ed09f01c0a6d6684b098b8d3591ada3fb12b32f3";
+
+#[test]
+fn imported(rt: HostRuntime) -> Result<(), Fail> {
+    let alloc = rt.alloc();
+    let mut editor = empty_editor(alloc);
+    let near = file_at(alloc, &["c"], SECOND)?;
+    let far = file_at(alloc, &["a", "b"], FIRST)?;
+    assert!(rt; is_imported(alloc, &mut editor, vec![in alloc; far, near]?, IMPORTED));
+    let more = file_at(alloc, &["a", "d"], SECOND)?;
+    let path = path_of(alloc, &["c"])?;
+    let less = Edit::Remove { path };
+    assert!(rt; is_imported(alloc, &mut editor, vec![in alloc; more, less]?, GONE_ON));
+    Ok(())
+}
+
+/// A word for what comes of an import.
+fn refusal(alloc: Global, editor: &mut Editor<Memory>, edits: Vec<Edit>) -> &'static str {
+    match import(alloc, editor, edits) {
+        Err(ImportError::HoldsWrite) => "holds a write",
+        Err(
+            ImportError::Edit {
+                index: 1,
+                error: Error::SlashInPathComponent,
+            },
+        ) => "slash in the second",
+        Err(ImportError::Write(WriteError::Out(_))) => "not written",
+        _ => "otherwise",
+    }
+}
+
+#[test]
+fn not_imported(rt: HostRuntime) -> Result<(), Fail> {
+    let alloc = rt.alloc();
+    let mut editor = empty_editor(alloc);
+    let near = file_at(alloc, &["c"], SECOND)?;
+    let edits = vec![in alloc; near, Edit::Write]?;
+    assert_eq!(rt; refusal(alloc, &mut editor, edits), "holds a write");
+    let near = file_at(alloc, &["c"], SECOND)?;
+    let slashed = file_at(alloc, &["a/b"], FIRST)?;
+    let edits = vec![in alloc; near, slashed]?;
+    assert_eq!(rt; refusal(alloc, &mut editor, edits), "slash in the second");
+    let zero = file_at(alloc, &["\0"], FIRST)?;
+    let edits = vec![in alloc; zero]?;
+    assert_eq!(rt; refusal(alloc, &mut editor, edits), "not written");
+    Ok(())
+}

@@ -1,0 +1,121 @@
+//! An entry that is put into a stored tree, or into the empty one.
+
+use super::{FIRST, SECOND};
+use crate::samples::{id, id_of, path_of, text_of};
+use bstr::BString;
+use gix_object::find::Never;
+use gix_object::hash::{Kind as HashKind, ObjectId};
+use gix_object::tree::editor::{Error, WriteError, Written};
+use gix_object::tree::{Entry, EntryKind};
+use gix_object::{Find, Kind, Tree, encode};
+use gixobj_callers::planner::{PlanError, RootError, with_entry_in_stored};
+use gixobj_store::Memory;
+use std::alloc::{AllocError, Global};
+use std::test::Fail;
+
+/// A store with the file at the path of these names, the last one first, of the first id, and the id of the tree
+/// above it.
+fn stored(alloc: Global, names: &[&str]) -> Result<(Memory, ObjectId), Fail> {
+    let mut store = Memory::new(alloc);
+    let mut kind = EntryKind::Blob;
+    let mut oid = id(FIRST);
+    for name in names {
+        let mut tree = Tree::empty(alloc);
+        tree.entries.push(Entry {
+            mode: kind.into(),
+            filename: BString::from_slice(alloc, name.as_bytes())?,
+            oid,
+        })?;
+        let text = text_of(alloc, &tree)?;
+        oid = store.insert(Kind::Tree, HashKind::Sha1, &text)?;
+        kind = EntryKind::Tree;
+    }
+    Ok((store, oid))
+}
+
+/// A file of this id, put at a path into the tree of the root's id.
+fn plan<S: Find + Drop>(
+    alloc: Global,
+    root: ObjectId,
+    store: S,
+    names: &[&str],
+    file: &[u8],
+) -> Result<Result<Written, PlanError<encode::Error>>, AllocError> {
+    let path = path_of(alloc, names)?;
+    let out = |tree: &Tree| id_of(alloc, tree);
+    let kind = EntryKind::Blob;
+    Ok(with_entry_in_stored(alloc, root, store, &path, kind, id(file), out))
+}
+
+/// Whether the file of the second id, put at a path into the stored tree of the file `a/b`, makes a root of this id, and
+/// so many trees go out.
+fn is_planned(alloc: Global, names: &[&str], root: &[u8], count: usize) -> Result<bool, Fail> {
+    let (store, stored) = stored(alloc, &["b", "a"])?;
+    let written = plan(alloc, stored, store, names, SECOND)??;
+    Ok(written.id == id(root) && written.trees.len() == count)
+}
+
+/// Whether a file of this name and id, put into the empty tree, makes a root of this id.
+fn is_planned_alone(alloc: Global, name: &str, file: &[u8], root: &[u8]) -> Result<bool, Fail> {
+    let empty = ObjectId::empty_tree(HashKind::Sha1);
+    let written = plan(alloc, empty, Never, &[name], file)??;
+    Ok(written.id == id(root))
+}
+
+/// What `git mktree --missing` answers for the directory `a` alone, of the files `b` of the first id and `x` of the
+/// second.
+const BESIDE: &[u8] = b"42306307596042142f124b5146c180127d63b0d6";
+
+/// What `git mktree --missing` answers for `040000 tree f09792be40f18f537c28b624b7bc7771f25082e1`, a tab and `a`, and
+/// `100644 blob`, the second id, a tab and `x`; the tree `a` is what it answers for `100644 blob`, the first id, a tab
+/// and `b`.
+const AT_THE_ROOT: &[u8] = b"fa0919f1e8adc1e676ab04434a2d7f5842aeed3e";
+
+/// What it answers in the same way for the file `x` of the second id alone.
+const X_ALONE: &[u8] = b"5805b676e247eb9a8046ad0c4d249cd2fb2513df";
+
+/// What it answers for the file `hello.txt` of the first id alone.
+const HELLO_ALONE: &[u8] = b"aaa96ced2d9a1c8e72c56b253a0e2fe78393feb7";
+
+#[test]
+fn planned(rt: HostRuntime) -> Result<(), Fail> {
+    let alloc = rt.alloc();
+    assert!(rt; is_planned(alloc, &["a", "x"], BESIDE, 2)?);
+    assert!(rt; is_planned(alloc, &["x"], AT_THE_ROOT, 1)?);
+    assert!(rt; is_planned_alone(alloc, "x", SECOND, X_ALONE)?);
+    assert!(rt; is_planned_alone(alloc, "hello.txt", FIRST, HELLO_ALONE)?);
+    Ok(())
+}
+
+/// A word for what came of a plan.
+fn word(answer: &Result<Written, PlanError<encode::Error>>) -> &'static str {
+    match answer {
+        Err(PlanError::Root(RootError::Find(_))) => "no root",
+        Err(PlanError::Root(RootError::Malformed)) => "malformed root",
+        Err(PlanError::Edit(Error::EmptyPathComponent)) => "empty name",
+        Err(PlanError::Write(WriteError::Out(_))) => "not written",
+        _ => "otherwise",
+    }
+}
+
+/// What comes of the file of the second id, put at a path into the stored tree of these files, the last name first.
+fn refusal(alloc: Global, files: &[&str], names: &[&str]) -> Result<&'static str, Fail> {
+    let (store, root) = stored(alloc, files)?;
+    Ok(word(&plan(alloc, root, store, names, SECOND)?))
+}
+
+/// What comes of it where the root's id is the null one.
+fn refusal_without_a_root(alloc: Global) -> Result<&'static str, AllocError> {
+    let null = ObjectId::null(HashKind::Sha1);
+    Ok(word(&plan(alloc, null, Never, &["x"], SECOND)?))
+}
+
+#[test]
+fn not_planned(rt: HostRuntime) -> Result<(), Fail> {
+    let alloc = rt.alloc();
+    assert_eq!(rt; refusal_without_a_root(alloc)?, "no root");
+    assert_eq!(rt; refusal(alloc, &["a/b"], &["x"])?, "malformed root");
+    assert_eq!(rt; refusal(alloc, &["b"], &["x", ""])?, "empty name");
+    assert_eq!(rt; refusal(alloc, &["b"], &["\0"])?, "not written");
+    Ok(())
+}

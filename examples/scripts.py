@@ -1,0 +1,307 @@
+#!/usr/bin/env python3
+"""Makes scripts of random edits, and what `gixobj edit` tells of each.
+
+`python3 examples/scripts.py FOLDER` makes two repositories in a new folder, one of each object format, and writes the
+table of the scripts: a line for each, with its name, `git`, the object format, the script and what is told.
+
+The ids are git's. Beside each script goes a plain set of files, and at a write git makes the tree of those files:
+`git update-index --index-info` and `git write-tree --missing-ok`. The rest of what is told follows from two rules:
+
+- A directory is opened where a path goes through it. It is looked up then, unless it is new or of the null id.
+- A write hands out each open directory that has a file, and the one that is written. Below that one none is open then.
+"""
+
+import os
+import random
+import subprocess
+import sys
+
+HEADER = """\
+# Scripts of random edits, run on the empty root over a store that has nothing. Columns: name; where the answer is from; \
+the kind of the ids; the script; what is told of it
+# In a script and in what is told, '\\n' is a newline
+# git: examples/scripts.py makes them. The ids are those that git gives to a plain set of files that goes beside each \
+script, 'git update-index --index-info' in an empty index and then 'git write-tree --missing-ok'
+# rule: beside an id stands the number of the trees that are handed out: each open directory that has a file, and the \
+one that is written. Below that one none is open then
+# rule: the lookups are the directories that were opened, but for new ones and those of the null id
+# rule: 'refused 1' is told of an empty name, 'refused 3' where a directory isn't in the store, and 'refused 4' with its \
+path of a directory that is to be removed as a leaf"""
+
+MODES = {"blob": "100644", "exe": "100755", "link": "120000", "commit": "160000"}
+OK = "ok"
+
+
+class Git:
+    """A new repository with ids of one kind of digest."""
+
+    def __init__(self, folder, object_format):
+        self.folder = os.path.join(folder, object_format)
+        self.answer("init", "-q", f"--object-format={object_format}", self.folder, at=folder)
+        texts = ["one\n", "two\n", "three\n", "four\n"]
+        self.ids = [self.answer("hash-object", "--stdin", given=it) for it in texts]
+        self.unknown = self.answer("hash-object", "--stdin", given="no tree\n")
+        self.null = "0" * len(self.unknown)
+
+    def answer(self, *words, given="", at=None):
+        own = {"PATH": os.environ["PATH"], "GIT_CONFIG_GLOBAL": os.devnull, "GIT_CONFIG_NOSYSTEM": "1"}
+        command = ["git", "-C", at or self.folder, *words]
+        return subprocess.run(command, input=given, env=own, capture_output=True, text=True, check=True).stdout.strip()
+
+    def tree_of(self, files):
+        """The id that git gives the tree of these files."""
+        lines = [f"{MODES[kind]} {id}\t{'/'.join(path)}\n" for path, (kind, id) in files.items()]
+        self.answer("read-tree", "--empty")
+        self.answer("update-index", "--index-info", given="".join(lines))
+        return self.answer("write-tree", "--missing-ok")
+
+    def directories_of(self, tree):
+        """The path and the id of each directory in a tree."""
+        lines = self.answer("ls-tree", "-r", "-d", tree).splitlines()
+        entries = [line.split(None, 3) for line in lines]
+        return [(tuple(path.split("/")), id) for _, kind, id, path in entries if kind == "tree"]
+
+
+def beginnings(path):
+    """The path of each directory on the way to a path, and the path itself."""
+    return [path[: length + 1] for length in range(len(path))]
+
+
+def is_in(path, directory):
+    """Whether a path goes on from a directory."""
+    return len(path) > len(directory) and path[: len(directory)] == directory
+
+
+class Plain:
+    """A plain set of files, and which directories are open."""
+
+    def __init__(self, git):
+        self.git = git
+        self.lookups = 0
+        self.stored = {}
+        self.begin_anew()
+
+    def begin_anew(self):
+        self.files = {}
+        self.open = {()}
+        self.null_directories = set()
+        return OK
+
+    def below(self, directory):
+        """The files in a directory, by their paths from there."""
+        return {path[len(directory) :]: it for path, it in self.files.items() if is_in(path, directory)}
+
+    def is_unknown(self, path):
+        return path in self.files and self.files[path][0] == "tree"
+
+    def stands(self, path):
+        """Whether a directory is at the path."""
+        listed = path in self.open or path in self.null_directories or self.is_unknown(path)
+        return listed or bool(self.below(path))
+
+    def open_along(self, path, opens_null=True):
+        """Opens the directories on a path as far as there are any; a refusal, if one isn't in the store."""
+        for place in beginnings(path):
+            if place in self.open:
+                continue
+            is_null = place in self.null_directories
+            if not self.stands(place) or (is_null and not opens_null):
+                break
+            self.lookups += not is_null
+            if self.is_unknown(place):
+                return "refused 3"
+            self.open.add(place)
+            self.null_directories.discard(place)
+        return OK
+
+    def assure(self, path):
+        """Makes each beginning of a path an open directory, and takes away the file that stands there."""
+        for place in beginnings(path):
+            self.files.pop(place, None)
+            self.null_directories.discard(place)
+            self.open.add(place)
+
+    def forget(self, path):
+        """Takes away all that is at and below a path."""
+        kept = lambda it: it != path and not is_in(it, path)
+        self.files = {it: file for it, file in self.files.items() if kept(it)}
+        self.open = set(filter(kept, self.open))
+        self.null_directories = set(filter(kept, self.null_directories))
+
+    def upsert(self, path, kind, id):
+        if "" in path:
+            return "refused 1"
+        told = self.open_along(path[:-1])
+        if told != OK or not path:
+            return told
+        self.assure(path[:-1])
+        self.forget(path)
+        if id == self.git.null:
+            self.null_directories |= {path} if kind == "tree" else set()
+        elif id in self.stored:
+            self.files.update({path + behind: it for behind, it in self.stored[id].items()})
+        else:
+            self.files[path] = (kind, id)
+        return OK
+
+    def remove(self, path, is_leaf=False):
+        """The names from the first empty one on are judged only where the directory above them is there."""
+        above = path[: path.index("")] if "" in path else path[:-1]
+        told = self.open_along(above, opens_null=not is_leaf)
+        if told != OK or not path:
+            return told
+        if "" in path:
+            return "refused 1" if above in self.open else OK
+        if is_leaf and self.stands(path):
+            return "refused 4 " + "/".join(path)
+        self.forget(path)
+        return OK
+
+    def go_to(self, prefix):
+        """Opens the directory at a prefix, or makes it."""
+        if "" in prefix:
+            return "refused 1"
+        told = self.open_along(prefix)
+        if told == OK:
+            self.assure(prefix)
+        return told
+
+    def write(self, directory):
+        """Git's id of the directory's files, and how many trees are handed out. Its trees are in the store then."""
+        files = self.below(directory)
+        id = self.git.tree_of(files)
+        handed_out = [it for it in self.open if is_in(it, directory) and self.below(it)]
+        self.open = {it for it in self.open if not is_in(it, directory)}
+        self.null_directories = {it for it in self.null_directories if not is_in(it, directory)}
+        if files:
+            self.stored[id] = files
+        for path, inner in self.git.directories_of(id):
+            self.stored[inner] = self.below(directory + path)
+        return f"wrote {id} {len(handed_out) + 1}"
+
+
+class Script:
+    """A script that is drawn line by line, and what is told of it."""
+
+    def __init__(self, git, draw, names, depth, is_whole):
+        self.plain = Plain(git)
+        self.git = git
+        self.draw = draw
+        self.names = names
+        self.depth = depth
+        self.is_whole = is_whole
+        self.lines = []
+        self.told = []
+
+    def path(self):
+        """A path: often at, above or below a file; in whole runs at times one without names, or with an empty one."""
+        number = self.draw.randrange(40)
+        if self.is_whole and number < 2:
+            return () if number else (self.draw.choice(self.names), "", "a")
+        path = tuple(self.draw.choices(self.names, k=self.draw.randint(1, self.depth)))
+        if number < 16 and self.plain.files:
+            unknown = list(filter(self.plain.is_unknown, self.plain.files))
+            there = self.draw.choice(unknown or list(self.plain.files))
+            length = self.draw.randint(1, len(there) + 1)
+            return there[:length] + (path[:1] if length > len(there) else ())
+        return path
+
+    def entry(self):
+        """The kind and the id of an upsert: in whole runs at times a stored tree, an unknown one, or the null id."""
+        number = self.draw.randrange(16) if self.is_whole else 15
+        if number < 4 and self.plain.stored:
+            return "tree", self.draw.choice(list(self.plain.stored))
+        if number == 4:
+            return "tree", self.git.unknown
+        if number in (5, 6):
+            return self.draw.choice(["tree", "blob"]), self.git.null
+        kind = self.draw.choice(list(MODES)) if number < 10 else "blob"
+        return kind, self.draw.choice(self.git.ids)
+
+    def edit(self, prefix=None):
+        """An edit, from the root or by a cursor."""
+        at = "" if prefix is None else f"at {'/'.join(prefix) or '.'} "
+        path = self.path()
+        text = "/".join(path) if path else "."
+        told = OK if prefix is None else self.plain.go_to(prefix)
+        whole = (prefix or ()) + path if path else ()
+        number = self.draw.randrange(8)
+        if number < 5:
+            kind, id = self.entry()
+            self.lines.append(f"{at}upsert {kind} {id} {text}")
+            self.told.append(self.plain.upsert(whole, kind, id) if told == OK else told)
+        else:
+            is_leaf = number == 7
+            self.lines.append(f"{at}{'leaf' if is_leaf else 'remove'} {text}")
+            self.told.append(self.plain.remove(whole, is_leaf) if told == OK else told)
+
+    def write(self, prefix=None):
+        """A write, behind the removal of trees that the store doesn't have."""
+        for path in filter(self.plain.is_unknown, list(self.plain.files)):
+            self.lines.append(f"remove {'/'.join(path)}")
+            self.told.append(self.plain.remove(path))
+        self.lines.append("write" if prefix is None else f"at {'/'.join(prefix) or '.'} write")
+        told = OK if prefix is None else self.plain.go_to(prefix)
+        self.told.append(self.plain.write(prefix or ()) if told == OK else told)
+
+    def visit(self):
+        """Edits by cursors in one directory, and at times a write of it."""
+        prefix = self.path()
+        prefix = prefix[: self.draw.randint(0, len(prefix))]
+        for _ in range(self.draw.randint(1, 4)):
+            self.edit(prefix)
+        if self.draw.randrange(2):
+            self.write(prefix)
+
+    def step(self, visits):
+        """A visit, in so many of sixteen steps; else an edit, a write, or in whole runs at times a new root."""
+        number = self.draw.randrange(16)
+        if number < visits:
+            self.visit()
+        elif number < 14:
+            self.edit()
+        elif number == 14 or not self.is_whole or self.draw.randrange(3):
+            self.write()
+        else:
+            self.lines.append("root")
+            self.told.append(self.plain.begin_anew())
+
+    def text(self):
+        return "".join(f"{line}\\n" for line in self.lines)
+
+    def told_text(self):
+        return "".join(f"{line}\\n" for line in [*self.told, f"lookups {self.plain.lookups}"])
+
+
+# What a script is called, how many visits it has in sixteen steps, and whether it is a whole run.
+KINDS = [("edits", 0, False), ("cursors", 11, False), ("runs", 5, True)]
+FEW_NAMES = ["a", "b", "c", "d"]
+NEAR_NAMES = ["a", "a-", "a.b", "a0"]
+
+
+def script(git, draw, number, visits, is_whole):
+    """A script of ten to sixty lines that ends in a write; each third one is of near names, and deeper."""
+    names, depth = (NEAR_NAMES, 5) if number % 3 == 2 else (FEW_NAMES, 3)
+    made = Script(git, draw, names, depth, is_whole)
+    length = draw.randint(9, 52)
+    while len(made.lines) < length:
+        made.step(visits)
+    made.write()
+    return made
+
+
+def main(folder):
+    os.makedirs(folder)
+    print(HEADER)
+    for object_format, count in [("sha1", 9), ("sha256", 5)]:
+        git = Git(folder, object_format)
+        draw = random.Random(object_format)
+        for name, visits, is_whole in KINDS:
+            for number in range(count):
+                made = script(git, draw, number, visits, is_whole)
+                name_of_row = f"{name}-{object_format}-{number + 1}"
+                print(name_of_row, "git", object_format, made.text(), made.told_text(), sep="\t")
+
+
+if __name__ == "__main__":
+    main(sys.argv[1])
