@@ -4,6 +4,8 @@
 #[cfg(test)]
 mod callers;
 #[cfg(test)]
+mod converted;
+#[cfg(test)]
 mod cursor_scripts;
 #[cfg(test)]
 mod editor;
@@ -19,3 +21,5 @@ mod readme;
 mod run_scripts;
 #[cfg(test)]
 mod scripts;
+#[cfg(test)]
+mod told_by_callers;

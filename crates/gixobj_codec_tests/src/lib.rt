@@ -4,6 +4,8 @@
 #[cfg(test)]
 mod commit;
 #[cfg(test)]
+mod converted;
+#[cfg(test)]
 mod data;
 #[cfg(test)]
 mod laws;
@@ -11,3 +13,5 @@ mod laws;
 mod objects;
 #[cfg(test)]
 mod public_paths;
+#[cfg(test)]
+mod whole_parts;

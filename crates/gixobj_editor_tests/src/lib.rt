@@ -12,6 +12,8 @@ mod growths;
 #[cfg(test)]
 mod rows;
 #[cfg(test)]
+mod single_calls;
+#[cfg(test)]
 mod upserts;
 #[cfg(test)]
 mod writes;
