@@ -4,6 +4,8 @@
 #[cfg(test)]
 mod callers;
 #[cfg(test)]
+mod converted;
+#[cfg(test)]
 mod cursor_scripts;
 #[cfg(test)]
 mod editor;
@@ -21,3 +23,5 @@ mod run_scripts;
 mod samples;
 #[cfg(test)]
 mod scripts;
+#[cfg(test)]
+mod told_by_callers;

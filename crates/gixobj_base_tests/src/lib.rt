@@ -6,6 +6,10 @@ mod actor;
 #[cfg(test)]
 mod blob;
 #[cfg(test)]
+mod borrowed;
+#[cfg(test)]
+mod converted;
+#[cfg(test)]
 mod date;
 #[cfg(test)]
 mod fields;

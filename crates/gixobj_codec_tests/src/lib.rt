@@ -4,6 +4,8 @@
 #[cfg(test)]
 mod commit;
 #[cfg(test)]
+mod converted;
+#[cfg(test)]
 mod data;
 #[cfg(test)]
 mod helpers;
@@ -17,3 +19,5 @@ mod public_paths;
 mod tags;
 #[cfg(test)]
 mod trees;
+#[cfg(test)]
+mod whole_parts;

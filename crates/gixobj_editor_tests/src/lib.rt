@@ -14,4 +14,6 @@ mod runs;
 #[cfg(test)]
 mod samples;
 #[cfg(test)]
+mod single_calls;
+#[cfg(test)]
 mod writes;

@@ -20,6 +20,8 @@ mod recording;
 #[cfg(test)]
 mod samples;
 #[cfg(test)]
+mod single_calls;
+#[cfg(test)]
 mod steps;
 #[cfg(test)]
 mod stores;

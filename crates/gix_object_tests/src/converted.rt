@@ -1,0 +1,32 @@
+//! Why a directory isn't opened, and what becomes of it in an edit's refusal.
+
+use gix_object::find::existing_object;
+use gix_object::tree::editor::Error;
+use gix_object::{OutOfMemory, find};
+use gixobj_directories::opening;
+use std::alloc::AllocError;
+
+#[test]
+fn want_of_memory(rt: HostRuntime) {
+    let lookup = existing_object::Error::Find(find::Error::OutOfMemory);
+    assert!(rt;
+        matches!(
+            &opening::Error::from(AllocError),
+            opening::Error::OutOfMemory
+        )
+    );
+    assert!(rt;
+        matches!(
+            &opening::Error::from(OutOfMemory),
+            opening::Error::OutOfMemory
+        )
+    );
+    assert!(rt; matches!(&opening::Error::from(lookup), opening::Error::OutOfMemory));
+    assert!(rt; matches!(&Error::from(AllocError), Error::OutOfMemory));
+}
+
+#[test]
+fn a_tree_that_is_malformed(rt: HostRuntime) {
+    let error = Error::from(opening::Error::MalformedTree);
+    assert!(rt; matches!(&error, Error::MalformedTree));
+}

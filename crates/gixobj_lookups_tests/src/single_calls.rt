@@ -1,0 +1,58 @@
+//! Single calls: what is handed to a shared store and to the one that keeps nothing, and a step into a tree that is
+//! damaged at its first byte.
+
+use crate::recording::{Recorder, Stream};
+use crate::samples::{is_id, names};
+use gix_object::find::Never;
+use gix_object::hash::{Kind as HashKind, ObjectId};
+use gix_object::tree::next_entry;
+use gix_object::{Data, Kind, Write};
+use std::alloc::Global;
+use std::ops::ControlFlow;
+use std::rc::Rc;
+use std::test::Fail;
+
+/// Whether a store answers the null id to a content.
+fn takes<W: Write>(alloc: Global, store: &W) -> bool {
+    is_id(
+        store.write_buf(alloc, Kind::Tag, b"a"),
+        ObjectId::null(HashKind::Sha1),
+    )
+}
+
+#[test]
+fn to_a_shared_store(rt: HostRuntime) -> Result<(), Fail> {
+    let alloc = rt.alloc();
+    let store = Rc::new(alloc, Recorder::new(alloc))?;
+    assert!(rt; takes(alloc, &store));
+    let wanted = Stream {
+        kind: Kind::Tag,
+        size: 1,
+        bytes: Vec::from_slice(alloc, b"a")?,
+    };
+    assert!(rt; store.has(&[wanted]));
+    Ok(())
+}
+
+/// The id is that of an object of the stated kind.
+#[test]
+fn a_stream_of_a_tree(rt: HostRuntime) {
+    let mut stream = b"rest".as_slice();
+    let answer = Never.write_stream(rt.alloc(), Kind::Tree, 0, &mut stream);
+    assert!(rt; is_id(answer, ObjectId::empty_tree(HashKind::Sha1)));
+    assert!(rt; stream == b"rest".as_slice());
+}
+
+/// No entry is found behind the damaged one.
+#[test]
+fn a_damaged_first_entry(rt: HostRuntime) -> Result<(), Fail> {
+    let path = names(rt.alloc(), &["a"])?;
+    let mut left = path.as_slice();
+    let tree = Data::new(
+        b"!100644 a\0aaaaaaaaaaaaaaaaaaaa",
+        Kind::Tree,
+        HashKind::Sha1,
+    );
+    assert!(rt; matches!(next_entry(&mut left, tree), ControlFlow::Break(None)));
+    Ok(())
+}
