@@ -1,4 +1,4 @@
-//! Tests of the editor of nested trees.
+//! Tests of the editor of nested trees, and of the program that runs scripts on it.
 #![tactic(auto)]
 
 #[cfg(test)]
@@ -7,6 +7,8 @@ mod cursor_calls;
 mod cursor_writes;
 #[cfg(test)]
 mod cursors;
+#[cfg(test)]
+mod engine;
 #[cfg(test)]
 mod growths;
 #[cfg(test)]
