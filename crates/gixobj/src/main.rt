@@ -4,13 +4,8 @@
 //! tells what came of each.
 #![tactic(auto)]
 
-pub mod engine;
-pub mod fault;
-pub mod store;
-pub mod words;
-
-use engine::engine;
 use gixobj_base::streams::ToWrite;
+use gixobj_edit::engine::engine;
 use gixobj_loose::engine::tell;
 use gixobj_loose::words::words_of_process;
 use std::process::ExitCode;

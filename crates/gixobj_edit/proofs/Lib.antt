@@ -1,3 +1,4 @@
+mod FewWords
 pub mod Fitting
 pub mod Told
 pub mod Wider

@@ -1,10 +1,13 @@
-//! Tests of the editor of nested trees: of what a script doesn't say, and of stores and closures that refuse.
+//! Tests of the editor of nested trees and of its runs, of what a script doesn't say: stores, closures, readers and
+//! writers that refuse. And of the program that runs scripts.
 #![tactic(auto)]
 
 #[cfg(test)]
 mod cursor_calls;
 #[cfg(test)]
 mod cursor_writes;
+#[cfg(test)]
+mod engine;
 #[cfg(test)]
 mod entries;
 #[cfg(test)]

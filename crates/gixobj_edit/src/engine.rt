@@ -1,23 +1,20 @@
 //! The program, over any reader and any two writers.
 ghost use Rattle.std.specs.Prelude.{◌≡◌, ◌≢◌, map, OnOk, IfErr, ⊤};
 ghost use Rattle.std.specs.String.{string_bytes};
-ghost use Rattle.gixobj.specs.Engine.{Edited, RefusesEditing, UnwrittenByEdit};
-ghost use Rattle.gixobj.specs.Faults.{fault_line, fault_status};
-ghost use Rattle.gixobj.specs.Words.{AsksForEdit, AsksForNoEdit, AsksToEdit};
-ghost use Rattle.gixobj.specs.declared.fault.Fault.{Fault};
-ghost use Rattle.gixobj_base.specs.Streams.{writer_view};
+ghost use Rattle.gixobj_edit.specs.Engine.{Edited, RefusesEditing, UnwrittenByEdit};
+ghost use Rattle.gixobj_edit.specs.Faults.{fault_line, fault_status};
+ghost use Rattle.gixobj_edit.specs.Words.{AsksForEdit, AsksForNoEdit, AsksToEdit};
+ghost use Rattle.gixobj_edit.specs.declared.fault.Fault.{Fault};
+ghost use Rattle.gixobj_fields.specs.Streams.{writer_view};
 ghost use Rattle.gixobj_loose.specs.Engine.{Answered, Refuses, Told, Unread, Unwritten};
 ghost use Rattle.gixobj_loose.specs.Refusal.{line_of, status_of};
 ghost use Rattle.gixobj_loose.specs.declared.refusal.Refusal.{Refusal};
 
-#[cfg(test)]
-mod tests;
-
+use crate::editing::edit;
 use crate::fault::{Fault, tell_fault};
 use crate::words::asked_to_edit;
-use gixobj_base::hash;
-use gixobj_base::streams::{FromRead, Sink, Source, ToWrite};
-use gixobj_edit::edit;
+use gixobj_fields::streams::{FromRead, Sink, Source, ToWrite};
+use gixobj_ids::hash;
 use gixobj_loose::Refusal;
 use gixobj_loose::input::read_all;
 use std::alloc::Global;

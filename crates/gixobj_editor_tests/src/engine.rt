@@ -1,6 +1,6 @@
 //! Whole runs of the program over memory. Ids are those that `git mktree --missing` answers.
 
-use super::engine;
+use gixobj_edit::engine::engine;
 use std::alloc::{AllocError, Global};
 use std::io;
 use std::io::{ErrorKind, Read, Write};

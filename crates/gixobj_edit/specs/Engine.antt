@@ -1,23 +1,23 @@
 -- A run of a script by the program: what it reads, what it writes, and why it tells nothing.
 use Rattle.std.specs.Prelude.{ℕ, List, Option}
-use Rattle.gixobj_base.specs.Streams.{Puts, PutsFront, SinkView}
-use Rattle.gixobj_base.specs.ids.hash.kind.Kind as hash
 use Rattle.gixobj_edit.specs.Edits.{IsEdit, RefusesEdit}
+use Rattle.gixobj_edit.specs.Words.{AsksForEdit, AsksToEdit}
 use Rattle.gixobj_edit.specs.declared.editing.EditError.TheVariants as editing
+use Rattle.gixobj_edit.specs.declared.fault.Fault.{Fault}
+use Rattle.gixobj_edit.specs.declared.fault.Fault.TheVariants as fault
+use Rattle.gixobj_fields.specs.Streams.{Puts, PutsFront, SinkView}
+use Rattle.gixobj_ids.specs.declared.hash.kind.Kind as hash
 use Rattle.gixobj_loose.specs.Engine.{ReadsAll, Unwritten}
 use Rattle.gixobj_loose.specs.declared.refusal.Refusal.TheVariants as refusal
-use Rattle.gixobj.specs.Words.{AsksForEdit, AsksToEdit}
-use Rattle.gixobj.specs.declared.fault.Fault.{Fault}
-use Rattle.gixobj.specs.declared.fault.Fault.TheVariants as fault
 
 -- the input was read to its end, it is a script, and this text tells what came of it on a new editor
-abbrev pub IsTold : List (List ℕ) → Option (List ℕ) → Option (List ℕ) → List ℕ → Type 0
-IsTold words rest rest' text =
+abbrev pub IsToldOfInput : List (List ℕ) → Option (List ℕ) → Option (List ℕ) → List ℕ → Type 0
+IsToldOfInput words rest rest' text =
     (hash : hash.Kind) × (script : List ℕ) × AsksForEdit words hash × ReadsAll rest rest' script × IsEdit hash script text
 
 -- the text that tells was put
 abbrev pub Edited : List (List ℕ) → Option (List ℕ) → Option (List ℕ) → SinkView → SinkView → Type 0
-Edited words rest rest' out out' = (text : List ℕ) × IsTold words rest rest' text × Puts out out' text
+Edited words rest rest' out out' = (text : List ℕ) × IsToldOfInput words rest rest' text × Puts out out' text
 
 -- why nothing is told: the first bad line of the input; the input failed; the output failed, and a front of the text that tells was put; or
 -- memory was wanting
@@ -26,7 +26,7 @@ RefusesEditing words rest rest' may_fail out out' (fault.BadLine number) =
     (hash : hash.Kind) × (script : List ℕ) × AsksForEdit words hash × ReadsAll rest rest' script × RefusesEdit hash script (editing.BadLine number)
 RefusesEditing words rest rest' may_fail out out' (fault.Refused refusal.InputFailed) = AsksToEdit words × may_fail
 RefusesEditing words rest rest' may_fail out out' (fault.Refused refusal.OutputFailed) =
-    (text : List ℕ) × IsTold words rest rest' text × PutsFront out out' text
+    (text : List ℕ) × IsToldOfInput words rest rest' text × PutsFront out out' text
 RefusesEditing words rest rest' may_fail out out' (fault.Refused refusal.OutOfMemory) = AsksToEdit words
 RefusesEditing words rest rest' may_fail out out' (fault.Refused _) = ⊥
 

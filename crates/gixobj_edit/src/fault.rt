@@ -1,10 +1,10 @@
 //! Why nothing is told of a script, and what the program says of it.
 ghost use Rattle.std.specs.Prelude.{◌≡◌};
-ghost use Rattle.gixobj.specs.Faults.{bad_line, fault_line, fault_status};
+ghost use Rattle.gixobj_edit.specs.Faults.{bad_line, fault_line, fault_status};
 ghost use Rattle.gixobj_loose.specs.Engine.{Told};
 
-use gixobj_base::streams::Sink;
-use gixobj_edit::EditError;
+use crate::editing::EditError;
+use gixobj_fields::streams::Sink;
 use gixobj_loose::Refusal;
 use gixobj_loose::engine::tell;
 use itoa::Buffer;
@@ -22,7 +22,7 @@ pub enum Fault {
 }
 
 impl From<EditError> for Fault {
-    ghost use Rattle.gixobj.specs.Faults.{fault_of};
+    ghost use Rattle.gixobj_edit.specs.Faults.{fault_of};
 
     ghost from_gives = { λ cause fault. fault ≡ fault_of cause };
 

@@ -2,8 +2,8 @@
 use Rattle.std.proofs.Common.{◌≡◌, arith, rules, ◌∙◌}
 use Rattle.std.specs.Prelude.{codes}
 use Rattle.std.specs.String.{string_bytes}
-use Rattle.gixobj.proofs.FewWords.{map_one, map_two}
-use Rattle.gixobj.proofs.words.asked_to_edit.Goals as goal
+use Rattle.gixobj_edit.proofs.FewWords.{map_one, map_two}
+use Rattle.gixobj_edit.proofs.words.asked_to_edit.Goals as goal
 
 pub returns-in-len1-clause-found : goal.returns-in-len1-clause-found
 returns-in-len1-clause-found c =

@@ -2,10 +2,10 @@
 use Rattle.std.specs.Prelude.{ℕ, List, ◌++◌, codes, decimal}
 use Rattle.gixobj_edit.specs.declared.editing.EditError.{EditError}
 use Rattle.gixobj_edit.specs.declared.editing.EditError.TheVariants as editing
+use Rattle.gixobj_edit.specs.declared.fault.Fault.{Fault}
+use Rattle.gixobj_edit.specs.declared.fault.Fault.TheVariants as fault
 use Rattle.gixobj_loose.specs.Refusal.{line, line_of, status_of}
 use Rattle.gixobj_loose.specs.declared.refusal.Refusal.TheVariants as refusal
-use Rattle.gixobj.specs.declared.fault.Fault.{Fault}
-use Rattle.gixobj.specs.declared.fault.Fault.TheVariants as fault
 
 -- the fault of a refusal to run a script
 abbrev pub fault_of : EditError → Fault

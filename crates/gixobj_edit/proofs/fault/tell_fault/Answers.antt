@@ -1,8 +1,8 @@
 -- The line that was put is that of the fault.
 use Rattle.std.proofs.Common.{◌≡◌, ℕ, List, rules, subst}
-use Rattle.gixobj.specs.Faults.{fault_line}
+use Rattle.gixobj_edit.specs.Faults.{fault_line}
 use Rattle.gixobj_loose.specs.Engine.{Told}
-use Rattle.gixobj.proofs.fault.tell_fault.Goals as goal
+use Rattle.gixobj_edit.proofs.fault.tell_fault.Goals as goal
 
 pub returns-in-BadLine-clause-told : goal.returns-in-BadLine-clause-told
 returns-in-BadLine-clause-told g c =

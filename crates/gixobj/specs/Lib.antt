@@ -1,3 +1,0 @@
-pub mod Engine
-pub mod Faults
-pub mod Words
