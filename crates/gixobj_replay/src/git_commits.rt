@@ -7,6 +7,8 @@ mod found;
 mod lines;
 mod told;
 
+use crate::recorded::objects::put_sizes;
+use crate::recorded::texts::{Columns, fault, text_of};
 use crate::spelling::{spelled, unspelled};
 use crate::texts::time_text;
 pub(crate) use calls::call_answer;
@@ -14,8 +16,6 @@ pub(crate) use found::search_answer;
 use gixobj_base::parse::split_at_byte;
 use gixobj_base::{Kind, WriteTo, compute_hash, decode, encode, hash};
 use gixobj_codec::{Commit, CommitRef, CommitRefIter};
-use gixobj_recorded::objects::put_sizes;
-use gixobj_recorded::texts::{Columns, fault, text_of};
 use lines::{told_lines, whole_lines};
 use std::alloc::{AllocError, Global};
 pub(crate) use told::beginning_answer;

@@ -1,10 +1,10 @@
 //! Answers about loose objects in readable words: read, written, made owned, and read again by their kinds.
 
 use crate::git_commits::{put_written, text_and_ids};
+use crate::recorded::texts::{Columns, fault, text_of};
 use crate::spelling::spelled;
 use gixobj_base::{WriteTo, compute_hash, decode};
 use gixobj_codec::{Data, LooseDecodeError, Object, ObjectRef};
-use gixobj_recorded::texts::{Columns, fault, text_of};
 use std::alloc::{AllocError, Global};
 
 /// What the public calls say of a loose object.

@@ -3,20 +3,18 @@
 mod found;
 mod told;
 
+use crate::recorded::objects::{put_sizes, written_of};
+use crate::recorded::texts::{Columns, fault, hex_of, text_and_kind, text_of, written_text};
 use found::are_found;
-use gixobj_base::parse::split_at_last_byte;
 use gixobj_base::{Kind, Tree, WriteTo, compute_hash, hash};
 use gixobj_codec::tree::EntryRef;
 use gixobj_codec::{TreeRef, TreeRefIter};
-use gixobj_recorded::objects::{put_sizes, written_of};
-use gixobj_recorded::texts::{Columns, fault, hex_of, text_and_kind, text_of, written_text};
 use std::alloc::{AllocError, Global};
 use told::{put_beginnings, put_refused, tells};
 
 /// What the public calls say of a text that is read as a tree, told, sought, made owned and written, and of
-/// its beginnings. The question is a row's name, where its answer is from, and the text with the kind of its ids.
+/// its beginnings. The question is the text and the kind of its ids.
 pub(crate) fn git_tree_answer(alloc: Global, question: &[u8]) -> Result<Vec<u8>, AllocError> {
-    let (_, question) = split_at_last_byte(question, b'\t').unwrap_or((b"", question));
     let (bytes, hash_kind) = text_and_kind(alloc, question);
     let text = bytes.as_slice();
     let mut columns = Columns::new(alloc);

@@ -1,19 +1,20 @@
 //! Answers about scripts of edits, as the tables of them are written.
 
+use crate::recorded::texts::{bytes_of, hex_of, text_of};
 use gixobj_base::hash::Kind;
+use gixobj_base::parse::split_at_byte;
 use gixobj_edit::{EditError, edit};
-use gixobj_recorded::texts::{bytes_of, hex_of, text_of};
 use std::alloc::{AllocError, Global};
 
-/// What is told of a script, run on the empty root over a store that has nothing. The question is a row's
-/// name, where its answer is from, the kind of its ids, and the script.
+/// What is told of a script, run on the empty root over a store that has nothing. The question is the kind of
+/// its ids, and the script.
 pub(crate) fn script_answer(alloc: Global, question: &[u8]) -> Result<Vec<u8>, AllocError> {
-    let mut fields = question.split(|byte| *byte == b'\t').skip(2);
-    let hash = match fields.next().unwrap_or(b"") {
+    let (word, script) = split_at_byte(question, b'\t').unwrap_or((b"", question));
+    let hash = match word {
         b"sha256" => Kind::Sha256,
         _ => Kind::Sha1,
     };
-    let script = unescaped(alloc, fields.next().unwrap_or(b""))?;
+    let script = unescaped(alloc, script)?;
     match edit(alloc, script.as_slice(), hash) {
         Ok(told) => escaped(alloc, told.as_slice()),
         Err(EditError::BadLine(number)) => {

@@ -5,17 +5,17 @@ use crate::actors::actor_answer;
 use crate::answers::{header_answer, mode_answer, number_answer, order_answer};
 use crate::commits::{commit_answer, size_answer, token_answer};
 use crate::entry_modes::entry_mode_answer;
+use crate::git_commits::{beginning_answer, call_answer, search_answer, shape_answer};
+use crate::git_objects::loose_answer;
+use crate::git_tags::{git_name_answer, git_tag_answer, tag_parts_answer};
+use crate::git_trees::git_tree_answer;
 use crate::header_fields::header_field_answer;
 use crate::header_texts::header_text_answer;
 use crate::ids::{id_answer, object_id_answer};
-use crate::git_tags::{git_name_answer, git_tag_answer, tag_parts_answer};
 use crate::kinds::kind_answer;
 use crate::listed_trees::{listed_tree_answer, well_formed_answer};
 use crate::loose_objects::object_answer;
 use crate::recorded::tables::{Recorded, behind_source, named_parts};
-use crate::git_trees::git_tree_answer;
-use crate::git_commits::{beginning_answer, call_answer, search_answer, shape_answer};
-use crate::git_objects::loose_answer;
 use crate::scripts::script_answer;
 use crate::tags::{name_answer, tag_answer, tag_token_answer};
 use crate::times::time_answer;
@@ -84,18 +84,10 @@ pub(crate) enum Table {
     ListedTrees,
     /// Trees of listed entries, judged.
     WellFormedTrees,
-}
-
-/// All of them.
-pub(crate) const TABLES: &[Table] = &[
     /// Trees that `git` made or reads.
     GitTrees,
     /// Texts of trees that `git` doesn't write.
     OddTrees,
-}
-
-/// All of them.
-pub(crate) const TABLES: [Table; 13] = [
     /// Commits of which git is asked.
     GitCommits,
     /// Commits of which git says something else, or nothing.
@@ -108,10 +100,6 @@ pub(crate) const TABLES: [Table; 13] = [
     CommitCalls,
     /// Loose objects of each kind.
     GitObjects,
-}
-
-/// All of them.
-pub(crate) const TABLES: [Table; 17] = [
     /// Scripts of edits run.
     Scripts,
     /// The same, drawn at random.
@@ -119,7 +107,7 @@ pub(crate) const TABLES: [Table; 17] = [
 }
 
 /// All of them.
-pub(crate) const TABLES: [Table; 13] = [
+pub(crate) const TABLES: &[Table] = &[
     Table::Modes,
     Table::ModeNumbers,
     Table::NameOrder,
@@ -175,8 +163,8 @@ impl Recorded for Table {
             Table::Tags => ("tags", "tags.tsv"),
             Table::TagTokens => ("tag tokens", "tag-tokens.tsv"),
             Table::TagNames => ("tag names", "tag-names.tsv"),
-            Table::GitTagNames => ("tag names of git", "git-tag-names.tsv"),
-            Table::GitTags => ("tags of git", "git-tags.tsv"),
+            Table::GitTagNames => ("git tag names", "git-tag-names.tsv"),
+            Table::GitTags => ("git tags", "git-tags.tsv"),
             Table::TagTexts => ("tag texts", "tag-texts.tsv"),
             Table::TagParts => ("tag parts", "tag-parts.tsv"),
             Table::Trees => ("trees", "trees.tsv"),
@@ -236,11 +224,11 @@ impl Recorded for Table {
             Table::ListedTrees => listed_tree_answer(alloc, question),
             Table::WellFormedTrees => well_formed_answer(alloc, question),
             Table::GitTrees | Table::OddTrees => git_tree_answer(alloc, question),
-            Table::GitCommits | Table::OddCommits => shape_answer(alloc, asked(question)),
-            Table::CommitHeaders => search_answer(alloc, asked(question)),
-            Table::CommitBeginnings => beginning_answer(alloc, asked(question)),
-            Table::CommitCalls => call_answer(alloc, asked(question)),
-            Table::GitObjects => loose_answer(alloc, asked(question)),
+            Table::GitCommits | Table::OddCommits => shape_answer(alloc, question),
+            Table::CommitHeaders => search_answer(alloc, question),
+            Table::CommitBeginnings => beginning_answer(alloc, question),
+            Table::CommitCalls => call_answer(alloc, question),
+            Table::GitObjects => loose_answer(alloc, question),
             Table::Scripts | Table::RandomScripts => script_answer(alloc, question),
         }
     }
@@ -250,7 +238,9 @@ impl Recorded for Table {
     fn parts<'a>(self, line: &'a [u8]) -> Option<(&'a [u8], &'a [u8])> {
         match self {
             Table::NameOrder => split_at_last_byte(line, b'\t'),
-            Table::NearNames => split_at_last_byte(behind_source(line)?, b'\t'),
+            Table::NearNames | Table::Scripts | Table::RandomScripts => {
+                split_at_last_byte(behind_source(line)?, b'\t')
+            }
             Table::Modes
             | Table::ModeNumbers
             | Table::LooseHeaders
@@ -265,53 +255,6 @@ impl Recorded for Table {
             | Table::TreeTokens
             | Table::Objects => split_at_byte(line, b'\t'),
             _ => named_parts(line),
-            Table::GitTrees | Table::OddTrees => named_parts(line),
-            Table::GitCommits
-            | Table::OddCommits
-            | Table::CommitHeaders
-            | Table::CommitBeginnings
-            | Table::CommitCalls
-            | Table::GitObjects => named_parts(line),
-            Table::NameOrder | Table::Scripts | Table::RandomScripts => {
-                split_at_last_byte(line, b'\t')
-            }
-            _ => split_at_byte(line, b'\t'),
         }
-    }
-}
-
-/// A row's name, where its answer is from and its question, and its answer.
-fn named_parts(line: &[u8]) -> Option<(&[u8], &[u8])>
-    ensures { IfSome result (λ it. line.now ≡ it.0.now ++ 9 ∷ it.1.now) }
-{
-    let (_name, rest) = split_at_byte(line, b'\t')?;
-    let (_from, rest) = split_at_byte(rest, b'\t')?;
-    let (_question, answer) = split_at_byte(rest, b'\t')?;
-    let end = line.len().checked_sub(answer.len())?.checked_sub(1)?;
-    match line.split_at_checked(end)? {
-        (question, [b'\t', answer @ ..]) => Some((question, answer)),
-        _ => None,
-    }
-}
-/// The first three columns of a row, its name, where its answer is from and its question, and the answer.
-fn named_parts(line: &[u8]) -> Option<(&[u8], &[u8])>
-    ensures { IfSome result (λ it. line.now ≡ it.0.now ++ 9 ∷ it.1.now) }
-{
-    let (_, rest) = split_at_byte(line, b'\t')?;
-    let (_, rest) = split_at_byte(rest, b'\t')?;
-    let (_, answer) = split_at_byte(rest, b'\t')?;
-    let end = line.len().checked_sub(answer.len())?;
-    let (columns, answer) = line.split_at_checked(end)?;
-    match columns {
-        [question @ .., b'\t'] => Some((question, answer)),
-        _ => None,
-    }
-}
-
-/// The question of such a row.
-fn asked(columns: &[u8]) -> &[u8] {
-    match split_at_last_byte(columns, b'\t') {
-        Some((_, question)) => question,
-        None => columns,
     }
 }

@@ -3,9 +3,9 @@
 use super::lines::{actor_or_fault, actor_spelled};
 use super::text_and_ids;
 use crate::objects::told_id;
+use crate::recorded::texts::{Columns, fault, text_of};
 use crate::spelling::spelled;
 use gixobj_codec::CommitRefIter;
-use gixobj_recorded::texts::{Columns, fault, text_of};
 use std::alloc::{AllocError, Global};
 
 /// What a reader of tokens answers: the tree twice, the parents, the actors and the message.

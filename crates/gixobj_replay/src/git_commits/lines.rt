@@ -2,13 +2,13 @@
 ghost use Rattle.gixobj_codec.specs.CommitViews.{commit_lines};
 ghost use Rattle.gixobj_codec.specs.CommitWriting.{HasIds};
 
+use crate::recorded::texts::{Columns, fault};
 use crate::spelling::spelled;
 use bstr::BStr;
 use gixobj_base::actor::SignatureRef;
 use gixobj_base::decode;
 use gixobj_codec::commit::ref_iter::Token;
 use gixobj_codec::{CommitRef, CommitRefIter};
-use gixobj_recorded::texts::{Columns, fault};
 use std::alloc::{AllocError, Global};
 
 /// The columns of a commit that is read whole, its actors without white space at their ends.

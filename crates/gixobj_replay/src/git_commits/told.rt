@@ -2,8 +2,8 @@
 
 use super::lines::put_token;
 use super::text_and_ids;
+use crate::recorded::texts::{Columns, fault, text_of};
 use gixobj_codec::{CommitRef, CommitRefIter};
-use gixobj_recorded::texts::{Columns, fault, text_of};
 use std::alloc::{AllocError, Global};
 
 /// Whether a text is read whole, what is told of it, and how that ends.

@@ -1,9 +1,9 @@
 //! Trees told entry by entry, and the beginnings of their texts.
 
+use crate::recorded::texts::{Columns, fault};
 use gixobj_base::hash;
 use gixobj_codec::tree::EntryRef;
 use gixobj_codec::{TreeRef, TreeRefIter};
-use gixobj_recorded::texts::{Columns, fault};
 use std::alloc::{AllocError, Global};
 
 /// Whether a reader tells these entries, gathers what is left at each, and then ends.
