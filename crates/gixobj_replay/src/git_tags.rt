@@ -3,8 +3,8 @@
 mod told;
 
 use crate::recorded::objects::put_sizes;
-use crate::recorded::spelling::{spelled, unspelled};
-use crate::recorded::texts::{Columns, fault, text_of, written_text};
+use crate::recorded::spelling::{quoted, spelled, unspelled};
+use crate::recorded::texts::{Columns, fault, kind_of_ids, outcome_word, text_of};
 use crate::tags::{format_word, tagger_text};
 use bstr::BStr;
 use gixobj_base::actor::SignatureRef;
@@ -22,10 +22,7 @@ use told::{Told, put_told};
 /// the kind of its ids and its text.
 pub(crate) fn git_tag_answer(alloc: Global, question: &[u8]) -> Result<Vec<u8>, AllocError> {
     let (word, text) = split_at_byte(question, b' ').unwrap_or((question, b""));
-    let hash_kind = match word {
-        b"sha256" => hash::Kind::Sha256,
-        _ => hash::Kind::Sha1,
-    };
+    let hash_kind = kind_of_ids(word);
     let text = unspelled(alloc, text)?;
     let tokens = TagRefIter::from_bytes(text.as_slice(), hash_kind);
     let mut columns = Columns::new(alloc);
@@ -64,7 +61,7 @@ fn put_fields(
     columns.put("tagger", tagger_lines(alloc, told.tagger)?.as_str())?;
     let signature = signature_text(alloc, tag.signature())?;
     columns.put("signature", signature.as_str())?;
-    columns.put("message", spelled(alloc, tag.message.as_bytes())?.as_str())?;
+    columns.put("message", quoted(alloc, tag.message.as_bytes())?.as_str())?;
     columns.put("tagger-trim", tagger_text(alloc, tag.tagger())?.as_str())?;
     let same = told.is_of(target) && told.is_read_in(tag) && told.has_tagger_of(tag);
     columns.put("same-told", if same { "yes" } else { "no" })
@@ -78,7 +75,7 @@ fn shown_text(alloc: Global, tag: &TagRef<'_>, target: ObjectId) -> Result<Strin
     let tagger = spelled(alloc, tag.tagger.unwrap_or(BStr::new(b"")).as_bytes())?;
     let content = content(alloc, tag)?;
     let content = spelled(alloc, without_first_newlines(content.as_slice()))?;
-    format!(in alloc; "{target}\\n{kind}\\n{name}\\n{tagger}\\n{content}")
+    format!(in alloc; "\"{target}\\n{kind}\\n{name}\\n{tagger}\\n{content}\"")
 }
 
 /// The message and the signature, with the newline between them.
@@ -100,15 +97,16 @@ fn without_first_newlines(text: &[u8]) -> &[u8] {
 /// What git shows of a tagger: name, email and time, each on a line.
 fn tagger_lines(alloc: Global, tagger: Option<SignatureRef<'_>>) -> Result<String, AllocError> {
     let Some(actor) = tagger else {
-        return String::from_str(alloc, "\\n\\n");
+        return String::from_str(alloc, "\"\\n\\n\"");
     };
     let name = spelled(alloc, actor.name.as_bytes())?;
     let email = spelled(alloc, actor.email.as_bytes())?;
-    let mut lines = format!(in alloc; "{name}\\n<{email}>\\n")?;
+    let mut lines = format!(in alloc; "\"{name}\\n<{email}>\\n")?;
     if let Some(time) = actor.trim().time() {
         let mut buffer = TimeBuf::new();
         lines.push_str(time.to_str(&mut buffer))?;
     }
+    lines.push_str("\"")?;
     Ok(lines)
 }
 
@@ -121,7 +119,7 @@ fn signature_text(
         return String::from_str(alloc, "-");
     };
     let word = format_word(signature.format);
-    let text = spelled(alloc, signature.bytes.as_bytes())?;
+    let text = quoted(alloc, signature.bytes.as_bytes())?;
     format!(in alloc; "{word} {text}")
 }
 
@@ -160,7 +158,11 @@ fn put_written<T: WriteTo>(
     let mut out = Vec::new(alloc);
     let outcome = match tag.write_to(alloc, &mut out) {
         Ok(()) => id_of(alloc, hash_kind, out.as_slice())?,
-        refused => written_text(alloc, refused, out.as_slice())?,
+        refused => {
+            let word = outcome_word(refused);
+            let before = quoted(alloc, out.as_slice())?;
+            format!(in alloc; "{word} {before}")?
+        }
     };
     columns.put(words.written, outcome.as_str())?;
     put_sizes(alloc, tag, words.size, words.loose, columns)
