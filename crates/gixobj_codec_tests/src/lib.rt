@@ -14,4 +14,6 @@ mod objects;
 #[cfg(test)]
 mod public_paths;
 #[cfg(test)]
+mod spaced_encoding;
+#[cfg(test)]
 mod whole_parts;
