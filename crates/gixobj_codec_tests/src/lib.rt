@@ -16,6 +16,8 @@ mod objects;
 #[cfg(test)]
 mod public_paths;
 #[cfg(test)]
+mod spaced_encoding;
+#[cfg(test)]
 mod tags;
 #[cfg(test)]
 mod trees;
