@@ -38,6 +38,8 @@ fn writers_that_fail(rt: HostRuntime) -> Result<(), Fail> {
     let tag = TagRef::from_bytes(&text, Kind::Sha1)?;
     assert!(rt; has_size(rt.alloc(), &tag, text.len() as u64) && stops(rt.alloc(), &tag, &text));
     let owned = tag.into_owned(rt.alloc())?;
-    assert!(rt; has_size(rt.alloc(), &owned, text.len() as u64) && stops(rt.alloc(), &owned, &text));
+    assert!(rt;
+        has_size(rt.alloc(), &owned, text.len() as u64) && stops(rt.alloc(), &owned, &text)
+    );
     Ok(())
 }
