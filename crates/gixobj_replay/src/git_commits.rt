@@ -8,8 +8,8 @@ mod lines;
 mod told;
 
 use crate::recorded::objects::put_sizes;
+use crate::recorded::spelling::{spelled, unspelled};
 use crate::recorded::texts::{Columns, fault, text_of};
-use crate::spelling::{spelled, unspelled};
 use crate::texts::time_text;
 pub(crate) use calls::call_answer;
 pub(crate) use found::search_answer;

@@ -1,8 +1,8 @@
 //! Answers about loose objects in readable words: read, written, made owned, and read again by their kinds.
 
 use crate::git_commits::{put_written, text_and_ids};
+use crate::recorded::spelling::spelled;
 use crate::recorded::texts::{Columns, fault, text_of};
-use crate::spelling::spelled;
 use gixobj_base::{WriteTo, compute_hash, decode};
 use gixobj_codec::{Data, LooseDecodeError, Object, ObjectRef};
 use std::alloc::{AllocError, Global};

@@ -20,7 +20,6 @@ mod loose_objects;
 mod objects;
 mod recorded;
 mod scripts;
-mod spelling;
 mod tables;
 mod tags;
 mod texts;

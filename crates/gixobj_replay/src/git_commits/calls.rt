@@ -3,8 +3,8 @@
 use super::lines::{actor_or_fault, actor_spelled};
 use super::text_and_ids;
 use crate::objects::told_id;
+use crate::recorded::spelling::spelled;
 use crate::recorded::texts::{Columns, fault, text_of};
-use crate::spelling::spelled;
 use gixobj_codec::CommitRefIter;
 use std::alloc::{AllocError, Global};
 

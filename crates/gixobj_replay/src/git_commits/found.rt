@@ -3,8 +3,8 @@ ghost use Rattle.gixobj_codec.specs.CommitViews.{commit_lines};
 ghost use Rattle.gixobj_codec.specs.CommitWriting.{HasIds};
 
 use super::{same_or, text_and_ids};
+use crate::recorded::spelling::spelled;
 use crate::recorded::texts::{Columns, fault, text_of};
-use crate::spelling::spelled;
 use bstr::BStr;
 use gixobj_base::decode;
 use gixobj_base::parse::split_at_byte;

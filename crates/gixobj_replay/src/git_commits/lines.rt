@@ -2,8 +2,8 @@
 ghost use Rattle.gixobj_codec.specs.CommitViews.{commit_lines};
 ghost use Rattle.gixobj_codec.specs.CommitWriting.{HasIds};
 
+use crate::recorded::spelling::spelled;
 use crate::recorded::texts::{Columns, fault};
-use crate::spelling::spelled;
 use bstr::BStr;
 use gixobj_base::actor::SignatureRef;
 use gixobj_base::decode;
