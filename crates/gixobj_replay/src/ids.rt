@@ -53,8 +53,13 @@ fn put_id(alloc: Global, id: ObjectId, columns: &mut Columns) -> Result<(), Allo
         (id.is_empty_tree(), "is-empty-tree"),
         (borrowed.is_empty_tree(), "borrowed-is-empty-tree"),
         (borrowed.to_owned() == id, "owned-again"),
-        (oid::new(id.as_bytes()).to_owned() == id, "new-of-bytes"),
+        (is_new_of_bytes(&id), "new-of-bytes"),
     ])
+}
+
+/// Whether an id is the same, made of its bytes.
+fn is_new_of_bytes(id: &ObjectId) -> bool {
+    oid::new(id.as_bytes()).to_owned() == *id
 }
 
 /// The hex digits of an id, written as it is owned and as it is borrowed.

@@ -1,8 +1,8 @@
 //! Answers about trees that are listed entry by entry. A question has a line for each: mode, id and name.
 
-use crate::recorded::objects::{put_sizes, written_of};
+use crate::recorded::objects::put_sizes;
 use crate::recorded::spelling::unspelled;
-use crate::recorded::texts::{Columns, kind_of_ids, text_of};
+use crate::recorded::texts::{Columns, kind_of_ids, text_of, written_text};
 use bstr::BString;
 use gixobj_base::hash::{self, ObjectId};
 use gixobj_base::parse::split_at_byte;
@@ -33,21 +33,20 @@ fn put_written(
     columns: &mut Columns,
 ) -> Result<(), AllocError> {
     let mut out = Vec::new(alloc);
-    let _ = tree.write_to(alloc, &mut out);
+    let outcome = tree.write_to(alloc, &mut out);
     let id = compute_hash(hash_kind, tree.kind(), out.as_slice());
     columns.put("id", format!(in alloc; "{id}")?.as_str())?;
     put_sizes(alloc, tree, "size", "loose", columns)?;
-    columns.put("written", written_of(alloc, tree)?.as_str())
+    let written = written_text(alloc, outcome, out.as_slice())?;
+    columns.put("written", written.as_str())
 }
 
 /// Whether a tree is well-formed, its entries as they stand.
 pub(crate) fn well_formed_answer(alloc: Global, question: &[u8]) -> Result<Vec<u8>, AllocError> {
-    let answer = match tree_of(alloc, question)? {
-        Some(tree) if tree.is_well_formed() => "yes",
-        Some(_) => "no",
-        None => "no entries",
+    let Some(tree) = tree_of(alloc, question)? else {
+        return text_of(alloc, "no entries");
     };
-    text_of(alloc, answer)
+    text_of(alloc, if tree.is_well_formed() { "yes" } else { "no" })
 }
 
 /// The tree of these entries, or none where one is no entry.

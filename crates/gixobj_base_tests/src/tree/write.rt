@@ -47,10 +47,11 @@ fn names_with_a_zero_byte(rt: HostRuntime) -> Result<(), Fail> {
     Ok(())
 }
 
-/// An entry of each kind, in the order of a tree.
+/// Entries of each kind, in the order of a tree.
 const OF_EACH_KIND: &[(EntryKind, &[u8])] = &[
     (EntryKind::Blob, b"docs.txt"),
     (EntryKind::Tree, b"docs"),
+    (EntryKind::Blob, b"hello.txt"),
     (EntryKind::Link, b"link"),
     (EntryKind::Commit, b"module"),
     (EntryKind::BlobExecutable, b"run.sh"),
@@ -61,7 +62,7 @@ fn writers_that_fail(rt: HostRuntime) -> Result<(), Fail> {
     let tree = tree_of(rt.alloc(), OF_EACH_KIND)?;
     let mut text = Vec::new(rt.alloc());
     tree.write_to_vec(rt.alloc(), &mut text)?;
-    assert!(rt; text.len() == 36 + 31 + 32 + 34 + 34);
+    assert!(rt; text.len() == 36 + 31 + 37 + 32 + 34 + 34);
     for room in 0..text.len() {
         let held = Vec::new(rt.alloc());
         let mut writer = Limited { held, room };
