@@ -1,4 +1,4 @@
-//! Tests of the editor of nested trees, and of the program that runs scripts on it.
+//! Tests of the editor of nested trees, and of the program, which runs scripts on it and shows loose objects.
 #![tactic(auto)]
 
 #[cfg(test)]
@@ -12,7 +12,11 @@ mod engine;
 #[cfg(test)]
 mod growths;
 #[cfg(test)]
+mod loose;
+#[cfg(test)]
 mod rows;
+#[cfg(test)]
+mod streams;
 #[cfg(test)]
 mod upserts;
 #[cfg(test)]
