@@ -1,9 +1,8 @@
 //! Whole runs of the program over memory. Ids are those that `git mktree --missing` answers.
 
+use crate::streams::{Narrow, Stepping, words_in};
 use gixobj_edit::engine::engine;
 use std::alloc::{AllocError, Global};
-use std::io;
-use std::io::{ErrorKind, Read, Write};
 use std::test::Fail;
 
 const NESTED: &str = "upsert blob 83baae61804e65cc73a7201a7252750c76066a30 bak/test.txt
@@ -63,55 +62,6 @@ lookups 0
 ";
 
 const USAGE: &str = "usage: gixobj show|tree|edit [sha256]\n";
-
-/// A reader that gives a byte a time, and then fails.
-#[derive(Drop)]
-struct Breaking<'a> {
-    rest: &'a [u8],
-}
-
-impl Read for Breaking<'_> {
-    fn read(&mut self, buf: &mut [u8]) -> io::Result<usize> {
-        if self.rest.is_empty() {
-            return Err(io::Error::from(ErrorKind::ConnectionReset));
-        }
-        let count = self.rest.len().min(buf.len()).min(1);
-        let (front, rest) = self.rest.split_at(count);
-        buf[..count].copy_from_slice(front);
-        self.rest = rest;
-        Ok(count)
-    }
-}
-
-/// A writer that keeps what it takes, as much as it has room for.
-#[derive(Drop)]
-struct Narrow {
-    held: Vec<u8>,
-    room: usize,
-}
-
-impl Write for Narrow {
-    fn write(&mut self, buf: &[u8]) -> io::Result<usize> {
-        let count = self.room.min(buf.len());
-        if count == 0 {
-            return Err(io::Error::from(ErrorKind::StorageFull));
-        }
-        self.held.extend_from_slice(&buf[..count])?;
-        self.room -= count;
-        Ok(count)
-    }
-
-    fn flush(&mut self) -> io::Result<()> {
-        Ok(())
-    }
-}
-
-/// The words of a line.
-fn words_in(alloc: Global, line: &str) -> Result<Vec<String>, AllocError> {
-    line.split_whitespace()
-        .map(|word| String::from_str(alloc, word))
-        .try_collect(alloc)
-}
 
 /// What the program answers of an input: the status, and what it writes on its two outputs.
 fn answer_of(alloc: Global, line: &str, input: &str) -> Result<(u8, Vec<u8>, Vec<u8>), AllocError> {
@@ -195,8 +145,11 @@ fn faults(rt: HostRuntime) -> Result<(), Fail> {
 fn input_that_fails(rt: HostRuntime) -> Result<(), Fail> {
     let alloc = rt.alloc();
     let words = words_in(alloc, "edit")?;
-    let rest = NESTED.as_bytes();
-    let mut input = Breaking { rest };
+    let mut input = Stepping {
+        rest: NESTED.as_bytes(),
+        step: 1,
+        fails: true,
+    };
     let mut told = Vec::new(alloc);
     let mut refused = Vec::new(alloc);
     let status = engine(alloc, words.as_slice(), &mut input, &mut told, &mut refused);

@@ -1,5 +1,5 @@
 //! Tests of the editor of nested trees and of its runs, of what a script doesn't say: stores, closures, readers and
-//! writers that refuse. And of the program that runs scripts.
+//! writers that refuse. And of the program: objects shown and listed, scripts run.
 #![tactic(auto)]
 
 #[cfg(test)]
@@ -13,10 +13,14 @@ mod entries;
 #[cfg(test)]
 mod growths;
 #[cfg(test)]
+mod loose;
+#[cfg(test)]
 mod runs;
 #[cfg(test)]
 mod samples;
 #[cfg(test)]
 mod single_calls;
+#[cfg(test)]
+mod streams;
 #[cfg(test)]
 mod writes;

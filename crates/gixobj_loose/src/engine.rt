@@ -6,9 +6,6 @@ ghost use Rattle.gixobj_base.specs.Streams.{writer_view};
 ghost use Rattle.gixobj_loose.specs.Refusal.{line_of, status_of};
 ghost use Rattle.gixobj_loose.specs.declared.refusal.Refusal.{Refusal};
 
-#[cfg(test)]
-mod tests;
-
 use crate::input::read_all;
 use crate::refusal::Refusal;
 use crate::show::show;

@@ -6,8 +6,6 @@ pub mod engine;
 pub mod input;
 pub mod object;
 pub mod refusal;
-#[cfg(test)]
-mod samples;
 pub mod show;
 pub mod tree;
 pub mod words;

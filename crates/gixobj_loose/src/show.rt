@@ -3,9 +3,6 @@ ghost use Rattle.std.specs.Prelude.{◌≡◌, IfOk, IfErr};
 ghost use Rattle.gixobj_loose.specs.Object.{RefusesObject};
 ghost use Rattle.gixobj_loose.specs.Show.{IsShown, show_line};
 
-#[cfg(test)]
-mod tests;
-
 use crate::object::loose_object;
 use crate::refusal::Refusal;
 use gixobj_base::hash::ObjectId;

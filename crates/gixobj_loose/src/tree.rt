@@ -5,9 +5,6 @@ ghost use Rattle.gixobj_loose.specs.Listing.{IsListed, RefusesListing, RefusesTr
 ghost use Rattle.gixobj_loose.specs.Object.{BeginsWithObject};
 ghost use Rattle.gixobj_tree_readers.specs.TreeViews.{entry_view, tree_entries};
 
-#[cfg(test)]
-mod tests;
-
 use crate::object::loose_object;
 use crate::refusal::Refusal;
 use gixobj_base::decode::Error;

@@ -2,7 +2,7 @@
 //! `git ls-tree` prints; the kind's word is by the rule, since git has no words for programs and links,
 //! and a tree's mode stands as in the tree, without the `0` that git puts before it.
 
-use crate::samples::{ONE_ENTRY, TREE, TREE_SHA256, answer_of};
+use super::{ONE_ENTRY, TREE, TREE_SHA256, answer_of};
 use std::test::Fail;
 
 const LISTED: &[u8] = b"\

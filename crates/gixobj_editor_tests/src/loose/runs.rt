@@ -1,33 +1,13 @@
 //! Whole runs of the program, over readers and writers of memory that may fail.
 
-use super::{engine, run};
-use crate::samples::{ONE_ENTRY, answer_from, answer_of, words_in};
+use super::{ONE_ENTRY, answer_from, answer_of};
+use crate::streams::{Narrow, Stepping, words_in};
+use gixobj_loose::engine::{engine, run};
 use std::io;
 use std::io::{ErrorKind, Read, Write};
 use std::test::Fail;
 
 const USAGE: &str = "usage: gixobj show|tree|edit [sha256]\n";
-
-/// A reader that gives at most `step` bytes a time, and then fails or ends.
-#[derive(Drop)]
-struct Stepping<'a> {
-    rest: &'a [u8],
-    step: usize,
-    fails: bool,
-}
-
-impl Read for Stepping<'_> {
-    fn read(&mut self, buf: &mut [u8]) -> io::Result<usize> {
-        if self.rest.is_empty() && self.fails {
-            return Err(io::Error::from(ErrorKind::ConnectionReset));
-        }
-        let count = self.step.min(self.rest.len()).min(buf.len());
-        let (front, rest) = self.rest.split_at(count);
-        buf[..count].copy_from_slice(front);
-        self.rest = rest;
-        Ok(count)
-    }
-}
 
 /// A reader that is interrupted once before each byte.
 #[derive(Drop)]
@@ -47,29 +27,6 @@ impl Read for Interrupted<'_> {
         buf[..count].copy_from_slice(front);
         self.rest = rest;
         Ok(count)
-    }
-}
-
-/// A writer that keeps what it takes, as much as it has room for.
-#[derive(Drop)]
-struct Narrow {
-    held: Vec<u8>,
-    room: usize,
-}
-
-impl Write for Narrow {
-    fn write(&mut self, buf: &[u8]) -> io::Result<usize> {
-        let count = self.room.min(buf.len());
-        if count == 0 {
-            return Err(io::Error::from(ErrorKind::StorageFull));
-        }
-        self.held.extend_from_slice(&buf[..count])?;
-        self.room -= count;
-        Ok(count)
-    }
-
-    fn flush(&mut self) -> io::Result<()> {
-        Ok(())
     }
 }
 

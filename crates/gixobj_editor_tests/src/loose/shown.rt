@@ -1,11 +1,11 @@
 //! What `git` answers for the objects of the folder examples/ (`git cat-file -t`, `git cat-file -s`,
 //! `git rev-parse`).
 
-use super::show;
-use crate::samples::{
+use super::{
     COMMIT, COMMIT_SHA256, HELLO, HELLO_SHA256, ONE_ENTRY, TAG, TAG_SHA256, TREE, TREE_SHA256,
 };
 use gixobj_base::hash;
+use gixobj_loose::show::show;
 use std::test::Fail;
 
 #[test]
