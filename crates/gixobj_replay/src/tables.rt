@@ -16,7 +16,7 @@ use crate::kinds::kind_answer;
 use crate::listed_trees::{listed_tree_answer, well_formed_answer};
 use crate::loose_objects::object_answer;
 use crate::recorded::tables::{Recorded, behind_source, named_parts};
-use crate::scripts::script_answer;
+use crate::scripts::{command_answer, script_answer};
 use crate::tags::{name_answer, tag_answer, tag_token_answer};
 use crate::times::time_answer;
 use crate::trees::{tree_answer, tree_token_answer};
@@ -100,6 +100,8 @@ pub(crate) enum Table {
     CommitCalls,
     /// Loose objects of each kind.
     GitObjects,
+    /// Commands of scripts.
+    Commands,
     /// Scripts of edits run.
     Scripts,
     /// The same, drawn at random.
@@ -145,6 +147,7 @@ pub(crate) const TABLES: &[Table] = &[
     Table::CommitBeginnings,
     Table::CommitCalls,
     Table::GitObjects,
+    Table::Commands,
     Table::Scripts,
     Table::RandomScripts,
 ];
@@ -189,6 +192,7 @@ impl Recorded for Table {
             Table::CommitBeginnings => ("commit beginnings", "commit-beginnings.tsv"),
             Table::CommitCalls => ("commit calls", "commit-calls.tsv"),
             Table::GitObjects => ("git objects", "git-objects.tsv"),
+            Table::Commands => ("commands", "commands.tsv"),
             Table::Scripts => ("scripts", "scripts.tsv"),
             Table::RandomScripts => ("random scripts", "random-scripts.tsv"),
         }
@@ -229,6 +233,7 @@ impl Recorded for Table {
             Table::CommitBeginnings => beginning_answer(alloc, question),
             Table::CommitCalls => call_answer(alloc, question),
             Table::GitObjects => loose_answer(alloc, question),
+            Table::Commands => command_answer(alloc, question),
             Table::Scripts | Table::RandomScripts => script_answer(alloc, question),
         }
     }
@@ -238,7 +243,7 @@ impl Recorded for Table {
     fn parts<'a>(self, line: &'a [u8]) -> Option<(&'a [u8], &'a [u8])> {
         match self {
             Table::NameOrder => split_at_last_byte(line, b'\t'),
-            Table::NearNames | Table::Scripts | Table::RandomScripts => {
+            Table::NearNames | Table::Commands | Table::Scripts | Table::RandomScripts => {
                 split_at_last_byte(behind_source(line)?, b'\t')
             }
             Table::Modes
