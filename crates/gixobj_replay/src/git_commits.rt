@@ -9,12 +9,12 @@ mod told;
 
 use crate::recorded::objects::put_sizes;
 use crate::recorded::spelling::{spelled, unspelled};
-use crate::recorded::texts::{Columns, fault, text_of};
+use crate::recorded::texts::{Columns, fault, kind_of_ids, outcome_word, text_of};
 use crate::texts::time_text;
 pub(crate) use calls::call_answer;
 pub(crate) use found::search_answer;
 use gixobj_base::parse::split_at_byte;
-use gixobj_base::{Kind, WriteTo, compute_hash, decode, encode, hash};
+use gixobj_base::{Kind, WriteTo, compute_hash, decode, hash};
 use gixobj_codec::{Commit, CommitRef, CommitRefIter};
 use lines::{told_lines, whole_lines};
 use std::alloc::{AllocError, Global};
@@ -46,11 +46,7 @@ pub(crate) fn text_and_ids(
     question: &[u8],
 ) -> Result<(Vec<u8>, hash::Kind), AllocError> {
     let (word, text) = split_at_byte(question, b' ').unwrap_or((question, b""));
-    let hash_kind = match word {
-        b"sha256" => hash::Kind::Sha256,
-        _ => hash::Kind::Sha1,
-    };
-    Ok((unspelled(alloc, text)?, hash_kind))
+    Ok((unspelled(alloc, text)?, kind_of_ids(word)))
 }
 
 /// The columns of the lines that both readers find, and of the parents by their own call.
@@ -114,16 +110,6 @@ pub(crate) fn put_written<T: WriteTo>(
         put_sizes(alloc, object, "size", "loose", columns)?;
     }
     Ok(())
-}
-
-/// How writing went.
-fn outcome_word(outcome: Result<(), encode::Error>) -> &'static str {
-    match outcome {
-        Ok(()) => "ok",
-        Err(encode::Error::IllegalActor) => "err IllegalActor",
-        Err(encode::Error::EmptyValue) => "err EmptyValue",
-        Err(_) => "err another",
-    }
 }
 
 /// The columns of an owned commit.

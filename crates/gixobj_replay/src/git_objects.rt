@@ -1,10 +1,10 @@
 //! Answers about loose objects in readable words: read, written, made owned, and read again by their kinds.
 
 use crate::git_commits::{put_written, text_and_ids};
-use crate::recorded::spelling::spelled;
+use crate::loose_objects::case_of;
 use crate::recorded::texts::{Columns, fault, text_of};
 use gixobj_base::{WriteTo, compute_hash, decode};
-use gixobj_codec::{Data, LooseDecodeError, Object, ObjectRef};
+use gixobj_codec::{Data, Object, ObjectRef};
 use std::alloc::{AllocError, Global};
 
 /// What the public calls say of a loose object.
@@ -56,14 +56,5 @@ fn put_owned(
     match owned {
         Ok(object) => put_written(alloc, &object, content, "owned", columns),
         Err(error) => columns.put("owned", fault(&error)),
-    }
-}
-
-/// The part of a loose object that is refused.
-fn case_of(error: &LooseDecodeError) -> &'static str {
-    match error {
-        LooseDecodeError::InvalidHeader(_) => "InvalidHeader",
-        LooseDecodeError::InvalidContent(_) => "InvalidContent",
-        LooseDecodeError::OutOfMemory { .. } => "OutOfMemory",
     }
 }

@@ -32,7 +32,7 @@ fn word_of(kind: Kind) -> &'static str {
 }
 
 /// The case of a refusal.
-fn case_of(error: &LooseDecodeError) -> &'static str {
+pub(crate) fn case_of(error: &LooseDecodeError) -> &'static str {
     match error {
         LooseDecodeError::InvalidHeader(_) => "InvalidHeader",
         LooseDecodeError::InvalidContent(_) => "InvalidContent",
