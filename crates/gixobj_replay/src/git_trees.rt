@@ -4,7 +4,8 @@ mod found;
 mod told;
 
 use crate::recorded::objects::{put_sizes, written_of};
-use crate::recorded::texts::{Columns, fault, hex_of, text_and_kind, text_of, written_text};
+use crate::recorded::texts::{Columns, fault, text_and_kind, text_of, written_text};
+use crate::trees::put_entries;
 use found::are_found;
 use gixobj_base::{Kind, Tree, WriteTo, compute_hash, hash};
 use gixobj_codec::tree::EntryRef;
@@ -63,28 +64,6 @@ fn put_tree(
 /// Whether two answers of this crate agree, in a word.
 fn word_of(is_so: bool) -> &'static str {
     if is_so { "alike" } else { "otherwise" }
-}
-
-/// The column of their number, and one of each entry.
-fn put_entries(alloc: Global, tree: &TreeRef<'_>, columns: &mut Columns) -> Result<(), AllocError> {
-    let count = tree.entries.len();
-    columns.put("whole ok", format!(in alloc; "{count}")?.as_str())?;
-    for entry in &tree.entries {
-        columns.put_word(entry_text(alloc, *entry)?.as_str())?;
-    }
-    Ok(())
-}
-
-/// An entry: the text, the value and the word of its mode, its id and its name.
-fn entry_text(alloc: Global, entry: EntryRef<'_>) -> Result<String, AllocError> {
-    let mut buffer = [0; 6];
-    let text = entry.mode.as_bytes(&mut buffer);
-    let text = str::from_utf8(text.as_bytes()).unwrap_or("");
-    let value = entry.mode.value();
-    let word = entry.mode.as_str();
-    let id = entry.oid.to_owned();
-    let name = hex_of(alloc, entry.filename.as_bytes())?;
-    format!(in alloc; "entry {text} {value:06o} {word} {id} {name}")
 }
 
 /// `back` where a tree, borrowed or owned, is written as its text, else what is written of it.

@@ -27,7 +27,11 @@ pub(crate) fn tree_answer(alloc: Global, question: &[u8]) -> Result<Vec<u8>, All
 }
 
 /// The column of their number, and one of each entry.
-fn put_entries(alloc: Global, tree: &TreeRef<'_>, columns: &mut Columns) -> Result<(), AllocError> {
+pub(crate) fn put_entries(
+    alloc: Global,
+    tree: &TreeRef<'_>,
+    columns: &mut Columns,
+) -> Result<(), AllocError> {
     let count = tree.entries.len();
     columns.put("whole ok", format!(in alloc; "{count}")?.as_str())?;
     for entry in &tree.entries {
