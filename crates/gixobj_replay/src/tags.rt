@@ -6,7 +6,7 @@ use crate::actors::{actor_after, owned_text};
 use crate::objects::id_text;
 use crate::recorded::objects::{put_sizes, written_of};
 use crate::recorded::texts::{
-    Columns, bytes_of, fault, hex_of, name_fault, text_and_kind, text_of,
+    Columns, bytes_of, fault, hex_of, name_fault, outcome_word, text_and_kind, text_of,
 };
 use crate::texts::{hex_after, hex_if_some};
 use bstr::BStr;
@@ -116,19 +116,26 @@ fn owned_if_some(alloc: Global, actor: &Option<Signature>) -> Result<String, All
 pub(crate) fn name_answer(alloc: Global, question: &[u8]) -> Result<Vec<u8>, AllocError> {
     let bytes = bytes_of(alloc, question);
     let answer = match write::validated_name(BStr::new(bytes.as_slice())) {
-        Ok(name) if name.as_bytes() == bytes.as_slice() => "ok",
-        Ok(_) => "ok another",
+        Ok(name) => if name.as_bytes() == bytes.as_slice() {
+            "ok"
+        } else {
+            "ok another"
+        },
         Err(refusal) => refused_name(refusal),
     };
     text_of(alloc, answer)
 }
 
-/// Why a name is refused, also by a writer.
+/// Why a name is refused, and a writer that is refused for it says the same.
 fn refused_name(refusal: write::Error) -> &'static str {
-    match (refusal, encode::Error::from(refusal)) {
-        (write::Error::StartsWithDash, encode::Error::StartsWithDash) => "err StartsWithDash",
-        (write::Error::InvalidRefName(fault), encode::Error::InvalidRefName(same))
-            if fault == same => { name_fault(fault) }
-        _ => "err another",
+    let word = match refusal {
+        write::Error::StartsWithDash => "err StartsWithDash",
+        write::Error::InvalidRefName(fault) => name_fault(fault),
+    };
+    let of_writer = outcome_word(Err(encode::Error::from(refusal)));
+    if of_writer == word {
+        word
+    } else {
+        "err another"
     }
 }
