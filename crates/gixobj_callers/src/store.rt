@@ -11,6 +11,7 @@ ghost use Rattle.gixobj_codec.specs.object_readers.object.ObjectRef.{ObjectRef};
 ghost use Rattle.gixobj_codec.specs.TreeReading.{IsTreeText};
 ghost use Rattle.gixobj_codec.specs.TreeRewriting.{HasOwnModes};
 ghost use Rattle.gixobj_callers.specs.Copies.{FailsForRoom};
+ghost use Rattle.gixobj_callers.specs.Takings.{RefusesTaking};
 
 use gixobj_base::hash::{Kind, oid};
 use gixobj_base::laws::writers_fail_as_their_sinks;
@@ -89,9 +90,12 @@ pub enum TakeError {
 }
 
 /// Takes over the loose object with this id, of whatever kind: what it is written as, which has the id.
+///
+/// `Read` where it isn't a loose object, `Write` where its text isn't written, `Verify` where that has another id.
 pub fn taken_over(alloc: Global, loose: &[u8], id: oid<'_>) -> Result<Vec<u8>, TakeError>
     ensures object { IfOk result (λ copy. (object : ObjectRef) × IsLooseObject (id_kind (borrowed_id id.entry)) loose.now object × (copy.items ≡ borrowed_object_text object)
         × (id_of (id_kind (borrowed_id id.entry)) (borrowed_kind object) copy.items ≡ borrowed_id id.entry)) }
+    ensures refusal { IfErr result (RefusesTaking loose.now (borrowed_id id.entry)) }
 {
     let object = match ObjectRef::from_loose(alloc, loose, id.kind()) {
         Ok(object) => object,

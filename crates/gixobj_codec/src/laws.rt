@@ -4,7 +4,7 @@ pub use gixobj_commits::laws::{
     commit_has_one_reading, commit_reads_and_writes, commit_writes_back, owned_forms_have_the_parts,
 };
 pub use gixobj_data::laws::{
-    an_object_is_put_in, bytes_left_end_the_text, entries_are_passed,
+    an_object_is_put_in, bytes_left_end_the_text, entries_are_passed, ids_are_the_same_or_not,
     tree_readers_read_one_language,
 };
 pub use gixobj_extra_headers::laws::{
@@ -14,7 +14,8 @@ pub use gixobj_extra_headers::laws::{
 pub use gixobj_fields::laws::header_reads_back;
 pub use gixobj_ids::laws::hex_spells_one_id;
 pub use gixobj_tag_tokens::laws::{
-    parts_of_tags_are_found, tag_readers_read_one_language, tag_tokens_have_one_reading,
+    parts_of_tags_are_found, tag_readers_read_one_language, tag_tokens_are_passed,
+    tag_tokens_have_one_reading,
 };
 pub use gixobj_tags::laws::{
     owned_tags_have_the_parts, tag_has_one_reading, tag_reads_and_writes, tag_writes_back,

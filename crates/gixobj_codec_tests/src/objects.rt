@@ -6,10 +6,10 @@ mod owned;
 mod samples;
 
 use crate::helpers::written;
-use gixobj_base::decode::Error;
+use gixobj_base::decode::{Error, LooseHeaderDecodeError};
 use gixobj_base::hash::{Kind as HashKind, ObjectId};
 use gixobj_base::{Blob, Kind, WriteTo};
-use gixobj_codec::{Data, ObjectRef, data};
+use gixobj_codec::{Data, LooseDecodeError, ObjectRef, data};
 use std::alloc::Global;
 use std::test::Fail;
 
@@ -52,6 +52,23 @@ fn has_header(alloc: Global, blob: &Blob, wanted: &[u8]) -> bool {
         Some(header) => header.as_slice() == wanted,
         None => false,
     }
+}
+
+/// Whether the bytes are refused for their header alone.
+fn is_cut_short(alloc: Global, bytes: &[u8]) -> bool {
+    match ObjectRef::from_loose(alloc, bytes, HashKind::Sha1) {
+        Err(LooseDecodeError::InvalidHeader(cause)) => {
+            matches!(cause, LooseHeaderDecodeError::InvalidHeader { .. })
+        }
+        _ => false,
+    }
+}
+
+#[test]
+fn a_blob_of_fewer_bytes_than_its_header_says(rt: HostRuntime) -> Result<(), Fail> {
+    assert!(rt; is_cut_short(rt.alloc(), b"blob 5\0hell"));
+    assert!(rt; !is_cut_short(rt.alloc(), b"blob 5\0hello"));
+    Ok(())
 }
 
 #[test]

@@ -45,14 +45,14 @@ mod of_laws_of_stores {
 mod of_laws_of_tags {
     pub use gixobj_codec::laws::{
         owned_tags_have_the_parts, parts_of_tags_are_found, tag_has_one_reading,
-        tag_readers_read_one_language, tag_reads_and_writes, tag_tokens_have_one_reading,
-        tag_writes_back,
+        tag_readers_read_one_language, tag_reads_and_writes, tag_tokens_are_passed,
+        tag_tokens_have_one_reading, tag_writes_back,
     };
 }
 
 mod of_laws_of_trees {
     pub use gixobj_codec::laws::{
-        bytes_left_end_the_text, entries_are_passed, tree_has_one_reading,
+        bytes_left_end_the_text, entries_are_passed, ids_are_the_same_or_not, tree_has_one_reading,
         tree_readers_read_one_language, tree_reads_back, tree_writes_back,
     };
 }
@@ -70,6 +70,7 @@ mod of_tag {
 mod of_laws_by_topic {
     pub use gixobj_codec::laws::readers::{
         actors_are_found, ids_are_found, message_is_found, readers_read_one_language,
+        tokens_are_passed,
     };
     pub use gixobj_codec::laws::tokens::{runs_are_their_tokens, tokens_have_one_reading};
 }

@@ -1,5 +1,5 @@
 //! Laws of both readers of trees, and of what stores mean. Each function does nothing: its contract is the law.
-ghost use Rattle.std.specs.Prelude.{◌≡◌, ◌≢◌, ◌++◌, ◌∷◌, [], ℕ, Err, List, None, Ok, Option, Result, Some};
+ghost use Rattle.std.specs.Prelude.{◌≡◌, ◌≢◌, ◌⊎◌, ◌++◌, ◌∷◌, [], ℕ, Err, List, None, Ok, Option, Result, Some};
 ghost use Rattle.std.specs.FinMap as finite;
 ghost use Rattle.gixobj_fields.specs.Runs.{Ending, broken, complete};
 ghost use Rattle.gixobj_ids.specs.declared.decode.Error.{Error};
@@ -53,4 +53,9 @@ pub fn an_object_is_put_in()
     ensures nothing { (id : ObjectId) → named finite.empty id ≡ None }
     ensures there { (objects : Objects) (id : ObjectId) (it : StoredObject) → named (finite.insert objects id it) id ≡ Some it }
     ensures elsewhere { (objects : Objects) (id other : ObjectId) (it : StoredObject) → other ≢ id → named (finite.insert objects id it) other ≡ named objects other }
+{}
+
+/// Two ids are the same or not. So what is said of the empty tree's id, and of each other one, is said of all.
+pub fn ids_are_the_same_or_not()
+    ensures { (id other : ObjectId) → (id ≡ other) ⊎ (id ≢ other) }
 {}

@@ -1,5 +1,5 @@
 //! Trees told entry by entry (gitdatamodel, "trees").
-ghost use Rattle.std.specs.Prelude.{◌≡◌, ◌-◌, IfErr, IfOk, length, map};
+ghost use Rattle.std.specs.Prelude.{◌≡◌, ◌-◌, [], IfErr, IfOk, length, map};
 ghost use Rattle.gixobj_data.specs.EntryGiving.{GivesEntry, IsAtEntry, IsTail, bytes_left, entries_left};
 ghost use Rattle.gixobj_tree_readers.specs.TreeReading.{IsTreeText, RefusesTreeText};
 ghost use Rattle.gixobj_tree_readers.specs.TreeViews.{entry_view};
@@ -29,6 +29,17 @@ impl<'a> TreeRefIter<'a> {
         ensures { IsAtEntry hash_kind bytes.now result }
     {
         TreeRefIter { hash_kind, bytes }
+    }
+}
+
+impl<'a> Default for TreeRefIter<'a> {
+    ghost use Rattle.gixobj_ids.specs.declared.hash.kind.Kind.TheVariants.{Sha1};
+
+    ghost is_default = { IsAtEntry Sha1 [] };
+
+    /// A reader of no bytes, with ids of the default kind.
+    fn default() -> TreeRefIter<'a> {
+        TreeRefIter::from_bytes(b"", hash::Kind::default())
     }
 }
 

@@ -3,7 +3,7 @@
 use crate::samples::two_trees;
 use gix_object::find::{existing, existing_object};
 use gix_object::hash::{Kind as HashKind, ObjectId};
-use gix_object::{FindExt, Kind, OutOfMemory};
+use gix_object::{FindExt, Kind, OutOfMemory, decode};
 use gixobj_store::Memory;
 use std::alloc::Global;
 use std::test::Fail;
@@ -40,12 +40,16 @@ fn is_damaged(alloc: Global, store: &Memory, id: ObjectId) -> bool {
     }
 }
 
-/// Whether a reader of a commit is found at the id.
+/// Whether a reader of a commit is found at the id, which refuses the text at once and is at its end then.
 fn has_reader(alloc: Global, store: &Memory, id: ObjectId) -> bool {
     let mut buffer = Vec::new(alloc);
-    store
-        .find_commit_iter(alloc, id.as_oid(), &mut buffer)
-        .is_ok()
+    match store.find_commit_iter(alloc, id.as_oid(), &mut buffer) {
+        Ok(mut reader) => {
+            let first = reader.next();
+            matches!(first, Some(Err(decode::Error::Malformed))) && reader.next().is_none()
+        }
+        Err(_) => false,
+    }
 }
 
 #[test]

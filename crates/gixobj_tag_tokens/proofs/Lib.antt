@@ -2,3 +2,4 @@ mod OneLanguage
 mod TagsFound
 mod TokenRuns
 mod Tokens
+mod Walks

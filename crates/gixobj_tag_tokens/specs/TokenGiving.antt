@@ -55,6 +55,11 @@ GivesToken = Gives standing HasToken WantsNothing token_view (λ token. ⊤)
 abbrev pub Tells : Kind → State → List ℕ → List TokenView → Ending → Type 0
 Tells kind before input tokens ending = runs.Tells (HasToken kind) before input tokens ending
 
+-- a reader that began before the target of this text has gone past these tokens
+abbrev pub HasPassed : Kind → List ℕ → List TokenView → TagRefIter → Type 0
+HasPassed kind text tokens reader =
+    runs.Passes (HasToken kind) state.Target text tokens (standing reader).state (standing reader).bytes × ((standing reader).kind ≡ kind)
+
 -- the input is the join of a text for each token
 abbrev pub AreTokenTexts : Kind → List ℕ → List TokenView → Type 0
 AreTokenTexts kind input tokens = (texts : List (List ℕ)) × (input ≡ concat texts) × AllZip (IsTokenText kind) tokens texts

@@ -1,18 +1,19 @@
 //! Laws of the reader of tokens, and of both readers of tags. Each function does nothing: its contract is
 //! the law.
-ghost use Rattle.std.specs.Prelude.{◌≡◌, ℕ, List, Ok, Option, Result};
+ghost use Rattle.std.specs.Prelude.{◌≡◌, ◌++◌, ◌∷◌, [], ℕ, Err, List, None, Ok, Option, Result, Some};
 ghost use Rattle.gixobj_actors.specs.declared.actor.SignatureRef.{SignatureRef};
-ghost use Rattle.gixobj_fields.specs.Runs.{Ending, complete};
+ghost use Rattle.gixobj_fields.specs.Runs.{Ending, broken, complete};
 ghost use Rattle.gixobj_ids.specs.Hash.{Spells};
 ghost use Rattle.gixobj_ids.specs.declared.decode.Error as decode;
 ghost use Rattle.gixobj_ids.specs.declared.hash.kind.Kind.{Kind};
 ghost use Rattle.gixobj_ids.specs.declared.hash.object_id.ObjectId.{ObjectId};
 ghost use Rattle.gixobj_tag_tokens.specs.Readers.{AreTokensOf, EndsBehindItsName, NameCame, TellsTagger};
-ghost use Rattle.gixobj_tag_tokens.specs.TagTokens.{HasToken, TokenView};
-ghost use Rattle.gixobj_tag_tokens.specs.TokenGiving.{AreTokenTexts, FindsTagger, GivesId, IsAtStart, LacksTagger, Tells, told_tagger};
+ghost use Rattle.gixobj_tag_tokens.specs.TagTokens.{HasToken, TokenView, token_view};
+ghost use Rattle.gixobj_tag_tokens.specs.TokenGiving.{AreTokenTexts, FindsTagger, GivesId, GivesToken, HasPassed, IsAtStart, LacksTagger, Tells, told_tagger};
 ghost use Rattle.gixobj_tag_tokens.specs.declared.ref_iter.State.{State};
 ghost use Rattle.gixobj_tag_tokens.specs.declared.ref_iter.State.TheVariants as state;
 ghost use Rattle.gixobj_tag_tokens.specs.declared.ref_iter.TagRefIter.{TagRefIter};
+ghost use Rattle.gixobj_tag_tokens.specs.declared.ref_iter.Token.{Token};
 ghost use Rattle.gixobj_tags.specs.TagText.{IsTagText, TagLines};
 
 /// A text begins with one token at most in each state of the reader, and it has one run of tokens at most,
@@ -25,6 +26,19 @@ pub fn tag_tokens_have_one_reading()
         Tells kind before input tokens ending → Tells kind before input tokens' ending' → (tokens ≡ tokens') × (ending ≡ ending') }
     ensures joined { (kind : Kind) (before : State) (input : List ℕ) (tokens : List TokenView) →
         Tells kind before input tokens complete → AreTokenTexts kind input tokens }
+{}
+
+/// What a walk through the tokens of a text comes to, call by call: a reader at its start has passed none;
+/// each token that it gives is passed too; where it gives nothing more, those that were passed are told to
+/// the end, and where it gives an error, they are told up to there.
+pub fn tag_tokens_are_passed()
+    ensures starts { (kind : Kind) (text : List ℕ) (reader : TagRefIter) → IsAtStart kind text reader → HasPassed kind text [] reader }
+    ensures goes_on { (kind : Kind) (text : List ℕ) (tokens : List TokenView) (at after : TagRefIter) (token : Token) →
+        HasPassed kind text tokens at → GivesToken at (Some (Ok token)) after → HasPassed kind text (tokens ++ token_view token ∷ []) after }
+    ensures ends { (kind : Kind) (text : List ℕ) (tokens : List TokenView) (at after : TagRefIter) →
+        HasPassed kind text tokens at → GivesToken at None after → Tells kind state.Target text tokens complete }
+    ensures stops { (kind : Kind) (text : List ℕ) (tokens : List TokenView) (at after : TagRefIter) (error : decode.Error) →
+        HasPassed kind text tokens at → GivesToken at (Some (Err error)) after → Tells kind state.Target text tokens broken }
 {}
 
 /// Both readers read one language. The text of a tag is told to its end, as the tokens of that tag, its

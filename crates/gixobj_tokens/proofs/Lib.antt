@@ -3,3 +3,4 @@ mod OneLanguage
 mod ParentsFound
 mod TokenRuns
 mod Tokens
+mod Walks

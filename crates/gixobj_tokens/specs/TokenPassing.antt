@@ -4,8 +4,10 @@ use Rattle.std.specs.List.{AllZip, concat}
 use Rattle.gixobj_ids.specs.declared.decode.Error.{Error}
 use Rattle.gixobj_ids.specs.declared.hash.kind.Kind.{Kind}
 use Rattle.gixobj_fields.specs.Readers as readers
+use Rattle.gixobj_fields.specs.Runs as runs
 use Rattle.gixobj_fields.specs.Runs.{Ending, complete}
 use Rattle.gixobj_lines.specs.Lines.{WantsMemory}
+use Rattle.gixobj_lines.specs.declared.lines.State.TheVariants as state
 use Rattle.gixobj_tokens.specs.CommitTokens.{HasToken, IsTokenText, TokenView, author_token, committer_token, message_token, parent_token}
 use Rattle.gixobj_tokens.specs.TokenGiving.{standing}
 use Rattle.gixobj_tokens.specs.declared.ref_iter.CommitRefIter.{CommitRefIter}
@@ -13,6 +15,11 @@ use Rattle.gixobj_tokens.specs.declared.ref_iter.CommitRefIter.{CommitRefIter}
 -- the input is the join of a text for each token
 abbrev pub AreTokenTexts : Kind → List ℕ → List TokenView → Type 0
 AreTokenTexts kind input tokens = (texts : List (List ℕ)) × (input ≡ concat texts) × AllZip (IsTokenText kind) tokens texts
+
+-- a reader that began before the tree of this text has gone past these tokens
+abbrev pub HasPassed : Kind → List ℕ → List TokenView → CommitRefIter → Type 0
+HasPassed kind text tokens reader =
+    runs.Passes (HasToken kind) state.Tree text tokens (standing reader).state (standing reader).bytes × ((standing reader).kind ≡ kind)
 
 -- past tokens that are none such, this one comes
 abbrev pub FindsFirst : (TokenView → Type 0) → CommitRefIter → TokenView → Type 0

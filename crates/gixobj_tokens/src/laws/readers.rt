@@ -1,5 +1,5 @@
 //! Laws of the two readers of commits. Each function does nothing: its contract is the law.
-ghost use Rattle.std.specs.Prelude.{◌≡◌, ℕ, List, Result, Ok};
+ghost use Rattle.std.specs.Prelude.{◌≡◌, ◌++◌, ◌∷◌, [], ℕ, Err, List, None, Result, Ok, Some};
 ghost use Rattle.std.specs.List.{AllZip};
 ghost use Rattle.std.proofs.lemmas.Iterator.{YieldsList};
 ghost use Rattle.gixobj_actors.specs.Actor.{IsActor};
@@ -9,15 +9,16 @@ ghost use Rattle.gixobj_ids.specs.declared.decode.Error.TheVariants.{Malformed};
 ghost use Rattle.gixobj_ids.specs.declared.hash.kind.Kind.{Kind};
 ghost use Rattle.gixobj_ids.specs.declared.hash.object_id.ObjectId.{ObjectId};
 ghost use Rattle.gixobj_lines.specs.Commit.{CommitLines, IsCommitText};
-ghost use Rattle.gixobj_fields.specs.Runs.{complete};
+ghost use Rattle.gixobj_fields.specs.Runs.{broken, complete};
 ghost use Rattle.gixobj_tokens.specs.CommitRuns.{Tells};
-ghost use Rattle.gixobj_tokens.specs.CommitTokens.{TokenView};
+ghost use Rattle.gixobj_tokens.specs.CommitTokens.{TokenView, token_view};
 ghost use Rattle.gixobj_tokens.specs.Readers.{AreTokensOf, EndsInMessage};
 ghost use Rattle.gixobj_tokens.specs.TokenFilters.{GivesParent, parents_reader};
-ghost use Rattle.gixobj_tokens.specs.TokenGiving.{GivesId, IsAtStart};
-ghost use Rattle.gixobj_tokens.specs.TokenPassing.{FindsAuthor, FindsCommitter, FindsFault, FindsMessage, FindsNone, IsAuthorToken, IsCommitterToken, IsMessageToken};
+ghost use Rattle.gixobj_tokens.specs.TokenGiving.{GivesId, GivesToken, IsAtStart};
+ghost use Rattle.gixobj_tokens.specs.TokenPassing.{FindsAuthor, FindsCommitter, FindsFault, FindsMessage, FindsNone, HasPassed, IsAuthorToken, IsCommitterToken, IsMessageToken};
 ghost use Rattle.gixobj_tokens.specs.declared.ref_iter.CommitRefIter.{CommitRefIter};
 ghost use Rattle.gixobj_lines.specs.declared.lines.State.TheVariants as state;
+ghost use Rattle.gixobj_tokens.specs.declared.ref_iter.Token.{Token};
 ghost use Rattle.gixobj_tokens.specs.declared.ref_iter.filters.ParentIds.{ParentIds};
 
 /// Both readers read one language. The text of a commit is told to its end, as exactly the tokens of
@@ -28,6 +29,19 @@ pub fn readers_read_one_language()
         (tokens : List TokenView) × Tells kind state.Tree text tokens complete × AreTokensOf commit tokens × EndsInMessage tokens }
     ensures read { (kind : Kind) (text : List ℕ) (tokens : List TokenView) → Tells kind state.Tree text tokens complete → EndsInMessage tokens →
         (commit : CommitLines) × IsCommitText kind text commit × AreTokensOf commit tokens }
+{}
+
+/// What a walk through the tokens of a text comes to, call by call: a reader at its start has passed none;
+/// each token that it gives is passed too; where it gives nothing more, those that were passed are told to
+/// the end, and where it refuses the bytes that are left, they are told up to there.
+pub fn tokens_are_passed()
+    ensures starts { (kind : Kind) (text : List ℕ) (reader : CommitRefIter) → IsAtStart kind text reader → HasPassed kind text [] reader }
+    ensures goes_on { (kind : Kind) (text : List ℕ) (tokens : List TokenView) (at after : CommitRefIter) (token : Token) →
+        HasPassed kind text tokens at → GivesToken at (Some (Ok token)) after → HasPassed kind text (tokens ++ token_view token ∷ []) after }
+    ensures ends { (kind : Kind) (text : List ℕ) (tokens : List TokenView) (at after : CommitRefIter) →
+        HasPassed kind text tokens at → GivesToken at None after → Tells kind state.Tree text tokens complete }
+    ensures stops { (kind : Kind) (text : List ℕ) (tokens : List TokenView) (at after : CommitRefIter) →
+        HasPassed kind text tokens at → GivesToken at (Some (Err Malformed)) after → Tells kind state.Tree text tokens broken }
 {}
 
 /// Of the text of a commit a reader at its start finds the commit's tree and parents.

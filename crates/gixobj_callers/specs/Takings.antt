@@ -1,0 +1,26 @@
+-- Why a loose object is not taken over.
+use Rattle.std.specs.Prelude.{◌≡◌, ℕ, List, [], Some}
+use Rattle.gixobj_base.specs.Hash.{id_kind, id_of}
+use Rattle.gixobj_base.specs.Streams.{SinkView}
+use Rattle.gixobj_base.specs.Writing.{SaysWhy}
+use Rattle.gixobj_base.specs.fields.encode.Error.{Error}
+use Rattle.gixobj_base.specs.ids.hash.object_id.ObjectId.{ObjectId}
+use Rattle.gixobj_codec.specs.BorrowedObjects.{RefusesBorrowedObject, borrowed_kind, borrowed_object_text}
+use Rattle.gixobj_codec.specs.Checksums.{HasBothIds}
+use Rattle.gixobj_codec.specs.LooseObjects.{IsLooseObject, RefusesLooseObject}
+use Rattle.gixobj_codec.specs.object_readers.object.ObjectRef.{ObjectRef}
+use Rattle.gixobj_callers.specs.declared.store.TakeError.{TakeError}
+use Rattle.gixobj_callers.specs.declared.store.TakeError.TheVariants.{Read, Verify, Write}
+
+-- the object's text is not written, where nothing is written yet
+abbrev pub IsNotWritten : ObjectRef → Error → Type 0
+IsNotWritten object error =
+    (before after : SinkView) × (before.held ≡ Some []) × SaysWhy (RefusesBorrowedObject object) before after (borrowed_object_text object) error
+
+-- it is not read; or its text is not written; or the text has another id
+abbrev pub RefusesTaking : List ℕ → ObjectId → TakeError → Type 0
+RefusesTaking loose id (Read error) = RefusesLooseObject (id_kind id) loose error
+RefusesTaking loose id (Write error) = (object : ObjectRef) × IsLooseObject (id_kind id) loose object × IsNotWritten object error
+RefusesTaking loose id (Verify error) =
+    (object : ObjectRef) × IsLooseObject (id_kind id) loose object
+    × HasBothIds (id_of (id_kind id) (borrowed_kind object) (borrowed_object_text object)) id error
