@@ -8,7 +8,8 @@ The ids are git's. Beside each script goes a plain set of files, and at a write 
 `git update-index --index-info` and `git write-tree --missing-ok`. The rest of what is told follows from two rules:
 
 - A directory is opened where a path goes through it. It is looked up then, unless it is new or of the null id.
-- A write hands out each open directory that has a file, and the one that is written. Below that one none is open then.
+- A write hands out each open directory below the written one that has a file, and whose tree isn't the one that it was
+  opened with, and the written one. Below that one none is open then; it was still opened with the tree of before.
 """
 
 import os
@@ -22,8 +23,10 @@ the kind of the ids; the script; what is told of it
 # In a script and in what is told, '\\n' is a newline
 # git: examples/scripts.py makes them. The ids are those that git gives to a plain set of files that goes beside each \
 script, 'git update-index --index-info' in an empty index and then 'git write-tree --missing-ok'
-# rule: beside an id stands the number of the trees that are handed out: each open directory that has a file, and the \
-one that is written. Below that one none is open then
+# rule: beside an id stands the number of the trees that are handed out: each open directory below the written one that \
+has a file and whose tree, by git, isn't the one that it was opened with, and the written one. Below that one none is open \
+then; a directory that is made was opened with no tree
+# git: the scripts of a pair 'ways-..-a' and 'ways-..-b' come to the same files by other ways, so their last ids are equal
 # rule: the lookups are the directories that were opened, but for new ones and those of the null id
 # rule: 'refused 1' is told of an empty name, 'refused 3' where a directory isn't in the store, and 'refused 4' with its \
 path of a directory that is to be removed as a leaf"""
@@ -73,7 +76,7 @@ def is_in(path, directory):
 
 
 class Plain:
-    """A plain set of files, and which directories are open."""
+    """A plain set of files, and which directories are open, each with the tree that it was opened with, or None."""
 
     def __init__(self, git):
         self.git = git
@@ -83,7 +86,7 @@ class Plain:
 
     def begin_anew(self):
         self.files = {}
-        self.open = {()}
+        self.open = {(): None}
         self.null_directories = set()
         return OK
 
@@ -110,7 +113,7 @@ class Plain:
             self.lookups += not is_null
             if self.is_unknown(place):
                 return "refused 3"
-            self.open.add(place)
+            self.open[place] = None if is_null else self.git.tree_of(self.below(place))
             self.null_directories.discard(place)
         return OK
 
@@ -119,13 +122,13 @@ class Plain:
         for place in beginnings(path):
             self.files.pop(place, None)
             self.null_directories.discard(place)
-            self.open.add(place)
+            self.open.setdefault(place, None)
 
     def forget(self, path):
         """Takes away all that is at and below a path."""
         kept = lambda it: it != path and not is_in(it, path)
         self.files = {it: file for it, file in self.files.items() if kept(it)}
-        self.open = set(filter(kept, self.open))
+        self.open = {it: base for it, base in self.open.items() if kept(it)}
         self.null_directories = set(filter(kept, self.null_directories))
 
     def upsert(self, path, kind, id):
@@ -170,14 +173,23 @@ class Plain:
         """Git's id of the directory's files, and how many trees are handed out. Its trees are in the store then."""
         files = self.below(directory)
         id = self.git.tree_of(files)
-        handed_out = [it for it in self.open if is_in(it, directory) and self.below(it)]
-        self.open = {it for it in self.open if not is_in(it, directory)}
+        trees = {directory + path: inner for path, inner in self.git.directories_of(id)}
+        handed_out = [it for it, base in self.open.items() if it in trees and trees[it] != base]
+        self.open = {it: base for it, base in self.open.items() if not is_in(it, directory)}
         self.null_directories = {it for it in self.null_directories if not is_in(it, directory)}
         if files:
             self.stored[id] = files
-        for path, inner in self.git.directories_of(id):
-            self.stored[inner] = self.below(directory + path)
+        for path, inner in trees.items():
+            self.stored[inner] = self.below(path)
         return f"wrote {id} {len(handed_out) + 1}"
+
+
+def text_of(path):
+    return "/".join(path) if path else "."
+
+
+def at(prefix):
+    return "" if prefix is None else f"at {text_of(prefix)} "
 
 
 class Script:
@@ -190,6 +202,7 @@ class Script:
         self.names = names
         self.depth = depth
         self.is_whole = is_whole
+        self.of_all_kinds = is_whole
         self.lines = []
         self.told = []
 
@@ -208,7 +221,7 @@ class Script:
 
     def entry(self):
         """The kind and the id of an upsert: in whole runs at times a stored tree, an unknown one, or the null id."""
-        number = self.draw.randrange(16) if self.is_whole else 15
+        number = self.draw.randrange(0 if self.is_whole else 7, 16) if self.of_all_kinds else 15
         if number < 4 and self.plain.stored:
             return "tree", self.draw.choice(list(self.plain.stored))
         if number == 4:
@@ -220,27 +233,34 @@ class Script:
 
     def edit(self, prefix=None):
         """An edit, from the root or by a cursor."""
-        at = "" if prefix is None else f"at {'/'.join(prefix) or '.'} "
         path = self.path()
-        text = "/".join(path) if path else "."
-        told = OK if prefix is None else self.plain.go_to(prefix)
-        whole = (prefix or ()) + path if path else ()
         number = self.draw.randrange(8)
         if number < 5:
-            kind, id = self.entry()
-            self.lines.append(f"{at}upsert {kind} {id} {text}")
-            self.told.append(self.plain.upsert(whole, kind, id) if told == OK else told)
+            self.upsert(prefix, path, *self.entry())
         else:
-            is_leaf = number == 7
-            self.lines.append(f"{at}{'leaf' if is_leaf else 'remove'} {text}")
-            self.told.append(self.plain.remove(whole, is_leaf) if told == OK else told)
+            self.remove(prefix, path, is_leaf=number == 7)
+
+    def upsert(self, prefix, path, kind, id):
+        told, whole = self.gone_to(prefix, path)
+        self.lines.append(f"{at(prefix)}upsert {kind} {id} {text_of(path)}")
+        self.told.append(self.plain.upsert(whole, kind, id) if told == OK else told)
+
+    def remove(self, prefix, path, is_leaf):
+        told, whole = self.gone_to(prefix, path)
+        self.lines.append(f"{at(prefix)}{'leaf' if is_leaf else 'remove'} {text_of(path)}")
+        self.told.append(self.plain.remove(whole, is_leaf) if told == OK else told)
+
+    def gone_to(self, prefix, path):
+        """What is told of going to a prefix, if there is one; and the path from the root."""
+        told = OK if prefix is None else self.plain.go_to(prefix)
+        return told, (prefix or ()) + path if path else ()
 
     def write(self, prefix=None):
         """A write, behind the removal of trees that the store doesn't have."""
         for path in filter(self.plain.is_unknown, list(self.plain.files)):
             self.lines.append(f"remove {'/'.join(path)}")
             self.told.append(self.plain.remove(path))
-        self.lines.append("write" if prefix is None else f"at {'/'.join(prefix) or '.'} write")
+        self.lines.append(f"{at(prefix)}write")
         told = OK if prefix is None else self.plain.go_to(prefix)
         self.told.append(self.plain.write(prefix or ()) if told == OK else told)
 
@@ -263,8 +283,25 @@ class Script:
         elif number == 14 or not self.is_whole or self.draw.randrange(3):
             self.write()
         else:
-            self.lines.append("root")
-            self.told.append(self.plain.begin_anew())
+            self.root()
+
+    def root(self):
+        self.lines.append("root")
+        self.told.append(self.plain.begin_anew())
+
+    def come_to(self, files):
+        """Takes out files that aren't among these, and puts these in, at times by a cursor or behind a write."""
+        others = [(path, None) for path in self.plain.files if path not in files]
+        wanted = [(path, it) for path, it in files.items() if self.plain.files.get(path) != it]
+        for path, it in self.draw.sample(others, len(others)) + self.draw.sample(wanted, len(wanted)):
+            length = self.draw.randrange(-1, len(path))
+            prefix, rest = (None, path) if length < 0 else (path[:length], path[length:])
+            if it is None:
+                self.remove(prefix, rest, is_leaf=self.draw.randrange(2) == 1)
+            elif self.plain.files.get(path) != it:
+                self.upsert(prefix, rest, *it)
+            if self.draw.randrange(3) == 0:
+                self.write(prefix)
 
     def text(self):
         return "".join(f"{line}\\n" for line in self.lines)
@@ -290,6 +327,36 @@ def script(git, draw, number, visits, is_whole):
     return made
 
 
+def of_files(git, draw, names, depth, visits):
+    """A script of edits of files alone, of all kinds, without a last write."""
+    made = Script(git, draw, names, depth, is_whole=False)
+    made.of_all_kinds = True
+    length = draw.randint(6, 24)
+    while len(made.lines) < length:
+        made.step(visits)
+    return made
+
+
+def ways(git, draw, number):
+    """Two scripts that come to the same files: one that is drawn, and another one, which goes on to its files."""
+    names, depth = (NEAR_NAMES, 4) if number % 3 == 2 else (FEW_NAMES, 3)
+    first = of_files(git, draw, names, depth, visits=0)
+    while len(first.plain.files) < 3:
+        first = of_files(git, draw, names, depth, visits=0)
+    second = of_files(git, draw, names, depth, visits=8)
+    if number % 4 == 1:
+        second.root()
+    second.come_to(first.plain.files)
+    first.write()
+    second.write()
+    assert first.plain.files == second.plain.files
+    return first, second
+
+
+def print_row(name, object_format, made):
+    print(name, "git", object_format, made.text(), made.told_text(), sep="\t")
+
+
 def main(folder):
     os.makedirs(folder)
     print(HEADER)
@@ -299,8 +366,12 @@ def main(folder):
         for name, visits, is_whole in KINDS:
             for number in range(count):
                 made = script(git, draw, number, visits, is_whole)
-                name_of_row = f"{name}-{object_format}-{number + 1}"
-                print(name_of_row, "git", object_format, made.text(), made.told_text(), sep="\t")
+                print_row(f"{name}-{object_format}-{number + 1}", object_format, made)
+        draw = random.Random(f"ways {object_format}")
+        for number in range(count):
+            first, second = ways(git, draw, number)
+            print_row(f"ways-{object_format}-{number + 1}-a", object_format, first)
+            print_row(f"ways-{object_format}-{number + 1}-b", object_format, second)
 
 
 if __name__ == "__main__":

@@ -5,6 +5,7 @@ mod copies;
 mod imports;
 mod plans;
 mod tags;
+mod uploads;
 
 use crate::samples::id;
 use bstr::BStr;

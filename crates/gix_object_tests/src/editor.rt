@@ -4,7 +4,8 @@ ghost use Rattle.std.specs.Prelude.{ℕ, ◌∷◌, [], IfOk, IfSome, Ok};
 ghost use Rattle.std.specs.Fn.{CalledAt};
 ghost use Rattle.gixobj_base.specs.Mode.{mode_of_kind};
 ghost use Rattle.gixobj_base.specs.trees.tree.entry_kind.EntryKind.TheVariants.{Blob};
-ghost use Rattle.gixobj_files.specs.State.{EditorFiles};
+ghost use Rattle.gixobj_files.specs.Bases.{HasBases};
+ghost use Rattle.gixobj_files.specs.State.{EditorFiles, open_bases, open_dirs};
 ghost use Rattle.gixobj_directories.specs.Calls.{IsCallableOnTrees, names_of};
 ghost use Rattle.gixobj_directories.specs.Openings.{AreTreesOf};
 ghost use Rattle.gixobj_files.specs.Files.{NamedFiles, SameFiles, Table, Trees};
@@ -110,7 +111,7 @@ fn edited_and_written<S: Find, E: Drop, F: FnMut(&Tree) -> Result<ObjectId, E> +
     out: F,
 ) -> Result<Option<Written>, Error>
     requires callable { IsCallableOnTrees F.pre (λ f p g. CalledAt F.FnMut f p.1 (Ok p.0) g) out }
-    ensures { IfOk result (λ it. IfSome it (λ written. (trees : Trees) → AreTreesOf (S.objects editor.old.store) trees → (T : Table) (n : ℕ) → AgreesWithStore T trees → AgreesWithPairs T written.trees.items
+    ensures { IfOk result (λ it. IfSome it (λ written. (trees : Trees) → AreTreesOf (S.objects editor.old.store) trees → (T : Table) (n : ℕ) → AgreesWithStore T trees → AgreesWithPairs T written.trees.items → HasBases T (open_dirs editor.old) (open_bases editor.old)
         → SameFiles (NamedFiles T n written.id) (History T n (upsert (names_of first.now) (mode_of_kind Blob) id ∷ remove (names_of second.now) ∷ []) (EditorFiles T n editor.old)))) }
 {
     editor.try_upsert(first, EntryKind::Blob, id)?;

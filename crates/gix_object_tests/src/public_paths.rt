@@ -69,9 +69,9 @@ mod of_kind {
 
 mod of_laws {
     pub use gix_object::laws::{
-        a_root_alone_is_opened, every_list_makes_a_table, every_store_has_its_own_table,
-        every_store_names_trees, fitting_pairs_have_a_table, fitting_runs_have_a_table,
-        trees_read_as_themselves,
+        a_file_looked_up_is_there, a_plain_history_needs_no_table, a_root_alone_is_opened,
+        every_list_makes_a_table, every_store_has_its_own_table, every_store_names_trees,
+        fitting_pairs_have_a_table, fitting_runs_have_a_table, trees_read_as_themselves,
     };
 }
 

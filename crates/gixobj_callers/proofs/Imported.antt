@@ -1,18 +1,24 @@
 -- What edits that come through, and a write behind them, make of the files and of the store.
-use Rattle.std.proofs.Common.{◌≡◌, ◌∙◌, ℕ, List, [], ◌∷◌, ap, subst, sym}
+use Rattle.std.proofs.Common.{◌≡◌, ◌∙◌, ◌++◌, ℕ, List, [], ◌∷◌, Option, Some, ap, subst, sym}
+use Rattle.std.specs.FinMap as map
+use Rattle.std.specs.Prelude.{MatchOption}
+use Rattle.std.proofs.lemmas.List.Elements.{All-contains, Contains-push}
+use Rattle.gixobj_base.specs.Entries.{EntryView}
 use Rattle.gixobj_callers.specs.Imports.{AreDone, Decides, IsWriteBehind, import_steps, steps_if_done}
-use Rattle.gixobj_callers.proofs.Histories.{history_append, same_history}
+use Rattle.gixobj_callers.proofs.Alone.{root_files}
+use Rattle.gixobj_callers.proofs.Histories.{history_append, same_history, same_refl, same_sym, same_trans}
 use Rattle.gixobj_commands.specs.declared.command.Edit.{Edit}
 use Rattle.gixobj_commands.specs.declared.command.Edit.TheVariants as edit
 use Rattle.gixobj_data.specs.Stores.{Objects}
 use Rattle.gixobj_directories.proofs.NamedTrees.{trees_of}
 use Rattle.gixobj_directories.specs.Openings.{AreTreesOf}
 use Rattle.gixobj_directories.specs.declared.write.Written.{Written}
-use Rattle.gixobj_files.proofs.EditedFiles.{same_refl, same_sym, same_trans}
-use Rattle.gixobj_files.specs.Files.{NamedFiles, SameFiles, Table, Trees}
+use Rattle.gixobj_files.specs.Bases.{HasBases}
+use Rattle.gixobj_files.specs.Files.{Files, NamedFiles, SameFiles, Table, Trees}
 use Rattle.gixobj_files.specs.History.{History}
-use Rattle.gixobj_files.specs.State.{EditorFiles, State}
-use Rattle.gixobj_files.specs.Tables.{AgreesWithPairs, AgreesWithStore}
+use Rattle.gixobj_files.specs.Opening.{OpenFiles}
+use Rattle.gixobj_files.specs.State.{DirMap, EditorFiles, State, open_bases, open_dirs}
+use Rattle.gixobj_files.specs.Tables.{AgreesWithPairs, AgreesWithStore, Pair}
 use Rattle.gixobj_keeping.specs.Keeping.{with_trees}
 use Rattle.gixobj_runs.specs.Commands.{at_root}
 use Rattle.gixobj_runs.specs.Replies.{Answers, IsEditReply, Meaning}
@@ -23,6 +29,12 @@ use Rattle.gixobj_runs.specs.declared.reply.EditReply.TheVariants as edit_reply
 -- what agrees with the objects agrees with their trees
 agrees_with_trees : (T : Table) (objects : Objects) (trees : Trees) → AreTreesOf objects trees → AgreesWithObjects T objects → AgreesWithStore T trees
 agrees_with_trees T objects trees fits agrees = λ id entries asked is. agrees id entries asked ((fits id entries).0 is)
+
+-- the table has the last pair of those with which it agrees
+pairs_last : (T : Table) (pairs below : List Pair) (pair : Pair) → pairs ≡ below ++ pair ∷ [] → AgreesWithPairs T pairs → T.tree_at pair.0 ≡ Some pair.1
+pairs_last T pairs below pair is agrees =
+    let Known : Pair → Type 0 = λ p. T.tree_at p.0 ≡ Some p.1 in
+    All-contains Known (below ++ pair ∷ []) pair (subst (λ (ps : List Pair). AgreesWithPairs T ps) is agrees) (Contains-push below pair)
 
 module _ {S E : Type 0} (means : Meaning S) (answers : Answers E) where
   edit_stays : (old new : State S) (it : Edit) → IsEditReply means answers at_root old it edit_reply.Done new → new.store ≡ old.store
@@ -57,15 +69,41 @@ module _ {S E : Type 0} (means : Meaning S) (answers : Answers E) where
         (same_trans _ _ _ (same_history T n (import_steps edits) (EditorFiles T n between) (History T n (steps_if_done it) (EditorFiles T n old)) (edit_files old between it first agrees))
         (same_sym _ _ (history_append T n (steps_if_done it) (import_steps edits) (EditorFiles T n old))))
 
+    edit_based : (old new : State S) (it : Edit) → IsEditReply means answers at_root old it edit_reply.Done new → AgreesWithObjects T (means.objects old.store)
+        → HasBases T (open_dirs old) (open_bases old) → HasBases T (open_dirs new) (open_bases new)
+    edit_based old new (edit.Upsert path kind id) done agrees has =
+        let trees = trees_of (means.objects old.store) in (done trees.0 trees.1).has_bases T (agrees_with_trees T (means.objects old.store) trees.0 trees.1 agrees) has
+    edit_based old new (edit.Remove path) done agrees has =
+        let trees = trees_of (means.objects old.store) in (done trees.0 trees.1).has_bases T (agrees_with_trees T (means.objects old.store) trees.0 trees.1 agrees) has
+    edit_based old new (edit.RemoveLeaf path) done agrees has =
+        let trees = trees_of (means.objects old.store) in (done trees.0 trees.1).removed.has_bases T (agrees_with_trees T (means.objects old.store) trees.0 trees.1 agrees) has
+    edit_based old new edit.Write done agrees has = absurd done
+
+    -- the bases are those of their ids still
+    edits_based : (old new : State S) (edits : List Edit) → AreDone means answers old edits new → AgreesWithObjects T (means.objects old.store)
+        → HasBases T (open_dirs old) (open_bases old) → HasBases T (open_dirs new) (open_bases new)
+    edits_based old new [] done agrees has = subst (λ (s : State S). HasBases T (open_dirs s) (open_bases s)) (sym done) has
+    edits_based old new (it ∷ edits) (between, first, done) agrees has =
+        edits_based between new edits done (subst (λ (s : S). AgreesWithObjects T (means.objects s)) (sym (edit_stays old between it first)) agrees) (edit_based old between it first agrees has)
+
     pub named_files : (old new : State S) (edits : List Edit) (written : Written) → IsWriteBehind means answers old edits (edit_reply.Written written) new
-        → AgreesWithObjects T (means.objects old.store) → AgreesWithPairs T written.trees.items → SameFiles (NamedFiles T n written.id) (History T n (import_steps edits) (EditorFiles T n old))
-    named_files old new edits written behind agrees pairs = same_trans _ _ _ (behind.write.written.files T n pairs) (edits_files old behind.edited edits behind.done agrees)
+        → AgreesWithObjects T (means.objects old.store) → AgreesWithPairs T written.trees.items → HasBases T (open_dirs old) (open_bases old) → SameFiles (NamedFiles T n written.id) (History T n (import_steps edits) (EditorFiles T n old))
+    named_files old new edits written behind agrees pairs has =
+        same_trans _ _ _ (behind.write.written.files T n pairs (edits_based old behind.edited edits behind.done agrees has)) (edits_files old behind.edited edits behind.done agrees)
 
     pub files_left : (old new : State S) (edits : List Edit) (written : Written) → IsWriteBehind means answers old edits (edit_reply.Written written) new
         → AgreesWithPairs T written.trees.items → SameFiles (EditorFiles T n new) (NamedFiles T n written.id)
     files_left old new edits written behind pairs =
         let it = behind.write in
-        subst (λ (s : State S). SameFiles (EditorFiles T n s) (NamedFiles T n written.id)) (sym it.rest) (same_trans _ _ _ (it.written.same_files T n pairs) (same_sym _ _ (it.written.files T n pairs)))
+        let own = it.written.own in
+        let root : SameFiles (EditorFiles T n it.between) (Files T n own) = subst (λ (dirs : DirMap). SameFiles (OpenFiles T n (λ path. map.get dirs path)) (Files T n own)) (sym it.written.dirs) (root_files T n own) in
+        let there : T.tree_at written.id ≡ Some own = pairs_last T written.trees.items it.written.below (written.id, own) it.written.last pairs in
+        subst (λ (s : State S). SameFiles (EditorFiles T n s) (NamedFiles T n written.id)) (sym it.rest)
+        (same_trans _ _ _ root (subst (λ (found : Option (List EntryView)). SameFiles (Files T n own) (λ path mode id. MatchOption found ⊥ (λ es. Files T n es path mode id))) (sym there) (same_refl (Files T n own))))
+
+    -- the root alone is open then
+    pub bases_left : (old new : State S) (edits : List Edit) (written : Written) → IsWriteBehind means answers old edits (edit_reply.Written written) new → HasBases T (open_dirs new) (open_bases new)
+    bases_left old new edits written behind = subst (λ (s : State S). HasBases T (open_dirs s) (open_bases s)) (sym behind.write.rest) (behind.write.written.has_bases T)
 
   -- the reply that decides says what went out
   pub write_done : (old new : State S) (edits : List Edit) (index : ℕ) (its_reply : EditReply E) (written : Written) → Decides means answers old edits index its_reply new → its_reply ≡ edit_reply.Written written

@@ -1,9 +1,13 @@
+mod Alone
 mod Commits
 mod Histories
 mod Imported
 mod Importing
 mod Listed
+mod Once
 mod Planned
 mod PutIn
+mod Rebuilt
 mod Refusals
 mod Told
+mod Uploaded

@@ -8,19 +8,22 @@ use Rattle.gixobj_base.specs.ids.hash.kind.Kind.{Kind}
 use Rattle.gixobj_base.specs.ids.hash.object_id.ObjectId.{ObjectId}
 use Rattle.gixobj_base.specs.ids.hash.object_id.ObjectId.TheVariants as id
 use Rattle.gixobj_base.specs.ids.kind.Kind.TheVariants.{Tree}
-use Rattle.gixobj_callers.specs.Plans.{IsNotPutIn, IsPlanned, IsPutIn, IsRoot, started}
+use Rattle.gixobj_callers.proofs.Histories.{same_trans, same_upserted}
+use Rattle.gixobj_callers.specs.Plans.{IsNotPutIn, IsPutIn, IsRoot, started}
 use Rattle.gixobj_codec.specs.Stores.{Objects}
 use Rattle.gixobj_directories.specs.Openings.{AreTreesOf}
 use Rattle.gixobj_directories.specs.declared.write.Written.{Written}
 use Rattle.gixobj_editor.specs.Upserts.{IsUpserted, RefusesUpsert}
+use Rattle.gixobj_editor.specs.Writes.{IsWritten}
 use Rattle.gixobj_editor.specs.declared.editor.error.Error.{Error}
-use Rattle.gixobj_files.proofs.EditedFiles.{root_files, same_trans, same_upserted}
+use Rattle.gixobj_files.specs.Bases.{HasBases}
 use Rattle.gixobj_files.specs.Editing.{same_name}
 use Rattle.gixobj_files.specs.Files.{Files, NamedFiles, Path, SameFiles, Table, Trees, Upserted, is_null}
-use Rattle.gixobj_files.specs.State.{EditorFiles, State, open_dirs, root_alone}
+use Rattle.gixobj_files.specs.State.{EditorFiles, State, open_bases, open_dirs, root_alone}
 use Rattle.gixobj_files.specs.Tables.{AgreesWithPairs, AgreesWithStore, Pair}
 use Rattle.gixobj_lookups.specs.Existing.{IsEmptyId}
 use Rattle.gixobj_runs.specs.Replies.{Meaning}
+use Rattle.gixobj_runs.specs.RunTables.{OfTrees}
 
 -- two ids are the same, or not
 same_bytes : (xs ys : List ℕ) → (xs ≡ ys) ⊎ (xs ≢ ys)
@@ -36,9 +39,9 @@ same_ids (id.Sha256 xs) (id.Sha1 ys) = inr (λ same. cc same)
 same_ids (id.Sha256 xs) (id.Sha256 ys) = ⊎_elim (λ same. inl (ap id.Sha256 same)) (λ other. inr (λ same. other (cc same))) (same_bytes xs ys)
 
 -- an editor with these parts is a new one
-pub is_started : {S : Type 0} (state : State S) (store : S) (object_hash : Kind) (entries : List EntryView) → state.dirs ≡ root_alone entries → state.store ≡ store → state.lookups ≡ 0
+pub is_started : {S : Type 0} (state : State S) (store : S) (object_hash : Kind) (entries : List EntryView) → state.dirs ≡ root_alone entries → state.bases ≡ root_alone [] → state.store ≡ store → state.lookups ≡ 0
     → state.object_hash ≡ object_hash → state.prefix ≡ [] → state ≡ started store object_hash entries
-is_started state store object_hash entries root same_store none same_kind no_prefix i = record { dirs = root i; store = same_store i; lookups = none i; object_hash = same_kind i; prefix = no_prefix i }
+is_started state store object_hash entries root bare same_store none same_kind no_prefix i = record { dirs = root i; bases = bare i; store = same_store i; lookups = none i; object_hash = same_kind i; prefix = no_prefix i }
 
 -- a table that agrees with the store has the root by its id, where that isn't null
 module _ (T : Table) (objects : Objects) (trees : Trees) (it : ObjectId) (entries : List EntryView) (filled : IsFalse (is_null it)) (fits : AreTreesOf objects trees) (agrees : AgreesWithStore T trees) (is : IsRoot objects it entries) where
@@ -76,12 +79,14 @@ module _ {S : Type 0} (means : Meaning S) (store : S) (root_id : ObjectId) (path
   )
 
   -- the tree that is named has the files that the edit makes of the root's
-  pub planned_files : {F : Type 0} (gave : F → Pair → F → Type 0) (out : F) (written : Written) → IsPlanned means store root_id path mode id gave out written
-      → IsFalse (is_null root_id) → (trees : Trees) → AreTreesOf (means.objects store) trees → (T : Table) (n : ℕ) → AgreesWithStore T trees → AgreesWithPairs T written.trees.items
-      → SameFiles (NamedFiles T n written.id) (Upserted T n path mode id (NamedFiles T n root_id))
-  planned_files gave out written (edited, left, last, put, wrote) filled trees fits T n agrees pairs =
-      let begun : State S = started store (id_kind root_id) put.entries in
-      let root : SameFiles (EditorFiles T n begun) (NamedFiles T n root_id) =
-      same_trans _ _ _ (root_files T n put.entries) (root_named T (means.objects store) trees root_id put.entries filled fits agrees put.is_root n) in
-      same_trans _ _ _ (wrote.files T n pairs)
-      (same_trans _ _ _ ((put.put_in trees fits).files T n agrees) (same_upserted T n path mode id (EditorFiles T n begun) (NamedFiles T n root_id) root))
+  module _ (editor : State S) (entries : List EntryView) (is_root : IsRoot (means.objects store) root_id entries) (new : editor ≡ started store (id_kind root_id) entries)
+      (bases : (T : Table) → HasBases T (open_dirs editor) (open_bases editor)) (begun : (T : Table) (n : ℕ) → SameFiles (EditorFiles T n editor) (Files T n entries)) where
+    pub planned_files : {F : Type 0} (gave : F → Pair → F → Type 0) (out last : F) (edited left : State S) (written : Written) → OfTrees (means.objects editor.store) (λ trees. IsUpserted trees editor path mode id edited)
+        → IsWritten gave out edited written left last
+        → IsFalse (is_null root_id) → (trees : Trees) → AreTreesOf (means.objects store) trees → (T : Table) (n : ℕ) → AgreesWithStore T trees → AgreesWithPairs T written.trees.items
+        → SameFiles (NamedFiles T n written.id) (Upserted T n path mode id (NamedFiles T n root_id))
+    planned_files gave out last edited left written put wrote filled trees fits T n agrees pairs =
+        let done = put trees (subst (λ (it : S). AreTreesOf (means.objects it) trees) (sym (ap (λ (state : State S). state.store) new)) fits) in
+        let root : SameFiles (EditorFiles T n editor) (NamedFiles T n root_id) = same_trans _ _ _ (begun T n) (root_named T (means.objects store) trees root_id entries filled fits agrees is_root n) in
+        same_trans _ _ _ (wrote.files T n pairs (done.has_bases T agrees (bases T)))
+        (same_trans _ _ _ (done.files T n agrees) (same_upserted T n path mode id (EditorFiles T n editor) (NamedFiles T n root_id) root))

@@ -8,18 +8,18 @@ use Rattle.gixobj_base.specs.ids.hash.kind.Kind.{Kind}
 use Rattle.gixobj_callers.specs.Checkouts.{AreNotPutIn, ArePutIn, IsCheckedOut, IsFilled, IsMade, IsNotFilled, IsNotPutInAt, IsPutInAt, put_at, steps_at}
 use Rattle.gixobj_callers.specs.Plans.{started}
 use Rattle.gixobj_callers.specs.declared.checkout.Planned.{Planned}
-use Rattle.gixobj_callers.proofs.Histories.{same_history}
+use Rattle.gixobj_callers.proofs.Histories.{same_history, same_refl, same_trans}
 use Rattle.gixobj_directories.specs.Calls.{names_of}
 use Rattle.gixobj_directories.specs.Openings.{AreTreesOf}
 use Rattle.gixobj_directories.specs.declared.write.Written.{Written}
 use Rattle.gixobj_editor.specs.Cursors.{RefusesFromRoot, from_root}
 use Rattle.gixobj_editor.specs.Upserts.{IsUpserted, RefusesUpsert}
 use Rattle.gixobj_editor.specs.declared.editor.error.Error.{Error}
+use Rattle.gixobj_files.specs.Bases.{HasBases}
 use Rattle.gixobj_files.specs.Files.{Assured, Files, NamedFiles, Path, SameFiles, Table, Trees, Upserted}
 use Rattle.gixobj_files.specs.History.{History}
-use Rattle.gixobj_files.specs.State.{EditorFiles, State, open_dirs}
+use Rattle.gixobj_files.specs.State.{EditorFiles, State, open_bases, open_dirs}
 use Rattle.gixobj_files.specs.Tables.{AgreesWithPairs, AgreesWithStore, Pair}
-use Rattle.gixobj_files.proofs.EditedFiles.{root_files, same_refl, same_trans}
 use Rattle.gixobj_runs.specs.Replies.{Meaning}
 use Rattle.gixobj_runs.specs.RunTables.{OfTrees}
 
@@ -82,6 +82,21 @@ module _ {S : Type 0} (means : Meaning S) (prefix : Path) where
         same_trans _ _ _ (put_in_files between new entries rest still)
         (same_history T n (map (put_at prefix) entries) (EditorFiles T n between) (Upserted T n (from_root prefix (names_of entry.path.items)) (mode_of_kind entry.kind) entry.id (EditorFiles T n old)) (done.files T n agrees))
 
+    put_in_based : (old new : State S) (entries : List Planned) → ArePutIn means prefix old entries new → AreTreesOf (means.objects old.store) trees
+        → HasBases T (open_dirs old) (open_bases old) → HasBases T (open_dirs new) (open_bases new)
+    put_in_based old new [] none fits has = subst (λ (state : State S). HasBases T (open_dirs state) (open_bases state)) (sym none) has
+    put_in_based old new (entry ∷ entries) (between, put, rest) fits has =
+        let done = put trees fits in
+        let still = subst (λ (store : S). AreTreesOf (means.objects store) trees) (sym (ap (λ (state : State S). state.store) done.rest)) fits in
+        put_in_based between new entries rest still (done.has_bases T agrees has)
+
+    filled_based : (old new : State S) (entries : List Planned) → IsFilled means old prefix entries new → AreTreesOf (means.objects old.store) trees
+        → HasBases T (open_dirs old) (open_bases old) → HasBases T (open_dirs new) (open_bases new)
+    filled_based old new entries (made, is_made, put) fits has =
+        let done = is_made trees fits in
+        let still = subst (λ (store : S). AreTreesOf (means.objects store) trees) (sym (ap (λ (state : State S). state.store) done.rest)) fits in
+        put_in_based made new entries put still (done.has_bases T agrees has)
+
     filled_files : (old new : State S) (entries : List Planned) → IsFilled means old prefix entries new → AreTreesOf (means.objects old.store) trees
         → SameFiles (EditorFiles T n new) (History T n (steps_at prefix entries) (EditorFiles T n old))
     filled_files old new entries (made, is_made, put) fits =
@@ -91,9 +106,11 @@ module _ {S : Type 0} (means : Meaning S) (prefix : Path) where
 
     -- the tree that is named has the files that the steps make of the root's
     pub checked_out_files : {F : Type 0} (gave : F → Pair → F → Type 0) (out : F) (store : S) (object_hash : Kind) (root : List EntryView) (entries : List Planned) (written : Written)
+        → HasBases T (open_dirs (started store object_hash root)) (open_bases (started store object_hash root)) → SameFiles (EditorFiles T n (started store object_hash root)) (Files T n root)
         → IsCheckedOut means (started store object_hash root) prefix entries gave out written → AreTreesOf (means.objects store) trees → AgreesWithPairs T written.trees.items
         → SameFiles (NamedFiles T n written.id) (History T n (steps_at prefix entries) (Files T n root))
-    checked_out_files gave out store object_hash root entries written (filled, left, last, is_filled, wrote) fits pairs =
-        same_trans _ _ _ (wrote.files T n pairs)
+    checked_out_files gave out store object_hash root entries written bases begun (filled, left, last, is_filled, wrote) fits pairs =
+        let has = filled_based (started store object_hash root) filled entries is_filled fits bases in
+        same_trans _ _ _ (wrote.files T n pairs has)
         (same_trans _ _ _ (filled_files (started store object_hash root) filled entries is_filled fits)
-        (same_history T n (steps_at prefix entries) (EditorFiles T n (started store object_hash root)) (Files T n root) (root_files T n root)))
+        (same_history T n (steps_at prefix entries) (EditorFiles T n (started store object_hash root)) (Files T n root) begun))

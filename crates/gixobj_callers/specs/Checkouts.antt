@@ -13,9 +13,9 @@ use Rattle.gixobj_editor.specs.Upserts.{IsUpserted, RefusesUpsert}
 use Rattle.gixobj_editor.specs.Writes.{IsWritten}
 use Rattle.gixobj_editor.specs.declared.editor.error.Error.{Error}
 use Rattle.gixobj_files.specs.Files.{Path}
-use Rattle.gixobj_files.specs.HandingOut.{HandsOut}
+use Rattle.gixobj_files.specs.HandingOut.{HandsOutSome}
 use Rattle.gixobj_files.specs.History.{Step, assure, upsert}
-use Rattle.gixobj_files.specs.State.{State, open_dirs}
+use Rattle.gixobj_files.specs.State.{State, open_bases, open_dirs}
 use Rattle.gixobj_files.specs.Tables.{Pair}
 use Rattle.gixobj_runs.specs.Replies.{Meaning}
 use Rattle.gixobj_runs.specs.RunTables.{OfTrees}
@@ -68,9 +68,9 @@ module _ {S : Type 0} (means : Meaning S) where
 
   -- the directory is filled, and the write behind that comes through
   abbrev pub IsCheckedOut : {F : Type 0} → State S → Path → List Planned → (F → Pair → F → Type 0) → F → Written → Type 0
-  IsCheckedOut {F} old prefix entries gave out written = (filled left : State S) × (last : F) × IsFilled old prefix entries filled × IsWritten gave out filled written.id written.trees.items left last
+  IsCheckedOut {F} old prefix entries gave out written = (filled left : State S) × (last : F) × IsFilled old prefix entries filled × IsWritten gave out filled written left last
 
   -- why no tree is named: the directory isn't filled, or the write behind that stops
   abbrev pub RefusesCheckout : {F E : Type 0} → State S → Path → List Planned → (F → Pair → F → Type 0) → (F → List EntryView → E → F → Type 0) → F → CheckoutError E → Type 0
   RefusesCheckout old prefix entries gave denied out (checkout.Edit error) = IsNotFilled old prefix entries error
-  RefusesCheckout {F} old prefix entries gave denied out (checkout.Write error) = (filled : State S) × (last : F) × IsFilled old prefix entries filled × Stopped gave denied (HandsOut (open_dirs filled)) out last error
+  RefusesCheckout {F} old prefix entries gave denied out (checkout.Write error) = (filled : State S) × (last : F) × IsFilled old prefix entries filled × Stopped gave denied (HandsOutSome (open_dirs filled) (open_bases filled)) out last error

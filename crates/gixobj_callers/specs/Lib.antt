@@ -3,5 +3,8 @@ pub mod Checkouts
 pub mod Copies
 pub mod Imports
 pub mod Plans
+pub mod Rebuilds
 pub mod Shelves
+pub mod Takings
 pub mod Told
+pub mod Uploads

@@ -14,8 +14,8 @@ use Rattle.gixobj_editor.specs.Upserts.{IsUpserted, RefusesUpsert}
 use Rattle.gixobj_editor.specs.Writes.{IsWritten}
 use Rattle.gixobj_editor.specs.declared.editor.error.Error.{Error}
 use Rattle.gixobj_files.specs.Files.{Path}
-use Rattle.gixobj_files.specs.HandingOut.{HandsOut}
-use Rattle.gixobj_files.specs.State.{State, open_dirs, root_alone}
+use Rattle.gixobj_files.specs.HandingOut.{HandsOutSome}
+use Rattle.gixobj_files.specs.State.{State, open_bases, open_dirs, root_alone}
 use Rattle.gixobj_files.specs.Tables.{Pair}
 use Rattle.gixobj_lookups.specs.Existing.{IsEmptyId, NamesSuch, RefusesObject}
 use Rattle.gixobj_runs.specs.Replies.{Meaning}
@@ -47,7 +47,7 @@ RefusesRoot objects may_fail id error = (IsEmptyId Tree id → ⊥) × RefusesSt
 
 -- a new editor of this root
 abbrev pub started : {S : Type 0} → S → hash.Kind → List EntryView → State S
-started store object_hash entries = record { dirs = root_alone entries; store = store; lookups = 0; object_hash = object_hash; prefix = [] }
+started store object_hash entries = record { dirs = root_alone entries; bases = root_alone []; store = store; lookups = 0; object_hash = object_hash; prefix = [] }
 
 -- a plan: in the tree that an id stands for in a store, an entry of this mode and id at this path
 module _ {S : Type 0} (means : Meaning S) (store : S) (root_id : ObjectId) (path : Path) (mode : ℕ) (id : ObjectId) where
@@ -65,10 +65,10 @@ module _ {S : Type 0} (means : Meaning S) (store : S) (root_id : ObjectId) (path
 
   -- the entry is put in, and the write behind it comes through
   abbrev pub IsPlanned : {F : Type 0} → (F → Pair → F → Type 0) → F → Written → Type 0
-  IsPlanned {F} gave out written = (edited left : State S) × (last : F) × IsPutIn edited × IsWritten gave out edited written.id written.trees.items left last
+  IsPlanned {F} gave out written = (edited left : State S) × (last : F) × IsPutIn edited × IsWritten gave out edited written left last
 
   -- why no tree is named: there is no root, or the entry is refused, or the write behind it stops
   abbrev pub RefusesPlan : {F E : Type 0} → (F → Pair → F → Type 0) → (F → List EntryView → E → F → Type 0) → F → PlanError E → Type 0
   RefusesPlan gave denied out (plan.Root error) = RefusesRoot (means.objects store) (means.may_fail store) root_id error
   RefusesPlan gave denied out (plan.Edit error) = IsNotPutIn error
-  RefusesPlan {F} gave denied out (plan.Write error) = (edited : State S) × (last : F) × IsPutIn edited × Stopped gave denied (HandsOut (open_dirs edited)) out last error
+  RefusesPlan {F} gave denied out (plan.Write error) = (edited : State S) × (last : F) × IsPutIn edited × Stopped gave denied (HandsOutSome (open_dirs edited) (open_bases edited)) out last error

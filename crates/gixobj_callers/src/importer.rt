@@ -4,9 +4,10 @@ ghost use Rattle.std.specs.Fn.{FnReturnsAt};
 ghost use Rattle.gixobj_codec.specs.Commit.{CommitLines, IsCommitText};
 ghost use Rattle.gixobj_codec.specs.CommitWriting.{commit_text};
 ghost use Rattle.gixobj_codec.specs.Rewriting.{AreOwnParts};
+ghost use Rattle.gixobj_files.specs.Bases.{HasBases};
 ghost use Rattle.gixobj_files.specs.Files.{NamedFiles, SameFiles, Table};
 ghost use Rattle.gixobj_files.specs.History.{History};
-ghost use Rattle.gixobj_files.specs.State.{EditorFiles};
+ghost use Rattle.gixobj_files.specs.State.{EditorFiles, open_bases, open_dirs};
 ghost use Rattle.gixobj_files.specs.Tables.{AgreesWithPairs};
 ghost use Rattle.gixobj_keeping.specs.Keeping.{with_trees};
 ghost use Rattle.gixobj_runs.specs.Replies.{IsCallable};
@@ -72,8 +73,9 @@ impl<E> From<OutOfMemory> for ImportError<E> {
 /// Does the edits, writes, and has the store keep what went out, which is answered: the id of the root, and each tree with
 /// its id. There is an answer only where each edit came through; else the first that was refused is told.
 ///
-/// In each table that agrees with the store and with what went out, the tree that is named has, to every depth, exactly the
-/// files that the edits make of the editor's. The editor goes on with these files.
+/// In each table that agrees with the store and with what went out, and has what the open directories were opened with, the
+/// tree that is named has, to every depth, exactly the files that the edits make of the editor's. The editor goes on with
+/// these files, and its root alone is open then.
 pub fn import_files<S: Keep, E: Drop, F: Fn(&Tree) -> Result<ObjectId, E> + Drop>(
     alloc: Global,
     editor: &mut Editor<S>,
@@ -81,9 +83,10 @@ pub fn import_files<S: Keep, E: Drop, F: Fn(&Tree) -> Result<ObjectId, E> + Drop
     out: F,
 ) -> Result<Written, ImportError<E>>
     requires callable { IsCallable F.pre out }
-    ensures root { IfOk result (λ written. (T : Table) (n : ℕ) → AgreesWithObjects T (S.objects editor.old.store) → AgreesWithPairs T written.trees.items
+    ensures root { IfOk result (λ written. (T : Table) (n : ℕ) → AgreesWithObjects T (S.objects editor.old.store) → AgreesWithPairs T written.trees.items → HasBases T (open_dirs editor.old) (open_bases editor.old)
         → SameFiles (NamedFiles T n written.id) (History T n (import_steps edits.items) (EditorFiles T n editor.old))) }
     ensures goes_on { IfOk result (λ written. (T : Table) (n : ℕ) → AgreesWithPairs T written.trees.items → SameFiles (EditorFiles T n editor.new) (NamedFiles T n written.id)) }
+    ensures has_bases { IfOk result (λ written. (T : Table) → HasBases T (open_dirs editor.new) (open_bases editor.new)) }
     ensures kept { IfOk result (λ written. S.objects editor.new.store ≡ with_trees written.trees.items (S.objects editor.old.store)) }
     // Each edit came through, and then the write; or else it is told which call didn't, and why.
     ensures done { IfOk result (λ written. IsWriteBehind (record { objects = S.objects; may_fail = S.may_fail }) (λ tree answer. FnReturnsAt F.Fn out tree answer) editor.old edits.items (EditReply.Written written) editor.new) }

@@ -1,6 +1,6 @@
 -- What one entry hands out, what a walk hands out, and where it stops.
 use mathlib.Core.Bool.{true≢false}
-use Rattle.std.proofs.Common.{◌≡◌, ◌≢◌, ◌∙◌, ◌≤◌, ◌<◌, ◌+◌, ℕ, suc, zero, max, Bool, true, false, cond, List, [], ◌∷◌, ◌++◌, Some, None, length, get_or, drop, Ok, Err, Result, refl, sym, ap, subst, arith, append_assoc, append-nil, add-one, drop-cons}
+use Rattle.std.proofs.Common.{◌≡◌, ◌≢◌, ◌⊎◌, inl, inr, ⊎_elim, ◌∙◌, ◌≤◌, ◌<◌, ◌+◌, ℕ, suc, zero, max, min, Bool, true, false, cond, List, [], ◌∷◌, ◌++◌, Option, Some, None, length, get_or, drop, Ok, Err, Result, refl, sym, ap, subst, arith, append_assoc, append-nil, add-one, drop-cons}
 use Rattle.std.specs.Prelude.{◌==◌, ◌&&◌, IfErr, IsFalse}
 use Rattle.std.specs.List.{AllByRecursion, FoldsTo, position}
 use Rattle.std.specs.Result.{IsErrAnd}
@@ -12,35 +12,71 @@ use Rattle.gixobj_ids.specs.declared.hash.object_id.ObjectId.{ObjectId}
 use denote.Ref.{Bor}
 use Rattle.gixobj_directories.specs.Calls.{IsCallableOnTrees, IsStorable}
 use Rattle.gixobj_files.specs.Editing.{same_name}
+use Rattle.gixobj_files.specs.Edits.{raised}
 use Rattle.gixobj_files.specs.Files.{Path, is_null}
 use Rattle.gixobj_directories.specs.Handing.{Stopped, Visits}
 use Rattle.gixobj_ids.specs.declared.hash.object_id.ObjectId.TheVariants.{Sha1}
-use Rattle.gixobj_files.specs.HandingOut.{HandsOut, Leaves, Walks, emptied, end, entry_with, leaves, shut, written}
+use Rattle.gixobj_files.specs.HandingOut.{HandsOutSome, Leaves, Walks, emptied, end, entry_with, leaves, shut, unchanged, written}
 use Rattle.gixobj_files.specs.Tables.{Pair}
-use Rattle.gixobj_directories.specs.Nested.{Opened, dirs_of, in_part, parts}
+use Rattle.gixobj_directories.specs.Nested.{Opened, base_side, bases_in, bases_of, dirs_of, in_part, parts}
 use Rattle.gixobj_directories.specs.declared.open.Child.{Child}
 use Rattle.gixobj_files.specs.Opening.{Dirs, in_dir}
 use Rattle.gixobj_directories.specs.declared.write.WriteError.{WriteError}
 use Rattle.gixobj_directories.specs.declared.write.WriteError.TheVariants as write
 use Rattle.gixobj_files.proofs.Sublists.{all_weaker}
-use Rattle.gixobj_directories.proofs.Levels.{called, found, not_found, tied, tied_name}
+use Rattle.gixobj_directories.proofs.Levels.{called, found, found_by, not_found, tied, tied_name}
+use Rattle.gixobj_directories.proofs.SameTrees.{same_or_other}
 
-pub visit_shut : (inside : Dirs) (e : EntryView) → inside [] ≡ None → Visits inside e [] (entry_with e e.id)
-visit_shut inside e none = λ dirs is entries below own walk. shut dirs e entries below own (ap (λ (d : Dirs). d []) is ∙ none) walk
+-- so many by another count
+pub counts : {dirs bases : Dirs} {entries : List EntryView} {below : List Pair} {own : List EntryView} (m n : ℕ) → m ≡ n → Walks dirs bases entries below own m → Walks dirs bases entries below own n
+counts {dirs} {bases} {entries} {below} {own} m n is walk = subst (Walks dirs bases entries below own) is walk
 
-pub visit_emptied : (inside : Dirs) (e : EntryView) (inner : List Pair) (own : List EntryView) → own ≡ [] → Leaves inside inner own → Visits inside e inner []
-visit_emptied inside e inner [] is found = λ dirs same entries below own walk. emptied dirs e entries inner below own (subst (λ (d : Dirs). Leaves d inner []) (sym same) found) walk
-visit_emptied inside e inner (x ∷ xs) is found = absurd (cc is)
+-- so many more, and then so many more
+raised_on : (n first then : ℕ) → raised (raised n first) then ≡ raised n (first + then)
+raised_on n zero then = let is : then ≡ 0 + then = omega arith in ap (λ k. raised n k) is
+raised_on n (suc first) then =
+    let is : suc (first + then) ≡ suc first + then = omega arith in
+    raised_on (min (n + 1) 18446744073709551615) first then ∙ ap (λ k. raised n k) is
 
-pub visit_written : (inside : Dirs) (e : EntryView) (inner : List Pair) (tree : List EntryView) (id : ObjectId) → tree ≢ [] → Leaves inside inner tree → Visits inside e (inner ++ (id, tree) ∷ []) (entry_with e id)
-visit_written inside e inner [] id filled found = absurd (filled refl)
-visit_written inside e inner (first ∷ rest) id filled found =
-    λ dirs same entries below own walk. rw append_assoc (written dirs e first entries rest inner below own id (subst (λ (d : Dirs). Leaves d inner (first ∷ rest)) (sym same) found) walk)
+pub raised_then : (old between new first then : ℕ) → between ≡ raised old first → new ≡ raised between then → new ≡ raised old (first + then)
+raised_then old between new first then before after = after ∙ ap (λ n. raised n then) before ∙ raised_on old first then
+
+pub visit_shut : (inside based : Dirs) (e : EntryView) → inside [] ≡ None → Visits inside based e [] (entry_with e e.id) 0
+visit_shut inside based e none = λ dirs bases is b entries below own more walk. counts more (0 + more) (omega arith) (shut dirs bases e entries below own more (ap (λ (d : Dirs). d []) is ∙ none) walk)
+
+-- what a directory hands out, where the same is open with the same bases
+pub in_both : (dirs bases dirs' bases' : Dirs) → dirs ≡ dirs' → bases ≡ bases' → (ps : List Pair) (own : List EntryView) (n : ℕ) → Leaves dirs bases ps own n → Leaves dirs' bases' ps own n
+in_both dirs bases dirs' bases' is b ps own n found = subst (λ (d : Dirs). Leaves d bases' ps own n) is (subst (λ (d : Dirs). Leaves dirs d ps own n) b found)
+
+-- an open directory, by what is open in it
+in_it : (inside based : Dirs) (dirs bases : Dirs) (name : List ℕ) → in_dir name dirs ≡ inside → in_dir name bases ≡ based → (inner : List Pair) (own : List EntryView) (saved : ℕ) → Leaves inside based inner own saved → Leaves (in_dir name dirs) (in_dir name bases) inner own saved
+in_it inside based dirs bases name is b inner own saved found = subst (λ (d : Dirs). Leaves d (in_dir name bases) inner own saved) (sym is) (subst (λ (d : Dirs). Leaves inside d inner own saved) (sym b) found)
+
+pub visit_emptied : (inside based : Dirs) (e : EntryView) (inner : List Pair) (own : List EntryView) (saved : ℕ) → own ≡ [] → Leaves inside based inner own saved → Visits inside based e inner [] saved
+visit_emptied inside based e inner [] saved is found = λ dirs bases same b entries below own more walk. emptied dirs bases e entries inner below own saved more (in_it inside based dirs bases e.name same b inner [] saved found) walk
+visit_emptied inside based e inner (x ∷ xs) saved is found = absurd (cc is)
+
+pub visit_written : (inside based : Dirs) (e : EntryView) (inner : List Pair) (tree : List EntryView) (saved : ℕ) (id : ObjectId) → tree ≢ [] → based [] ≢ Some tree → Leaves inside based inner tree saved → Visits inside based e (inner ++ (id, tree) ∷ []) (entry_with e id) saved
+visit_written inside based e inner [] saved id filled changed found = absurd (filled refl)
+visit_written inside based e inner (first ∷ rest) saved id filled changed found =
+    λ dirs bases same b entries below own more walk. rw append_assoc (written dirs bases e first entries rest inner below own saved more id (in_it inside based dirs bases e.name same b inner (first ∷ rest) saved found) (λ is. changed (sym (ap (λ (d : Dirs). d []) b) ∙ is)) walk)
+
+pub visit_unchanged : (inside based : Dirs) (e : EntryView) (inner : List Pair) (tree : List EntryView) (saved : ℕ) → tree ≢ [] → based [] ≡ Some tree → Leaves inside based inner tree saved → Visits inside based e inner (entry_with e e.id) (saved + 1)
+visit_unchanged inside based e inner [] saved filled is found = absurd (filled refl)
+visit_unchanged inside based e inner (first ∷ rest) saved filled is found =
+    λ dirs bases same b entries below own more walk. unchanged dirs bases e first entries rest inner below own saved more (in_it inside based dirs bases e.name same b inner (first ∷ rest) saved found) (ap (λ (d : Dirs). d []) b ∙ is) walk
+
+-- the base is a tree, or not
+base_is : (o : Option (List EntryView)) (tree : List EntryView) → (o ≡ Some tree) ⊎ (o ≢ Some tree)
+base_is None tree = inr (λ is. cc is)
+base_is (Some base) tree = ⊎_elim (λ same. inl (ap Some same)) (λ other. inr (λ is. other (cc is))) (same_or_other base tree)
 
 -- whatever a directory hands out, its entry hands out that and perhaps the directory
-pub visit_open : (inside : Dirs) (e : EntryView) (inner : List Pair) (own : List EntryView) → Leaves inside inner own → (more : List Pair) × (kept : List EntryView) × Visits inside e (inner ++ more) kept
-visit_open inside e inner [] found = ([], [], rw append-nil (visit_emptied inside e inner [] refl found))
-visit_open inside e inner (first ∷ rest) found = ((e.id, first ∷ rest) ∷ [], entry_with e e.id, visit_written inside e inner (first ∷ rest) e.id (λ q. cc q) found)
+pub visit_open : (inside based : Dirs) (e : EntryView) (inner : List Pair) (own : List EntryView) (saved : ℕ) → Leaves inside based inner own saved → (more : List Pair) × (kept : List EntryView) × (count : ℕ) × Visits inside based e (inner ++ more) kept count
+visit_open inside based e inner [] saved found = ([], [], saved, rw append-nil (visit_emptied inside based e inner [] saved refl found))
+visit_open inside based e inner (first ∷ rest) saved found =
+    ⊎_elim (λ same. ([], entry_with e e.id, saved + 1, rw append-nil (visit_unchanged inside based e inner (first ∷ rest) saved (λ q. cc q) same found)))
+    (λ other. ((e.id, first ∷ rest) ∷ [], entry_with e e.id, saved, visit_written inside based e inner (first ∷ rest) saved e.id (λ q. cc q) other found)) (base_is (based []) (first ∷ rest))
 
 pub is_empty_list : {X : Type 0} (xs : List X) → true ≡ (length xs == 0) → xs ≡ []
 is_empty_list [] h = refl
@@ -89,18 +125,18 @@ pub stopped_here : {F E : Type 0} (gave : F → Pair → F → Type 0) (refused 
 stopped_here {F} {E} gave refused Q old new ps rest calls goes error is = subst (Stopped gave refused Q old new) (sym is) (ps, rest, calls, goes)
 
 -- every directory whose paths are of bounded length hands out some list
-pub some_walk : (n : ℕ) (dirs : Dirs) → ((path : Path) → n ≤ length path → dirs path ≡ None) → (entries : List EntryView) → (below : List Pair) × (own : List EntryView) × Walks dirs entries below own
-some_walk n dirs bound [] = ([], [], end dirs)
-some_walk zero dirs bound (e ∷ entries) =
-    let rest = some_walk zero dirs bound entries in
-    (rest.0, entry_with e e.id ++ rest.1, shut dirs e entries rest.0 rest.1 (bound (e.name ∷ []) (omega arith)) rest.2)
-some_walk (suc n) dirs bound (e ∷ entries) =
-    let rest = some_walk (suc n) dirs bound entries in
-    elim (dirs (e.name ∷ [])) as (λ o. dirs (e.name ∷ []) ≡ o → (below : List Pair) × (own : List EntryView) × Walks dirs (e ∷ entries) below own) [
-      | None ↦ λ is. (rest.0, entry_with e e.id ++ rest.1, shut dirs e entries rest.0 rest.1 is rest.2)
-      | Some es ↦ λ is. let inner = some_walk n (in_dir e.name dirs) (λ path long. bound (e.name ∷ path) (omega (arith, long))) es in
-          let seen = visit_open (in_dir e.name dirs) e inner.0 inner.1 (leaves (in_dir e.name dirs) es inner.0 inner.1 is inner.2) in
-          ((inner.0 ++ seen.0) ++ rest.0, seen.1 ++ rest.1, seen.2 dirs refl entries rest.0 rest.1 rest.2)
+pub some_walk : (n : ℕ) (dirs bases : Dirs) → ((path : Path) → n ≤ length path → dirs path ≡ None) → (entries : List EntryView) → (below : List Pair) × (own : List EntryView) × (saved : ℕ) × Walks dirs bases entries below own saved
+some_walk n dirs bases bound [] = ([], [], 0, end dirs bases)
+some_walk zero dirs bases bound (e ∷ entries) =
+    let rest = some_walk zero dirs bases bound entries in
+    (rest.0, entry_with e e.id ++ rest.1, rest.2, shut dirs bases e entries rest.0 rest.1 rest.2 (bound (e.name ∷ []) (omega arith)) rest.3)
+some_walk (suc n) dirs bases bound (e ∷ entries) =
+    let rest = some_walk (suc n) dirs bases bound entries in
+    elim (dirs (e.name ∷ [])) as (λ o. dirs (e.name ∷ []) ≡ o → (below : List Pair) × (own : List EntryView) × (saved : ℕ) × Walks dirs bases (e ∷ entries) below own saved) [
+      | None ↦ λ is. (rest.0, entry_with e e.id ++ rest.1, rest.2, shut dirs bases e entries rest.0 rest.1 rest.2 is rest.3)
+      | Some es ↦ λ is. let inner = some_walk n (in_dir e.name dirs) (in_dir e.name bases) (λ path long. bound (e.name ∷ path) (omega (arith, long))) es in
+          let seen = visit_open (in_dir e.name dirs) (in_dir e.name bases) e inner.0 inner.1 inner.2 (leaves (in_dir e.name dirs) (in_dir e.name bases) es inner.0 inner.1 inner.2 is inner.3) in
+          ((inner.0 ++ seen.0) ++ rest.0, seen.1 ++ rest.1, seen.2 + rest.2, seen.3 dirs bases refl refl entries rest.0 rest.1 rest.2 rest.3)
     ] refl
 
 -- the paths of a list are of bounded length
@@ -122,56 +158,59 @@ pub long_shut : (ds : Opened) (path : Path) → longest ds ≤ length path → d
 unfolding longest
 long_shut [] path h = refl
 long_shut (d ∷ ds) path h =
-    elim (tied path d.0) as (λ b. tied path d.0 ≡ b → cond b (Some d.1) (dirs_of ds path) ≡ None) [
+    elim (tied path d.0) as (λ b. tied path d.0 ≡ b → cond b (Some d.1.0) (dirs_of ds path) ≡ None) [
       | true ↦ λ is. let same : length path ≡ length d.0 = tied_length path d.0 is in absurd (omega (arith, same, h))
       | false ↦ λ is. long_shut ds path (omega (arith, h))
     ] refl
 
-pub walk_on : (ds : Opened) (entries : List EntryView) → (below : List Pair) × (own : List EntryView) × Walks (dirs_of ds) entries below own
-walk_on ds entries = some_walk (longest ds) (dirs_of ds) (long_shut ds) entries
+pub walk_on : (ds : Opened) (entries : List EntryView) → (below : List Pair) × (own : List EntryView) × (saved : ℕ) × Walks (dirs_of ds) (bases_of ds) entries below own saved
+walk_on ds entries = some_walk (longest ds) (dirs_of ds) (bases_of ds) (long_shut ds) entries
 
 -- an entry that is kept, if its id isn't null
 kept_all : (P : EntryView → Type 0) (e : EntryView) (id : ObjectId) (os : List EntryView) → P (record { mode = e.mode; name = e.name; id = id }) → AllByRecursion P os → AllByRecursion P (entry_with e id ++ os)
 kept_all P e id os h k = elim (is_null id) as (λ b. AllByRecursion P (cond b [] ((record { mode = e.mode; name = e.name; id = id }) ∷ []) ++ os)) [ true ↦ k | false ↦ (h, k) ]
 
 -- what is kept is of the same names and modes, in the same order
-walk_all : (P : EntryView → Type 0) → ((e : EntryView) (id : ObjectId) → P e → P (record { mode = e.mode; name = e.name; id = id })) → (dirs : Dirs) (entries : List EntryView) (below : List Pair) (own : List EntryView)
-    → Walks dirs entries below own → AllByRecursion P entries → AllByRecursion P own
-walk_all P same dirs entries below own (end dirs') h = tt
-walk_all P same dirs entries below own (shut dirs' e es ps os none walk) h = kept_all P e e.id os (same e e.id h.0) (walk_all P same dirs' es ps os walk h.1)
-walk_all P same dirs entries below own (emptied dirs' e es inner ps os found walk) h = walk_all P same dirs' es ps os walk h.1
-walk_all P same dirs entries below own (written dirs' e first es rest inner ps os id found walk) h = kept_all P e id os (same e id h.0) (walk_all P same dirs' es ps os walk h.1)
+walk_all : (P : EntryView → Type 0) → ((e : EntryView) (id : ObjectId) → P e → P (record { mode = e.mode; name = e.name; id = id })) → (dirs bases : Dirs) (entries : List EntryView) (below : List Pair) (own : List EntryView) (n : ℕ)
+    → Walks dirs bases entries below own n → AllByRecursion P entries → AllByRecursion P own
+walk_all P same dirs bases entries below own n (end dirs' b') h = tt
+walk_all P same dirs bases entries below own n (shut dirs' b' e es ps os m none walk) h = kept_all P e e.id os (same e e.id h.0) (walk_all P same dirs' b' es ps os m walk h.1)
+walk_all P same dirs bases entries below own n (emptied dirs' b' e es inner ps os i m found walk) h = walk_all P same dirs' b' es ps os m walk h.1
+walk_all P same dirs bases entries below own n (written dirs' b' e first es rest inner ps os i m id found changed walk) h = kept_all P e id os (same e id h.0) (walk_all P same dirs' b' es ps os m walk h.1)
+walk_all P same dirs bases entries below own n (unchanged dirs' b' e first es rest inner ps os i m found same_base walk) h = kept_all P e e.id os (same e e.id h.0) (walk_all P same dirs' b' es ps os m walk h.1)
 
 kept_later : (R : EntryView → EntryView → Type 0) (e : EntryView) (id : ObjectId) (os : List EntryView) → AllByRecursion (R (record { mode = e.mode; name = e.name; id = id })) os → EachLater R os → EachLater R (entry_with e id ++ os)
 kept_later R e id os h k = elim (is_null id) as (λ b. EachLater R (cond b [] ((record { mode = e.mode; name = e.name; id = id }) ∷ []) ++ os)) [ true ↦ k | false ↦ (h, k) ]
 
 module _ (R : EntryView → EntryView → Type 0) (left : (e y : EntryView) (id : ObjectId) → R e y → R (record { mode = e.mode; name = e.name; id = id }) y) (right : (x e : EntryView) (id : ObjectId) → R x e → R x (record { mode = e.mode; name = e.name; id = id })) where
-  later_kept_as : (dirs : Dirs) (e : EntryView) (id : ObjectId) (es : List EntryView) (ps : List Pair) (os : List EntryView) → Walks dirs es ps os → AllByRecursion (R e) es → AllByRecursion (R (record { mode = e.mode; name = e.name; id = id })) os
-  later_kept_as dirs e id es ps os walk h = all_weaker (R e) (R (record { mode = e.mode; name = e.name; id = id })) (λ y r. left e y id r) os (walk_all (R e) (λ y other r. right e y other r) dirs es ps os walk h)
+  later_kept_as : (dirs bases : Dirs) (e : EntryView) (id : ObjectId) (es : List EntryView) (ps : List Pair) (os : List EntryView) (n : ℕ) → Walks dirs bases es ps os n → AllByRecursion (R e) es → AllByRecursion (R (record { mode = e.mode; name = e.name; id = id })) os
+  later_kept_as dirs bases e id es ps os n walk h = all_weaker (R e) (R (record { mode = e.mode; name = e.name; id = id })) (λ y r. left e y id r) os (walk_all (R e) (λ y other r. right e y other r) dirs bases es ps os n walk h)
 
-  walk_later : (dirs : Dirs) (entries : List EntryView) (below : List Pair) (own : List EntryView) → Walks dirs entries below own → EachLater R entries → EachLater R own
-  walk_later dirs entries below own (end dirs') h = tt
-  walk_later dirs entries below own (shut dirs' e es ps os none walk) h = kept_later R e e.id os (later_kept_as dirs' e e.id es ps os walk h.0) (walk_later dirs' es ps os walk h.1)
-  walk_later dirs entries below own (emptied dirs' e es inner ps os found walk) h = walk_later dirs' es ps os walk h.1
-  walk_later dirs entries below own (written dirs' e first es rest inner ps os id found walk) h = kept_later R e id os (later_kept_as dirs' e id es ps os walk h.0) (walk_later dirs' es ps os walk h.1)
+  walk_later : (dirs bases : Dirs) (entries : List EntryView) (below : List Pair) (own : List EntryView) (n : ℕ) → Walks dirs bases entries below own n → EachLater R entries → EachLater R own
+  walk_later dirs bases entries below own n (end dirs' b') h = tt
+  walk_later dirs bases entries below own n (shut dirs' b' e es ps os m none walk) h = kept_later R e e.id os (later_kept_as dirs' b' e e.id es ps os m walk h.0) (walk_later dirs' b' es ps os m walk h.1)
+  walk_later dirs bases entries below own n (emptied dirs' b' e es inner ps os i m found walk) h = walk_later dirs' b' es ps os m walk h.1
+  walk_later dirs bases entries below own n (written dirs' b' e first es rest inner ps os i m id found changed walk) h = kept_later R e id os (later_kept_as dirs' b' e id es ps os m walk h.0) (walk_later dirs' b' es ps os m walk h.1)
+  walk_later dirs bases entries below own n (unchanged dirs' b' e first es rest inner ps os i m found same_base walk) h = kept_later R e e.id os (later_kept_as dirs' b' e e.id es ps os m walk h.0) (walk_later dirs' b' es ps os m walk h.1)
 
 kept_filled : (e : EntryView) (id : ObjectId) (os : List EntryView) → AllByRecursion (λ x. IsFalse (is_null x.id)) os → AllByRecursion (λ x. IsFalse (is_null x.id)) (entry_with e id ++ os)
 kept_filled e id os k = elim (is_null id) as (λ b. is_null id ≡ b → AllByRecursion (λ x. IsFalse (is_null x.id)) (cond b [] ((record { mode = e.mode; name = e.name; id = id }) ∷ []) ++ os)) [ true ↦ λ is. k | false ↦ λ is. (is, k) ] refl
 
-walk_filled : (dirs : Dirs) (entries : List EntryView) (below : List Pair) (own : List EntryView) → Walks dirs entries below own → AllByRecursion (λ x. IsFalse (is_null x.id)) own
-walk_filled dirs entries below own (end dirs') = tt
-walk_filled dirs entries below own (shut dirs' e es ps os none walk) = kept_filled e e.id os (walk_filled dirs' es ps os walk)
-walk_filled dirs entries below own (emptied dirs' e es inner ps os found walk) = walk_filled dirs' es ps os walk
-walk_filled dirs entries below own (written dirs' e first es rest inner ps os id found walk) = kept_filled e id os (walk_filled dirs' es ps os walk)
+walk_filled : (dirs bases : Dirs) (entries : List EntryView) (below : List Pair) (own : List EntryView) (n : ℕ) → Walks dirs bases entries below own n → AllByRecursion (λ x. IsFalse (is_null x.id)) own
+walk_filled dirs bases entries below own n (end dirs' b') = tt
+walk_filled dirs bases entries below own n (shut dirs' b' e es ps os m none walk) = kept_filled e e.id os (walk_filled dirs' b' es ps os m walk)
+walk_filled dirs bases entries below own n (emptied dirs' b' e es inner ps os i m found walk) = walk_filled dirs' b' es ps os m walk
+walk_filled dirs bases entries below own n (written dirs' b' e first es rest inner ps os i m id found changed walk) = kept_filled e id os (walk_filled dirs' b' es ps os m walk)
+walk_filled dirs bases entries below own n (unchanged dirs' b' e first es rest inner ps os i m found same_base walk) = kept_filled e e.id os (walk_filled dirs' b' es ps os m walk)
 
-pub walk_storable : (dirs : Dirs) (entries : List EntryView) (below : List Pair) (own : List EntryView) → Walks dirs entries below own → IsWellFormed entries → IsStorable own
-walk_storable dirs entries below own walk formed = record {
+pub walk_storable : (dirs bases : Dirs) (entries : List EntryView) (below : List Pair) (own : List EntryView) (n : ℕ) → Walks dirs bases entries below own n → IsWellFormed entries → IsStorable own
+walk_storable dirs bases entries below own n walk formed = record {
   well_formed = record {
-    names = walk_all (λ e. IsEntryName e.name) (λ e id h. h) dirs entries below own walk formed.names;
-    apart = walk_later (λ x y. x.name ≢ y.name) (λ e y id h. h) (λ x e id h. h) dirs entries below own walk formed.apart;
-    ascending = walk_later ComesBefore (λ e y id h. h) (λ x e id h. h) dirs entries below own walk formed.ascending;
+    names = walk_all (λ e. IsEntryName e.name) (λ e id h. h) dirs bases entries below own n walk formed.names;
+    apart = walk_later (λ x y. x.name ≢ y.name) (λ e y id h. h) (λ x e id h. h) dirs bases entries below own n walk formed.apart;
+    ascending = walk_later ComesBefore (λ e y id h. h) (λ x e id h. h) dirs bases entries below own n walk formed.ascending;
   };
-  no_nulls = All-from_recursion (λ (e : EntryView). IsFalse (is_null e.id)) own (walk_filled dirs entries below own walk);
+  no_nulls = All-from_recursion (λ (e : EntryView). IsFalse (is_null e.id)) own (walk_filled dirs bases entries below own n walk);
 }
 
 -- an error that a `?` hands on
@@ -188,28 +227,37 @@ some_inside name own cs i child same at is =
     let there : in_part name (parts cs) ≡ dirs_of child.open = λ j path. found name cs cs i child refl at is path j in
     sym there ∙ ap (λ n. in_part n (parts cs)) same
 
--- one entry more
-module _ (dirs inside : Dirs) (items : List EntryView) (i : ℕ) (e : EntryView) (ps inner : List Pair) (acc kept : List EntryView) (low : i < length items) (is : e ≡ get_or items i e) (same : in_dir e.name dirs ≡ inside) (seen : Visits inside e inner kept)
-    (so_far : (qs : List Pair) (own : List EntryView) → Walks dirs (drop i items) qs own → Walks dirs items (ps ++ qs) (acc ++ own)) where
-  pub walk_goes : (qs : List Pair) (own : List EntryView) → Walks dirs (drop (i + 1) items) qs own → Walks dirs items (ps ++ (inner ++ qs)) (acc ++ (kept ++ own))
-  walk_goes qs own walk =
-      let here : drop i items ≡ e ∷ drop (i + 1) items = rw add-one (drop-cons items i e low ∙ ap (λ x. x ∷ drop (suc i) items) (sym is)) in
-      so_far (inner ++ qs) (kept ++ own) (subst (λ es. Walks dirs es (inner ++ qs) (kept ++ own)) (sym here) (seen dirs same (drop (i + 1) items) qs own walk))
+pub some_based : (name own : List ℕ) (cs : List Child) (i : ℕ) (child : Child) → name ≡ own → Some i ≡ position (called name) cs → child ≡ get_or cs i child → bases_of child.open ≡ bases_in own (parts cs)
+some_based name own cs i child same at is =
+    let there : bases_in name (parts cs) ≡ bases_of child.open = λ j path. found_by base_side name cs cs i child refl at is path j in
+    sym there ∙ ap (λ n. bases_in n (parts cs)) same
 
-  pub walk_step : (next : List EntryView) → next ≡ acc ++ kept → (qs : List Pair) (own : List EntryView) → Walks dirs (drop (i + 1) items) qs own → Walks dirs items ((ps ++ inner) ++ qs) (next ++ own)
-  walk_step next is_next qs own walk = rw (is_next, append_assoc, append_assoc) (walk_goes qs own walk)
+-- one entry more
+module _ (dirs bases inside based : Dirs) (items : List EntryView) (i : ℕ) (e : EntryView) (ps inner : List Pair) (acc kept : List EntryView) (count saved : ℕ) (low : i < length items) (is : e ≡ get_or items i e)
+    (same : in_dir e.name dirs ≡ inside) (base : in_dir e.name bases ≡ based) (seen : Visits inside based e inner kept saved)
+    (so_far : (qs : List Pair) (own : List EntryView) (n : ℕ) → Walks dirs bases (drop i items) qs own n → Walks dirs bases items (ps ++ qs) (acc ++ own) (count + n)) where
+  pub walk_goes : (qs : List Pair) (own : List EntryView) (n : ℕ) → Walks dirs bases (drop (i + 1) items) qs own n → Walks dirs bases items (ps ++ (inner ++ qs)) (acc ++ (kept ++ own)) (count + (saved + n))
+  walk_goes qs own n walk =
+      let here : drop i items ≡ e ∷ drop (i + 1) items = rw add-one (drop-cons items i e low ∙ ap (λ x. x ∷ drop (suc i) items) (sym is)) in
+      so_far (inner ++ qs) (kept ++ own) (saved + n) (subst (λ es. Walks dirs bases es (inner ++ qs) (kept ++ own) (saved + n)) (sym here) (seen dirs bases same base (drop (i + 1) items) qs own n walk))
+
+  pub walk_step : (next : List EntryView) → next ≡ acc ++ kept → (qs : List Pair) (own : List EntryView) (n : ℕ) → Walks dirs bases (drop (i + 1) items) qs own n → Walks dirs bases items ((ps ++ inner) ++ qs) (next ++ own) (count + saved + n)
+  walk_step next is_next qs own n walk = counts (count + (saved + n)) (count + saved + n) (omega arith) (rw (is_next, append_assoc, append_assoc) (walk_goes qs own n walk))
 
 -- the end of a walk
-pub walk_ends : (dirs : Dirs) (items : List EntryView) (i : ℕ) (ps : List Pair) (acc : List EntryView) → length items ≤ i → ((qs : List Pair) (own : List EntryView) → Walks dirs (drop i items) qs own → Walks dirs items (ps ++ qs) (acc ++ own)) → Walks dirs items ps acc
-walk_ends dirs items i ps acc high so_far =
+pub walk_ends : (dirs bases : Dirs) (items : List EntryView) (i : ℕ) (ps : List Pair) (acc : List EntryView) (count : ℕ) → length items ≤ i
+    → ((qs : List Pair) (own : List EntryView) (n : ℕ) → Walks dirs bases (drop i items) qs own n → Walks dirs bases items (ps ++ qs) (acc ++ own) (count + n)) → Walks dirs bases items ps acc count
+walk_ends dirs bases items i ps acc count high so_far =
     let none : drop i items ≡ [] = drop_all i items high in
-    let walk = so_far [] [] (subst (λ es. Walks dirs es [] []) (sym none) (end dirs)) in
-    (rw (append-nil, append-nil) at walk)
+    let walk = so_far [] [] 0 (subst (λ es. Walks dirs bases es [] [] 0) (sym none) (end dirs bases)) in
+    counts (count + 0) count (omega arith) (rw (append-nil, append-nil) at walk)
 
 -- whatever a directory hands out below it, it hands out that and itself
-pub hands_more : (dirs : Dirs) (below : List Pair) (own : List EntryView) → Leaves dirs below own → (more : List Pair) × HandsOut dirs (below ++ more)
-hands_more dirs below own found = ((Sha1 [], own) ∷ [], (below, Sha1 [], own, found, refl))
+pub hands_more : (dirs bases : Dirs) (below : List Pair) (own : List EntryView) (saved : ℕ) → Leaves dirs bases below own saved → (more : List Pair) × HandsOutSome dirs bases (below ++ more)
+hands_more dirs bases below own saved found = ((Sha1 [], own) ∷ [], (saved, below, Sha1 [], own, found, refl))
 
 -- a stop, where the same is open
-pub stopped_same : {F E : Type 0} (gave : F → Pair → F → Type 0) (refused : F → List EntryView → E → F → Type 0) (dirs dirs' : Dirs) → dirs ≡ dirs' → (old new : F) (error : WriteError E) → Stopped gave refused (HandsOut dirs) old new error → Stopped gave refused (HandsOut dirs') old new error
-stopped_same gave refused dirs dirs' same old new error stopped = subst (λ (d : Dirs). Stopped gave refused (HandsOut d) old new error) same stopped
+pub stopped_same : {F E : Type 0} (gave : F → Pair → F → Type 0) (refused : F → List EntryView → E → F → Type 0) (dirs dirs' bases bases' : Dirs) → dirs ≡ dirs' → bases ≡ bases' → (old new : F) (error : WriteError E)
+    → Stopped gave refused (HandsOutSome dirs bases) old new error → Stopped gave refused (HandsOutSome dirs' bases') old new error
+stopped_same gave refused dirs dirs' bases bases' same same_bases old new error stopped =
+    subst (λ (b : Dirs). Stopped gave refused (HandsOutSome dirs' b) old new error) same_bases (subst (λ (d : Dirs). Stopped gave refused (HandsOutSome d bases) old new error) same stopped)

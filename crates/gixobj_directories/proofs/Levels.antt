@@ -13,7 +13,7 @@ use Rattle.gixobj_ids.specs.declared.hash.object_id.ObjectId.{ObjectId}
 use Rattle.gixobj_files.specs.Editing.{has_tree, same_name, with_entry, without}
 use Rattle.gixobj_files.specs.Edits.{with_directory}
 use Rattle.gixobj_files.specs.Files.{Path}
-use Rattle.gixobj_directories.specs.Nested.{IsLevel, Opened, Part, below, dirs_of, in_part, opened, other_parts, part, parts, under}
+use Rattle.gixobj_directories.specs.Nested.{IsLevel, Level, Opened, Part, at_side, base_side, bases_in, bases_of, below, dirs_of, entries_side, in_part, opened, other_parts, part, part_at, parts, under}
 use Rattle.gixobj_files.specs.Opening.{Dirs}
 use Rattle.gixobj_directories.specs.declared.open.Child.{Child}
 use Rattle.gixobj_files.proofs.Formed.{well_formed_with, well_formed_without}
@@ -28,39 +28,6 @@ tied = eq_by_cmp (slice_cmp (slice_cmp nat_cmp))
 pub tied_name : (x y : List ℕ) (p q : Path) → tied (x ∷ p) (y ∷ q) ≡ same_name x y && tied p q
 tied_name x y p q = sym (tied_then (slice_cmp nat_cmp x y) (slice_cmp (slice_cmp nat_cmp) p q)) ∙ ap (λ b. b && tied p q) (sym (texts_ties x y))
 
-in_under : (name : List ℕ) (ds rest : Opened) (path : Path) → dirs_of rest (name ∷ path) ≡ None → dirs_of (under name ds ++ rest) (name ∷ path) ≡ dirs_of ds path
-in_under name [] rest path none = none
-in_under name (d ∷ ds) rest path none =
-    rw (tied_name name name path d.0, name_itself name) (ap (λ r. cond (tied path d.0) (Some d.1) r) (in_under name ds rest path none))
-
-out_of_under : (name other : List ℕ) (ds rest : Opened) (path : Path) → other ≢ name → dirs_of (under name ds ++ rest) (other ∷ path) ≡ dirs_of rest (other ∷ path)
-out_of_under name other [] rest path differ = refl
-out_of_under name other (d ∷ ds) rest path differ = rw (tied_name other name path d.0, name_other other name differ) (out_of_under name other ds rest path differ)
-
-none_below : (name : List ℕ) (ps : List Part) (path : Path) → AllByRecursion (λ p. name ≢ p.0) ps → dirs_of (below ps) (name ∷ path) ≡ None
-none_below name [] path differ = refl
-none_below name (p ∷ ps) path differ = out_of_under p.0 name p.1 (below ps) path differ.0 ∙ none_below name ps path differ.1
-
-below_name : (name : List ℕ) (ps : List Part) (path : Path) → EachLater (λ x y. x.0 ≢ y.0) ps → dirs_of (below ps) (name ∷ path) ≡ in_part name ps path
-below_name name [] path apart = refl
-below_name name (p ∷ ps) path apart =
-    elim (same_names p.0 name) [
-      | inl same ↦ subst (λ (n : List ℕ). dirs_of (below (p ∷ ps)) (n ∷ path) ≡ in_part n (p ∷ ps) path) same
-          (rw (name_itself p.0) (in_under p.0 p.1 (below ps) path (none_below p.0 ps path apart.0)))
-      | inr differ ↦ rw (name_other p.0 name differ) (out_of_under p.0 name p.1 (below ps) path (λ e. differ (sym e)) ∙ below_name name ps path apart.1)
-    ]
-
-pub at_root : (es : List EntryView) (ps : List Part) → dirs_of (opened es ps) [] ≡ Some es
-at_root es ps = refl
-
--- at and below a name: what is open in its directory
-pub at_name : (es : List EntryView) (ps : List Part) (name : List ℕ) (path : Path) → EachLater (λ x y. x.0 ≢ y.0) ps → dirs_of (opened es ps) (name ∷ path) ≡ in_part name ps path
-at_name es ps name path apart = below_name name ps path apart
-
--- the directory of one name becomes another, or goes; those of other names are as before
-pub record Becomes (name : List ℕ) (next : Dirs) (old new : List Part) : Type 0 where
-  pub says : (first : List ℕ) (path : Path) → in_part first new path ≡ cond (same_name name first) (next path) (in_part first old path)
-
 abbrev pub called : List ℕ → Child → Bool
 called name child = same_name (bstring_bytes child.name) name
 
@@ -71,43 +38,6 @@ chosen false k i e = absurd (cc)
 pub unchosen : (b : Bool) (k : ℕ) → None ≡ cond b (Some k) None → b ≡ false
 unchosen true k e = absurd (cc)
 unchosen false k e = refl
-
-found_first : (name : List ℕ) (cs : List Child) (d : Child) (path : Path) → position_or_len (called name) cs < length cs → in_part name (parts cs) path ≡ dirs_of (get_or cs (position_or_len (called name) cs) d).open path
-found_first name [] d path low = absurd (omega (arith, low))
-found_first name (c ∷ cs) d path low =
-    elim (called name c) as (λ b. cond (not b) (1 + position_or_len (called name) cs) 0 < length (c ∷ cs)
-    → cond b (dirs_of c.open path) (in_part name (parts cs) path) ≡ dirs_of (get_or (c ∷ cs) (cond (not b) (1 + position_or_len (called name) cs) 0) d).open path) [
-      | true ↦ λ l. refl
-      | false ↦ λ l. rw one-add (found_first name cs d path (omega (arith, l)))
-    ] low
-
--- the child at the place that the search gave
-pub found : (name : List ℕ) (cs l : List Child) (i : ℕ) (child : Child) → l ≡ cs → Some i ≡ position (called name) l → child ≡ get_or cs i child → (path : Path) → in_part name (parts cs) path ≡ dirs_of child.open path
-found name cs l i child same found_at is path =
-    let at : Some i ≡ position (called name) cs = subst (λ (m : List Child). Some i ≡ position (called name) m) same found_at in
-    let place : ℕ = position_or_len (called name) cs in
-    let chose = chosen (nat_lt place (length cs)) place i at in
-    found_first name cs child path (ltb-true _ _ chose.0) ∙ ap (λ (c : Child). dirs_of c.open path) (ap (λ k. get_or cs k child) chose.1 ∙ sym is)
-
-none_first : (name : List ℕ) (cs : List Child) (path : Path) → length cs ≤ position_or_len (called name) cs → in_part name (parts cs) path ≡ None
-none_first name [] path high = refl
-none_first name (c ∷ cs) path high =
-    elim (called name c) as (λ b. length (c ∷ cs) ≤ cond (not b) (1 + position_or_len (called name) cs) 0 → cond b (dirs_of c.open path) (in_part name (parts cs) path) ≡ None) [
-      | true ↦ λ l. absurd (omega (arith, l))
-      | false ↦ λ l. none_first name cs path (omega (arith, l))
-    ] high
-
-pub not_found : (name : List ℕ) (cs l : List Child) → l ≡ cs → None ≡ position (called name) l → (path : Path) → in_part name (parts cs) path ≡ None
-not_found name cs l same found_at path =
-    let at : None ≡ position (called name) cs = subst (λ (m : List Child). None ≡ position (called name) m) same found_at in
-    none_first name cs path (ltb-false _ _ (unchosen (nat_lt (position_or_len (called name) cs) (length cs)) _ at))
-
--- the directories of a level, by its list
-pub level_at : (ds : Opened) (es : List EntryView) (ps : List Part) → opened es ps ≡ ds → EachLater (λ x y. x.0 ≢ y.0) ps → (name : List ℕ) (path : Path) → dirs_of ds (name ∷ path) ≡ in_part name ps path
-level_at ds es ps is apart name path = subst (λ (d : Opened). dirs_of d (name ∷ path) ≡ in_part name ps path) is (at_name es ps name path apart)
-
-pub level_root : (ds : Opened) (es : List EntryView) (ps : List Part) → opened es ps ≡ ds → dirs_of ds [] ≡ Some es
-level_root ds es ps is = subst (λ (d : Opened). dirs_of d [] ≡ Some es) is refl
 
 twice : {X : Type 0} (b : Bool) (x y z : X) → cond b x z ≡ cond b x (cond b y z)
 twice true x y z = refl
@@ -122,30 +52,161 @@ crossed false b x y z apart = refl
 apart_names : (x y first : List ℕ) → same_name x y ≡ false → same_name x first ≡ true → same_name y first ≡ true → ⊥
 apart_names x y first differ p q = true≢false (sym ((bytes_decides x y).1 ((bytes_decides x first).0 p ∙ sym ((bytes_decides y first).0 q))) ∙ differ)
 
--- a child that is set at its place
-set_first : (name : List ℕ) (cs : List Child) (d child : Child) (first : List ℕ) (path : Path) → position_or_len (called name) cs < length cs → bstring_bytes child.name ≡ bstring_bytes (get_or cs (position_or_len (called name) cs) d).name
-    → in_part first (parts (set cs (position_or_len (called name) cs) child)) path ≡ cond (same_name name first) (dirs_of child.open path) (in_part first (parts cs) path)
-set_first name [] d child first path low named = absurd (omega (arith, low))
-set_first name (c ∷ cs) d child first path low named =
-    elim (called name c) as (λ b. called name c ≡ b → cond (not b) (1 + position_or_len (called name) cs) 0 < length (c ∷ cs)
-    → bstring_bytes child.name ≡ bstring_bytes (get_or (c ∷ cs) (cond (not b) (1 + position_or_len (called name) cs) 0) d).name
-    → in_part first (parts (set (c ∷ cs) (cond (not b) (1 + position_or_len (called name) cs) 0) child)) path ≡ cond (same_name name first) (dirs_of child.open path) (cond (same_name (bstring_bytes c.name) first) (dirs_of c.open path) (in_part first (parts cs) path))) [
-      | true ↦ λ is l n. let own : bstring_bytes c.name ≡ name = (bytes_decides (bstring_bytes c.name) name).0 is in
-          rw (n, own) (twice (same_name name first) _ _ _)
-      | false ↦ λ is l n. let rest = set_first name cs d child first path (omega (arith, l)) (rw one-add at n) in
-          rw (one-add, rest) (crossed (same_name (bstring_bytes c.name) first) (same_name name first) _ _ _ (apart_names (bstring_bytes c.name) name first is))
-    ] refl low named
+-- the directory of one name becomes another, or goes; those of other names are as before
+pub record BecomesBy (side : Level → List EntryView) (name : List ℕ) (next : Dirs) (old new : List Part) : Type 0 where
+  pub says : (first : List ℕ) (path : Path) → part_at side first new path ≡ cond (same_name name first) (next path) (part_at side first old path)
+
+-- of either list of the directories
+module _ (side : Level → List EntryView) where
+  in_under : (name : List ℕ) (ds rest : Opened) (path : Path) → at_side side rest (name ∷ path) ≡ None → at_side side (under name ds ++ rest) (name ∷ path) ≡ at_side side ds path
+  in_under name [] rest path none = none
+  in_under name (d ∷ ds) rest path none =
+      rw (tied_name name name path d.0, name_itself name) (ap (λ r. cond (tied path d.0) (Some (side d.1)) r) (in_under name ds rest path none))
+
+  out_of_under : (name other : List ℕ) (ds rest : Opened) (path : Path) → other ≢ name → at_side side (under name ds ++ rest) (other ∷ path) ≡ at_side side rest (other ∷ path)
+  out_of_under name other [] rest path differ = refl
+  out_of_under name other (d ∷ ds) rest path differ = rw (tied_name other name path d.0, name_other other name differ) (out_of_under name other ds rest path differ)
+
+  none_below : (name : List ℕ) (ps : List Part) (path : Path) → AllByRecursion (λ p. name ≢ p.0) ps → at_side side (below ps) (name ∷ path) ≡ None
+  none_below name [] path differ = refl
+  none_below name (p ∷ ps) path differ = out_of_under p.0 name p.1 (below ps) path differ.0 ∙ none_below name ps path differ.1
+
+  below_name : (name : List ℕ) (ps : List Part) (path : Path) → EachLater (λ x y. x.0 ≢ y.0) ps → at_side side (below ps) (name ∷ path) ≡ part_at side name ps path
+  below_name name [] path apart = refl
+  below_name name (p ∷ ps) path apart =
+      elim (same_names p.0 name) [
+        | inl same ↦ subst (λ (n : List ℕ). at_side side (below (p ∷ ps)) (n ∷ path) ≡ part_at side n (p ∷ ps) path) same
+            (rw (name_itself p.0) (in_under p.0 p.1 (below ps) path (none_below p.0 ps path apart.0)))
+        | inr differ ↦ rw (name_other p.0 name differ) (out_of_under p.0 name p.1 (below ps) path (λ e. differ (sym e)) ∙ below_name name ps path apart.1)
+      ]
+
+  -- at and below a name: what is open in its directory
+  pub at_name_by : (es base : List EntryView) (ps : List Part) (name : List ℕ) (path : Path) → EachLater (λ x y. x.0 ≢ y.0) ps → at_side side (opened es base ps) (name ∷ path) ≡ part_at side name ps path
+  at_name_by es base ps name path apart = below_name name ps path apart
+
+  found_first : (name : List ℕ) (cs : List Child) (d : Child) (path : Path) → position_or_len (called name) cs < length cs → part_at side name (parts cs) path ≡ at_side side (get_or cs (position_or_len (called name) cs) d).open path
+  found_first name [] d path low = absurd (omega (arith, low))
+  found_first name (c ∷ cs) d path low =
+      elim (called name c) as (λ b. cond (not b) (1 + position_or_len (called name) cs) 0 < length (c ∷ cs)
+      → cond b (at_side side c.open path) (part_at side name (parts cs) path) ≡ at_side side (get_or (c ∷ cs) (cond (not b) (1 + position_or_len (called name) cs) 0) d).open path) [
+        | true ↦ λ l. refl
+        | false ↦ λ l. rw one-add (found_first name cs d path (omega (arith, l)))
+      ] low
+
+  -- the child at the place that the search gave
+  pub found_by : (name : List ℕ) (cs l : List Child) (i : ℕ) (child : Child) → l ≡ cs → Some i ≡ position (called name) l → child ≡ get_or cs i child → (path : Path) → part_at side name (parts cs) path ≡ at_side side child.open path
+  found_by name cs l i child same found_at is path =
+      let at : Some i ≡ position (called name) cs = subst (λ (m : List Child). Some i ≡ position (called name) m) same found_at in
+      let place : ℕ = position_or_len (called name) cs in
+      let chose = chosen (nat_lt place (length cs)) place i at in
+      found_first name cs child path (ltb-true _ _ chose.0) ∙ ap (λ (c : Child). at_side side c.open path) (ap (λ k. get_or cs k child) chose.1 ∙ sym is)
+
+  none_first : (name : List ℕ) (cs : List Child) (path : Path) → length cs ≤ position_or_len (called name) cs → part_at side name (parts cs) path ≡ None
+  none_first name [] path high = refl
+  none_first name (c ∷ cs) path high =
+      elim (called name c) as (λ b. length (c ∷ cs) ≤ cond (not b) (1 + position_or_len (called name) cs) 0 → cond b (at_side side c.open path) (part_at side name (parts cs) path) ≡ None) [
+        | true ↦ λ l. absurd (omega (arith, l))
+        | false ↦ λ l. none_first name cs path (omega (arith, l))
+      ] high
+
+  pub not_found_by : (name : List ℕ) (cs l : List Child) → l ≡ cs → None ≡ position (called name) l → (path : Path) → part_at side name (parts cs) path ≡ None
+  not_found_by name cs l same found_at path =
+      let at : None ≡ position (called name) cs = subst (λ (m : List Child). None ≡ position (called name) m) same found_at in
+      none_first name cs path (ltb-false _ _ (unchosen (nat_lt (position_or_len (called name) cs) (length cs)) _ at))
+
+  -- the directories of a level, by its list
+  pub level_at_by : (ds : Opened) (es base : List EntryView) (ps : List Part) → opened es base ps ≡ ds → EachLater (λ x y. x.0 ≢ y.0) ps → (name : List ℕ) (path : Path) → at_side side ds (name ∷ path) ≡ part_at side name ps path
+  level_at_by ds es base ps is apart name path = subst (λ (d : Opened). at_side side d (name ∷ path) ≡ part_at side name ps path) is (at_name_by es base ps name path apart)
+
+  -- a child that is set at its place
+  set_first : (name : List ℕ) (cs : List Child) (d child : Child) (first : List ℕ) (path : Path) → position_or_len (called name) cs < length cs → bstring_bytes child.name ≡ bstring_bytes (get_or cs (position_or_len (called name) cs) d).name
+      → part_at side first (parts (set cs (position_or_len (called name) cs) child)) path ≡ cond (same_name name first) (at_side side child.open path) (part_at side first (parts cs) path)
+  set_first name [] d child first path low named = absurd (omega (arith, low))
+  set_first name (c ∷ cs) d child first path low named =
+      elim (called name c) as (λ b. called name c ≡ b → cond (not b) (1 + position_or_len (called name) cs) 0 < length (c ∷ cs)
+      → bstring_bytes child.name ≡ bstring_bytes (get_or (c ∷ cs) (cond (not b) (1 + position_or_len (called name) cs) 0) d).name
+      → part_at side first (parts (set (c ∷ cs) (cond (not b) (1 + position_or_len (called name) cs) 0) child)) path ≡ cond (same_name name first) (at_side side child.open path) (cond (same_name (bstring_bytes c.name) first) (at_side side c.open path) (part_at side first (parts cs) path))) [
+        | true ↦ λ is l n. let own : bstring_bytes c.name ≡ name = (bytes_decides (bstring_bytes c.name) name).0 is in
+            rw (n, own) (twice (same_name name first) _ _ _)
+        | false ↦ λ is l n. let rest = set_first name cs d child first path (omega (arith, l)) (rw one-add at n) in
+            rw (one-add, rest) (crossed (same_name (bstring_bytes c.name) first) (same_name name first) _ _ _ (apart_names (bstring_bytes c.name) name first is))
+      ] refl low named
+
+  pub set_becomes_by : (name : List ℕ) (cs l : List Child) (i : ℕ) (child next : Child) → l ≡ cs → Some i ≡ position (called name) l → child ≡ get_or cs i child → bstring_bytes next.name ≡ bstring_bytes child.name
+      → BecomesBy side name (at_side side next.open) (parts cs) (parts (set cs i next))
+  set_becomes_by name cs l i child next same found_at is named =
+      let at : Some i ≡ position (called name) cs = subst (λ (m : List Child). Some i ≡ position (called name) m) same found_at in
+      let place : ℕ = position_or_len (called name) cs in
+      let chose = chosen (nat_lt place (length cs)) place i at in
+      record {
+        says = λ first path. subst (λ k. part_at side first (parts (set cs k next)) path ≡ cond (same_name name first) (at_side side next.open path) (part_at side first (parts cs) path)) chose.1
+            (set_first name cs child next first path (ltb-true _ _ chose.0) (named ∙ ap (λ (c : Child). bstring_bytes c.name) (is ∙ ap (λ k. get_or cs k child) (sym chose.1))));
+      }
+
+  others_first : (name : List ℕ) (ps : List Part) (first : List ℕ) (path : Path) → part_at side first (other_parts name ps) path ≡ cond (same_name name first) None (part_at side first ps path)
+  others_first name [] first path = either (same_name name first)
+    where
+      either : (b : Bool) → ◌≡◌ {A = Option (List EntryView)} None (cond b None None)
+      either true = refl
+      either false = refl
+  others_first name (p ∷ ps) first path =
+      elim (same_name p.0 name) as (λ b. same_name p.0 name ≡ b → part_at side first (cond (not b) (p ∷ other_parts name ps) (other_parts name ps)) path ≡ cond (same_name name first) None (cond (same_name p.0 first) (at_side side p.1 path) (part_at side first ps path))) [
+        | true ↦ λ is. let own : p.0 ≡ name = (bytes_decides p.0 name).0 is in rw own (others_first name ps first path ∙ twice (same_name name first) _ _ _)
+        | false ↦ λ is. rw (others_first name ps first path) (crossed (same_name p.0 first) (same_name name first) _ _ _ (apart_names p.0 name first is))
+      ] refl
+
+  pub others_becomes_by : (name : List ℕ) (ps : List Part) → BecomesBy side name (λ _. None) ps (other_parts name ps)
+  others_becomes_by name ps = record { says = λ first path. others_first name ps first path }
+
+  push_first : (name : List ℕ) (ds : Opened) (ps : List Part) → AllByRecursion (λ p. p.0 ≢ name) ps → (first : List ℕ) (path : Path) → part_at side first (ps ++ (name, ds) ∷ []) path ≡ cond (same_name name first) (at_side side ds path) (part_at side first ps path)
+  push_first name ds [] others first path = refl
+  push_first name ds (p ∷ ps) others first path =
+      rw (push_first name ds ps others.1 first path) (crossed (same_name p.0 first) (same_name name first) _ _ _ (apart_names p.0 name first (name_other p.0 name others.0)))
+
+  pub push_becomes_by : (name : List ℕ) (ds : Opened) (ps : List Part) → AllByRecursion (λ p. p.0 ≢ name) ps → BecomesBy side name (at_side side ds) ps (ps ++ (name, ds) ∷ [])
+  push_becomes_by name ds ps others = record { says = push_first name ds ps others }
+
+-- of the entries
+abbrev pub Becomes : List ℕ → Dirs → List Part → List Part → Type 0
+Becomes = BecomesBy entries_side
+
+pub at_root : (es base : List EntryView) (ps : List Part) → dirs_of (opened es base ps) [] ≡ Some es
+at_root es base ps = refl
+
+-- at and below a name: what is open in its directory
+pub at_name : (es base : List EntryView) (ps : List Part) (name : List ℕ) (path : Path) → EachLater (λ x y. x.0 ≢ y.0) ps → dirs_of (opened es base ps) (name ∷ path) ≡ in_part name ps path
+at_name = at_name_by entries_side
+
+-- the child at the place that the search gave
+pub found : (name : List ℕ) (cs l : List Child) (i : ℕ) (child : Child) → l ≡ cs → Some i ≡ position (called name) l → child ≡ get_or cs i child → (path : Path) → in_part name (parts cs) path ≡ dirs_of child.open path
+found = found_by entries_side
+
+pub not_found : (name : List ℕ) (cs l : List Child) → l ≡ cs → None ≡ position (called name) l → (path : Path) → in_part name (parts cs) path ≡ None
+not_found = not_found_by entries_side
+
+-- the directories of a level, by its list
+pub level_at : (ds : Opened) (es : List EntryView) {base : List EntryView} (ps : List Part) → opened es base ps ≡ ds → EachLater (λ x y. x.0 ≢ y.0) ps → (name : List ℕ) (path : Path) → dirs_of ds (name ∷ path) ≡ in_part name ps path
+level_at ds es {base} ps is = level_at_by entries_side ds es base ps is
+
+pub level_root : (ds : Opened) (es : List EntryView) {base : List EntryView} (ps : List Part) → opened es base ps ≡ ds → dirs_of ds [] ≡ Some es
+level_root ds es ps is = subst (λ (d : Opened). dirs_of d [] ≡ Some es) is refl
+
+-- its bases
+pub based_at : (ds : Opened) (es : List EntryView) {base : List EntryView} (ps : List Part) → opened es base ps ≡ ds → EachLater (λ x y. x.0 ≢ y.0) ps → (name : List ℕ) (path : Path) → bases_of ds (name ∷ path) ≡ bases_in name ps path
+based_at ds es {base} ps is = level_at_by base_side ds es base ps is
+
+pub based_root : (ds : Opened) (es : List EntryView) {base : List EntryView} (ps : List Part) → opened es base ps ≡ ds → bases_of ds [] ≡ Some base
+based_root ds es {base} ps is = subst (λ (d : Opened). bases_of d [] ≡ Some base) is refl
 
 pub set_becomes : (name : List ℕ) (cs l : List Child) (i : ℕ) (child next : Child) → l ≡ cs → Some i ≡ position (called name) l → child ≡ get_or cs i child → bstring_bytes next.name ≡ bstring_bytes child.name
     → Becomes name (dirs_of next.open) (parts cs) (parts (set cs i next))
-set_becomes name cs l i child next same found_at is named =
-    let at : Some i ≡ position (called name) cs = subst (λ (m : List Child). Some i ≡ position (called name) m) same found_at in
-    let place : ℕ = position_or_len (called name) cs in
-    let chose = chosen (nat_lt place (length cs)) place i at in
-    record {
-      says = λ first path. subst (λ k. in_part first (parts (set cs k next)) path ≡ cond (same_name name first) (dirs_of next.open path) (in_part first (parts cs) path)) chose.1
-          (set_first name cs child next first path (ltb-true _ _ chose.0) (named ∙ ap (λ (c : Child). bstring_bytes c.name) (is ∙ ap (λ k. get_or cs k child) (sym chose.1))));
-    }
+set_becomes = set_becomes_by entries_side
+
+pub others_becomes : (name : List ℕ) (ps : List Part) → Becomes name (λ _. None) ps (other_parts name ps)
+others_becomes = others_becomes_by entries_side
+
+pub push_becomes : (name : List ℕ) (ds : Opened) (ps : List Part) → AllByRecursion (λ p. p.0 ≢ name) ps → Becomes name (dirs_of ds) ps (ps ++ (name, ds) ∷ [])
+push_becomes = push_becomes_by entries_side
 
 -- a level stays one where a child with the same name is set
 all_set : (P : List ℕ → Type 0) (cs : List Child) (i : ℕ) (next : Child) → AllByRecursion (λ p. P p.0) (parts cs) → bstring_bytes next.name ≡ bstring_bytes (get_or cs i next).name → AllByRecursion (λ p. P p.0) (parts (set cs i next))
@@ -207,21 +268,6 @@ others_none name cs l same found_at =
     let at : None ≡ position (called name) cs = subst (λ (m : List Child). None ≡ position (called name) m) same found_at in
     sym (ap parts (none_passes (called name) cs (ltb-false _ _ (unchosen (nat_lt (position_or_len (called name) cs) (length cs)) _ at)))) ∙ filter_parts name cs
 
-others_first : (name : List ℕ) (ps : List Part) (first : List ℕ) (path : Path) → in_part first (other_parts name ps) path ≡ cond (same_name name first) None (in_part first ps path)
-others_first name [] first path = either (same_name name first)
-  where
-    either : (b : Bool) → ◌≡◌ {A = Option (List EntryView)} None (cond b None None)
-    either true = refl
-    either false = refl
-others_first name (p ∷ ps) first path =
-    elim (same_name p.0 name) as (λ b. same_name p.0 name ≡ b → in_part first (cond (not b) (p ∷ other_parts name ps) (other_parts name ps)) path ≡ cond (same_name name first) None (cond (same_name p.0 first) (dirs_of p.1 path) (in_part first ps path))) [
-      | true ↦ λ is. let own : p.0 ≡ name = (bytes_decides p.0 name).0 is in rw own (others_first name ps first path ∙ twice (same_name name first) _ _ _)
-      | false ↦ λ is. rw (others_first name ps first path) (crossed (same_name p.0 first) (same_name name first) _ _ _ (apart_names p.0 name first is))
-    ] refl
-
-pub others_becomes : (name : List ℕ) (ps : List Part) → Becomes name (λ _. None) ps (other_parts name ps)
-others_becomes name ps = record { says = λ first path. others_first name ps first path }
-
 -- a directory is added
 pub none_named : (name : List ℕ) (cs l : List Child) → l ≡ cs → None ≡ position (called name) l → AllByRecursion (λ p. p.0 ≢ name) (parts cs)
 none_named name cs l same found_at =
@@ -234,14 +280,6 @@ none_named name cs l same found_at =
       | true ↦ λ is h. absurd (omega (arith, h))
       | false ↦ λ is h. ((λ q. true≢false (sym ((bytes_decides (bstring_bytes d.name) name).1 q) ∙ is)), each ds (omega (arith, h)))
     ] refl high
-
-push_first : (name : List ℕ) (ds : Opened) (ps : List Part) → AllByRecursion (λ p. p.0 ≢ name) ps → (first : List ℕ) (path : Path) → in_part first (ps ++ (name, ds) ∷ []) path ≡ cond (same_name name first) (dirs_of ds path) (in_part first ps path)
-push_first name ds [] others first path = refl
-push_first name ds (p ∷ ps) others first path =
-    rw (push_first name ds ps others.1 first path) (crossed (same_name p.0 first) (same_name name first) _ _ _ (apart_names p.0 name first (name_other p.0 name others.0)))
-
-pub push_becomes : (name : List ℕ) (ds : Opened) (ps : List Part) → AllByRecursion (λ p. p.0 ≢ name) ps → Becomes name (dirs_of ds) ps (ps ++ (name, ds) ∷ [])
-push_becomes name ds ps others = record { says = push_first name ds ps others }
 
 others_above : (name : List ℕ) (next es : List EntryView) (ps : List Part) → ((n : List ℕ) → n ≢ name → has_tree n es ≡ true → has_tree n next ≡ true) → AllByRecursion (λ p. has_tree p.0 es ≡ true) ps → AllByRecursion (λ p. has_tree p.0 next ≡ true) (other_parts name ps)
 others_above name next es [] keeps h = tt

@@ -1,7 +1,11 @@
+pub mod BaseSteps
 pub mod Deciding
 pub mod Handing
 pub mod Levels
+pub mod LookedUp
 pub mod NamedTrees
 pub mod OpeningSteps
+pub mod OwnTrees
+pub mod SameTrees
 pub mod Steps
 pub mod StorablePairs

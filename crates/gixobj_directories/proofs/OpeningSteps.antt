@@ -76,10 +76,10 @@ finds_one trees id entries asked (formed, inl h) = subst (λ (l : List ObjectId)
 finds_one trees id entries asked (formed, inr h) = subst (λ (l : List ObjectId). length l ≤ 1) (sym h.2) (omega arith)
 
 -- nothing but a directory's own list is open
-pub only_is : (es : List EntryView) → dirs_of (opened es []) ≡ only es
+pub only_is : (es : List EntryView) → dirs_of (opened es [] []) ≡ only es
 only_is es = λ i at. here at i
   where
-    here : (at : Path) → dirs_of (opened es []) at ≡ only es at
+    here : (at : Path) → dirs_of (opened es [] []) at ≡ only es at
     here [] = refl
     here (name ∷ path) = refl
 
@@ -96,30 +96,30 @@ GoesIn Fits R =
     → Fits e entries first → R rest (only entries) inner asked → R (name ∷ rest) dirs (with_dir name inner dirs) (first ++ asked)
 
 pub stop_step : {Ends : EntryView → Type 0} (trees : Trees) (es : List EntryView) (ps : List Part) → IsLevel es ps → (name : List ℕ) (rest : Path) → ((path : Path) → in_part name ps path ≡ None) → ((e : EntryView) → Has es e → e.name ≡ name → Ends e)
-    → Opens Ends trees (name ∷ rest) (dirs_of (opened es ps)) (dirs_of (opened es ps)) []
-stop_step trees es ps level name rest none other = stops name rest (dirs_of (opened es ps)) other (λ path. at_name es ps name path level.apart ∙ none path)
+    → Opens Ends trees (name ∷ rest) (dirs_of (opened es [] ps)) (dirs_of (opened es [] ps)) []
+stop_step trees es ps level name rest none other = stops name rest (dirs_of (opened es [] ps)) other (λ path. at_name es [] ps name path level.apart ∙ none path)
 
 module _ (Fits : EntryView → List EntryView → List ObjectId → Type 0) (R : Path → Dirs → Dirs → List ObjectId → Type 0) (goes_down : GoesDown R) (goes_in : GoesIn Fits R) (es : List EntryView) where
   pub down_step : (cs l : List Child) → IsLevel es (parts cs) → (name : List ℕ) (rest : Path) (i : ℕ) (child next : Child) → l ≡ cs → Some i ≡ position (called name) l → child ≡ get_or cs i child → bstring_bytes next.name ≡ bstring_bytes child.name
       → (entries : List EntryView) → dirs_of child.open [] ≡ Some entries → (asked : List ObjectId) → R rest (dirs_of child.open) (dirs_of next.open) asked
-      → R (name ∷ rest) (dirs_of (opened es (parts cs))) (dirs_of (opened es (parts (set cs i next)))) asked
+      → R (name ∷ rest) (dirs_of (opened es [] (parts cs))) (dirs_of (opened es [] (parts (set cs i next)))) asked
   down_step cs l level name rest i child next same at is named entries root asked opens =
-      let old : Dirs = dirs_of (opened es (parts cs)) in
+      let old : Dirs = dirs_of (opened es [] (parts cs)) in
       let e = has_tree_of name es (child_above es name cs l i same at level.above) in
-      let inside : in_dir name old ≡ dirs_of child.open = λ j path. (at_name es (parts cs) name path level.apart ∙ levels.found name cs l i child same at is path) j in
-      let new_is : dirs_of (opened es (parts (set cs i next))) ≡ with_dir name (dirs_of next.open) old = λ j path. replaced (opened es (parts cs)) es es (parts cs) (parts (set cs i next)) refl level.apart (level_set es cs i child next is named level).apart name (dirs_of next.open) (set_becomes name cs l i child next same at is named) refl path j in
+      let inside : in_dir name old ≡ dirs_of child.open = λ j path. (at_name es [] (parts cs) name path level.apart ∙ levels.found name cs l i child same at is path) j in
+      let new_is : dirs_of (opened es [] (parts (set cs i next))) ≡ with_dir name (dirs_of next.open) old = λ j path. replaced (opened es [] (parts cs)) es es (parts cs) (parts (set cs i next)) refl level.apart (level_set es cs i child next is named level).apart name (dirs_of next.open) (set_becomes name cs l i child next same at is named) refl path j in
       subst (λ (d : Dirs). R (name ∷ rest) old d asked) (sym new_is)
       (goes_down name rest old (dirs_of next.open) e.0 entries asked e.1 e.2 (ap (λ (d : Dirs). d []) inside ∙ root) (subst (λ (d : Dirs). R rest d (dirs_of next.open) asked) (sym inside) opens))
 
   pub found_step : (ps : List Part) → IsLevel es ps → (name : List ℕ) (rest : Path) → AllByRecursion (λ p. p.0 ≢ name) ps → ((path : Path) → in_part name ps path ≡ None) → (e : EntryView) → IsEntryOf name (Some es) e → is_tree_mode e.mode ≡ true
-      → (entries : List EntryView) (first asked : List ObjectId) → Fits e entries first → (inner : Opened) → R rest (dirs_of (opened entries [])) (dirs_of inner) asked
-      → R (name ∷ rest) (dirs_of (opened es ps)) (dirs_of (opened es (ps ++ (name, inner) ∷ []))) (first ++ asked)
+      → (entries : List EntryView) (first asked : List ObjectId) → Fits e entries first → (inner : Opened) → R rest (dirs_of (opened entries [] [])) (dirs_of inner) asked
+      → R (name ∷ rest) (dirs_of (opened es [] ps)) (dirs_of (opened es [] (ps ++ (name, inner) ∷ []))) (first ++ asked)
   found_step ps level name rest others none e entry tree entries first asked finds inner opens =
-      let old : Dirs = dirs_of (opened es ps) in
+      let old : Dirs = dirs_of (opened es [] ps) in
       let more = level_pushed name inner es ps (of_has_tree name es e entry.0 entry.1 tree) others level in
-      let new_is : dirs_of (opened es (ps ++ (name, inner) ∷ [])) ≡ with_dir name (dirs_of inner) old = λ j path. replaced (opened es ps) es es ps (ps ++ (name, inner) ∷ []) refl level.apart more.apart name (dirs_of inner) (push_becomes name inner ps others) refl path j in
+      let new_is : dirs_of (opened es [] (ps ++ (name, inner) ∷ [])) ≡ with_dir name (dirs_of inner) old = λ j path. replaced (opened es [] ps) es es ps (ps ++ (name, inner) ∷ []) refl level.apart more.apart name (dirs_of inner) (push_becomes name inner ps others) refl path j in
       subst (λ (d : Dirs). R (name ∷ rest) old d (first ++ asked)) (sym new_is)
-      (goes_in name rest old (dirs_of inner) e entries first asked entry tree (λ path. at_name es ps name path level.apart ∙ none path) finds (subst (λ (d : Dirs). R rest d (dirs_of inner) asked) (only_is entries) opens))
+      (goes_in name rest old (dirs_of inner) e entries first asked entry tree (λ path. at_name es [] ps name path level.apart ∙ none path) finds (subst (λ (d : Dirs). R rest d (dirs_of inner) asked) (only_is entries) opens))
 
 -- an option that was copied
 pub copied_some : {X : Type 0} (r : Option (Bor X)) (o : Option X) (x : Bor X) → option_copied r ≡ o → r ≡ Some x → o ≡ Some x.now
@@ -131,28 +131,28 @@ copied_none r o is none = sym is ∙ ap option_copied none
 pub none_weaker : {X : Type 0} (r : Option X) (P : Type 0) → r ≡ None → P → IfNone r P
 none_weaker r P is p = subst (λ (o : Option _). IfNone o P) (sym is) p
 
-pub stop_in : {Ends : EntryView → Type 0} (trees : Trees) (es : List EntryView) (ds : Opened) (path : Path) (name : List ℕ) (rest : Path) → path ≡ name ∷ rest → (ps : List Part) → opened es ps ≡ ds → IsLevel es ps → ((at : Path) → in_part name ps at ≡ None)
+pub stop_in : {Ends : EntryView → Type 0} (trees : Trees) (es : List EntryView) (ds : Opened) (path : Path) (name : List ℕ) (rest : Path) → path ≡ name ∷ rest → (ps : List Part) {base : List EntryView} → opened es base ps ≡ ds → IsLevel es ps → ((at : Path) → in_part name ps at ≡ None)
     → ((e : EntryView) → Has es e → e.name ≡ name → Ends e) → Opens Ends trees path (dirs_of ds) (dirs_of ds) []
 stop_in {Ends = Ends} trees es ds path name rest path_is ps view level none other =
     subst (λ p. Opens Ends trees p (dirs_of ds) (dirs_of ds) []) (sym path_is) (subst (λ (d : Opened). Opens Ends trees (name ∷ rest) (dirs_of d) (dirs_of d) []) view (stop_step trees es ps level name rest none other))
 
 -- the same, for a level seen whole and a path that is known by parts
 module _ (Fits : EntryView → List EntryView → List ObjectId → Type 0) (R : Path → Dirs → Dirs → List ObjectId → Type 0) (goes_down : GoesDown R) (goes_in : GoesIn Fits R) (es : List EntryView) (ds : Opened) (path : Path) (name : List ℕ) (rest : Path) (path_is : path ≡ name ∷ rest) where
-  pub down_in : (cs l : List Child) → opened es (parts cs) ≡ ds → IsLevel es (parts cs) → (i : ℕ) (child next : Child) → l ≡ cs → Some i ≡ position (called name) l → child ≡ get_or cs i child → bstring_bytes next.name ≡ bstring_bytes child.name
+  pub down_in : (cs l : List Child) {base : List EntryView} → opened es base (parts cs) ≡ ds → IsLevel es (parts cs) → (i : ℕ) (child next : Child) → l ≡ cs → Some i ≡ position (called name) l → child ≡ get_or cs i child → bstring_bytes next.name ≡ bstring_bytes child.name
       → (entries : List EntryView) → dirs_of child.open [] ≡ Some entries → (asked : List ObjectId) → R rest (dirs_of child.open) (dirs_of next.open) asked
-      → R path (dirs_of ds) (dirs_of (opened es (parts (set cs i next)))) asked
+      → R path (dirs_of ds) (dirs_of (opened es [] (parts (set cs i next)))) asked
   down_in cs l view level i child next same at is named entries root asked opens =
-      subst (λ p. R p (dirs_of ds) (dirs_of (opened es (parts (set cs i next)))) asked) (sym path_is)
-      (subst (λ (d : Opened). R (name ∷ rest) (dirs_of d) (dirs_of (opened es (parts (set cs i next)))) asked) view (down_step Fits R goes_down goes_in es cs l level name rest i child next same at is named entries root asked opens))
+      subst (λ p. R p (dirs_of ds) (dirs_of (opened es [] (parts (set cs i next)))) asked) (sym path_is)
+      (subst (λ (d : Opened). R (name ∷ rest) (dirs_of d) (dirs_of (opened es [] (parts (set cs i next)))) asked) view (down_step Fits R goes_down goes_in es cs l level name rest i child next same at is named entries root asked opens))
 
-  pub found_in : (cs : List Child) → opened es (parts cs) ≡ ds → IsLevel es (parts cs) → AllByRecursion (λ p. p.0 ≢ name) (parts cs) → ((at : Path) → in_part name (parts cs) at ≡ None) → (e : EntryView) → IsEntryOf name (Some es) e → is_tree_mode e.mode ≡ true
-      → (entries : List EntryView) (first asked : List ObjectId) → Fits e entries first → (inner : Child) → bstring_bytes inner.name ≡ name → (new : List Child) → new ≡ cs ++ inner ∷ [] → R rest (dirs_of (opened entries [])) (dirs_of inner.open) asked
-      → R path (dirs_of ds) (dirs_of (opened es (parts new))) (first ++ asked)
+  pub found_in : (cs : List Child) {base : List EntryView} → opened es base (parts cs) ≡ ds → IsLevel es (parts cs) → AllByRecursion (λ p. p.0 ≢ name) (parts cs) → ((at : Path) → in_part name (parts cs) at ≡ None) → (e : EntryView) → IsEntryOf name (Some es) e → is_tree_mode e.mode ≡ true
+      → (entries : List EntryView) (first asked : List ObjectId) → Fits e entries first → (inner : Child) → bstring_bytes inner.name ≡ name → (new : List Child) → new ≡ cs ++ inner ∷ [] → R rest (dirs_of (opened entries [] [])) (dirs_of inner.open) asked
+      → R path (dirs_of ds) (dirs_of (opened es [] (parts new))) (first ++ asked)
   found_in cs view level others none e entry tree entries first asked finds inner named new is opens =
       let more : parts new ≡ parts cs ++ (name, inner.open) ∷ [] = ap parts is ∙ map-append part cs (inner ∷ []) ∙ ap (λ (n : List ℕ). parts cs ++ (n, inner.open) ∷ []) named in
-      subst (λ p. R p (dirs_of ds) (dirs_of (opened es (parts new))) (first ++ asked)) (sym path_is)
-      (subst (λ (ps : List Part). R (name ∷ rest) (dirs_of ds) (dirs_of (opened es ps)) (first ++ asked)) (sym more)
-      (subst (λ (d : Opened). R (name ∷ rest) (dirs_of d) (dirs_of (opened es (parts cs ++ (name, inner.open) ∷ []))) (first ++ asked)) view
+      subst (λ p. R p (dirs_of ds) (dirs_of (opened es [] (parts new))) (first ++ asked)) (sym path_is)
+      (subst (λ (ps : List Part). R (name ∷ rest) (dirs_of ds) (dirs_of (opened es [] ps)) (first ++ asked)) (sym more)
+      (subst (λ (d : Opened). R (name ∷ rest) (dirs_of d) (dirs_of (opened es [] (parts cs ++ (name, inner.open) ∷ []))) (first ++ asked)) view
       (found_step Fits R goes_down goes_in es (parts cs) level name rest others none e entry tree entries first asked finds inner.open opens)))
 
 pub level_new : (name : List ℕ) (es : List EntryView) (cs : List Child) → IsLevel es (parts cs) → AllByRecursion (λ p. p.0 ≢ name) (parts cs) → (e : EntryView) → IsEntryOf name (Some es) e → is_tree_mode e.mode ≡ true → (inner : Child) → bstring_bytes inner.name ≡ name
@@ -195,22 +195,22 @@ pub halts_in : (Ends : EntryView → Type 0) (trees : Trees) (vain : Option Obje
 halts_in Ends trees vain name rest dirs inner e entries first asked entry tree none finds halts = halting.found name rest dirs inner e entries first asked vain entry tree finds.0 none finds.1 halts
 
 -- nothing was opened: a halt at a level that stays as it is
-pub halted_here : (Ends : EntryView → Type 0) (trees : Trees) (path : Path) (name : List ℕ) (rest : Path) (es : List EntryView) (ds : Opened) (cs new : List Child) → path ≡ name ∷ rest → opened es (parts cs) ≡ ds → new ≡ cs → (asked : List ObjectId) (vain : Option ObjectId)
-    → Halts Ends trees (name ∷ rest) (dirs_of (opened es (parts cs))) (dirs_of (opened es (parts cs))) asked vain → Halts Ends trees path (dirs_of ds) (dirs_of (opened es (parts new))) asked vain
-halted_here Ends trees path name rest es ds cs new path_is view same asked vain halts =
-    subst (λ p. Halts Ends trees p (dirs_of ds) (dirs_of (opened es (parts new))) asked vain) (sym path_is)
-    (subst (λ (d : Opened). Halts Ends trees (name ∷ rest) (dirs_of ds) (dirs_of d) asked vain) (sym (ap (λ (l : List Child). opened es (parts l)) same ∙ view))
+pub halted_here : (Ends : EntryView → Type 0) (trees : Trees) (path : Path) (name : List ℕ) (rest : Path) (es : List EntryView) (ds : Opened) (cs new : List Child) → path ≡ name ∷ rest → {base : List EntryView} → opened es base (parts cs) ≡ ds → new ≡ cs → (asked : List ObjectId) (vain : Option ObjectId)
+    → Halts Ends trees (name ∷ rest) (dirs_of (opened es [] (parts cs))) (dirs_of (opened es [] (parts cs))) asked vain → Halts Ends trees path (dirs_of ds) (dirs_of (opened es [] (parts new))) asked vain
+halted_here Ends trees path name rest es ds cs new path_is {base} view same asked vain halts =
+    subst (λ p. Halts Ends trees p (dirs_of ds) (dirs_of (opened es [] (parts new))) asked vain) (sym path_is)
+    (subst (λ (d : Opened). Halts Ends trees (name ∷ rest) (dirs_of ds) (dirs_of d) asked vain) (sym (ap (λ (l : List Child). opened es base (parts l)) same ∙ view))
     (subst (λ (d : Opened). Halts Ends trees (name ∷ rest) (dirs_of d) (dirs_of d) asked vain) view halts))
 
 -- since there was no memory
 pub no_memory : (Ends : EntryView → Type 0) (trees : Trees) (name : List ℕ) (rest : Path) (es : List EntryView) (cs : List Child) → IsLevel es (parts cs) → ((at : Path) → in_part name (parts cs) at ≡ None) → (e : EntryView) → IsEntryOf name (Some es) e → is_tree_mode e.mode ≡ true → (Ends e → ⊥)
-    → Halts Ends trees (name ∷ rest) (dirs_of (opened es (parts cs))) (dirs_of (opened es (parts cs))) [] None
-no_memory Ends trees name rest es cs level none e entry tree free = at_once name rest (dirs_of (opened es (parts cs))) e entry tree free (λ at. at_name es (parts cs) name at level.apart ∙ none at)
+    → Halts Ends trees (name ∷ rest) (dirs_of (opened es [] (parts cs))) (dirs_of (opened es [] (parts cs))) [] None
+no_memory Ends trees name rest es cs level none e entry tree free = at_once name rest (dirs_of (opened es [] (parts cs))) e entry tree free (λ at. at_name es [] (parts cs) name at level.apart ∙ none at)
 
 -- since the directory of the name wasn't found
 pub none_found : (Ends : EntryView → Type 0) (trees : Trees) (name : List ℕ) (rest : Path) (es : List EntryView) (cs : List Child) → IsLevel es (parts cs) → ((at : Path) → in_part name (parts cs) at ≡ None) → (e : EntryView) → IsEntryOf name (Some es) e → is_tree_mode e.mode ≡ true → (Ends e → ⊥)
-    → (IsEmptyId e.id → ⊥) → Halts Ends trees (name ∷ rest) (dirs_of (opened es (parts cs))) (dirs_of (opened es (parts cs))) (e.id ∷ []) (Some e.id)
-none_found Ends trees name rest es cs level none e entry tree free filled = in_vain name rest (dirs_of (opened es (parts cs))) e entry tree free (λ at. at_name es (parts cs) name at level.apart ∙ none at) filled
+    → (IsEmptyId e.id → ⊥) → Halts Ends trees (name ∷ rest) (dirs_of (opened es [] (parts cs))) (dirs_of (opened es [] (parts cs))) (e.id ∷ []) (Some e.id)
+none_found Ends trees name rest es cs level none e entry tree free filled = in_vain name rest (dirs_of (opened es [] (parts cs))) e entry tree free (λ at. at_name es [] (parts cs) name at level.apart ∙ none at) filled
 
 -- and so does what open directories are
 abbrev pub StaysOpened : Path → Dirs → Dirs → List ObjectId → Type 0
@@ -225,5 +225,5 @@ stays_down name rest dirs inner e entries asked has named is below = λ all. ope
 pub stays_in : GoesIn IsFormedList StaysOpened
 stays_in name rest dirs inner e entries first asked entry tree none formed below = λ all. opened_with_dir name inner dirs (below (opened_only entries formed)) all (e, entry.0, entry.1, tree)
 
-pub still_opened : (es : List EntryView) (ds : Opened) (cs new : List Child) → opened es (parts cs) ≡ ds → new ≡ cs → IsOpened (dirs_of ds) → IsOpened (dirs_of (opened es (parts new)))
-still_opened es ds cs new view same all = subst (λ (d : Opened). IsOpened (dirs_of d)) (sym (ap (λ (l : List Child). opened es (parts l)) same ∙ view)) all
+pub still_opened : (es : List EntryView) (ds : Opened) (cs new : List Child) {base : List EntryView} → opened es base (parts cs) ≡ ds → new ≡ cs → IsOpened (dirs_of ds) → IsOpened (dirs_of (opened es [] (parts new)))
+still_opened es ds cs new {base} view same all = subst (λ (d : Opened). IsOpened (dirs_of d)) (sym (ap (λ (l : List Child). opened es base (parts l)) same ∙ view)) all

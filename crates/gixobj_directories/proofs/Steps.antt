@@ -14,10 +14,10 @@ use Rattle.gixobj_directories.specs.Calls.{names_of}
 use Rattle.gixobj_files.specs.Editing.{same_name, with_entry, without}
 use Rattle.gixobj_files.specs.Edits.{assured_dirs, entry_at, or_empty, removed_dirs, upserted_dirs, with_dir, with_directory, with_path}
 use Rattle.gixobj_files.specs.Files.{Path}
-use Rattle.gixobj_directories.specs.Nested.{Opened, Part, dirs_of, in_part, opened, parts}
+use Rattle.gixobj_directories.specs.Nested.{Opened, Part, base_side, bases_in, bases_of, dirs_of, in_part, opened, parts}
 use Rattle.gixobj_files.specs.Opening.{Dirs, in_dir}
 use Rattle.gixobj_directories.specs.declared.open.Child.{Child}
-use Rattle.gixobj_directories.proofs.Levels.{Becomes, at_name, called, found, level_at, level_root, not_found}
+use Rattle.gixobj_directories.proofs.Levels.{Becomes, at_name, based_at, called, found, found_by, level_at, level_root, not_found}
 
 -- a path of one name, and one of more
 pub one_left : (path : List BString) (name : BString) (rest : List BString) → path ≡ name ∷ rest → true ≡ (length rest == 0) → names_of path ≡ bstring_bytes name ∷ []
@@ -35,45 +35,48 @@ more_left path name [] is end = absurd (true≢false (sym end))
 more_left path name (next ∷ rest) is end = record { next = bstring_bytes next; after = names_of rest; rest_is = refl; path_is = ap names_of is }
 
 -- the directories in a name, as a function
-pub in_dir_is : (ds : Opened) (es : List EntryView) (ps : List Part) → opened es ps ≡ ds → EachLater (λ x y. x.0 ≢ y.0) ps → (name : List ℕ) → in_dir name (dirs_of ds) ≡ in_part name ps
+pub in_dir_is : (ds : Opened) (es : List EntryView) (ps : List Part) {base : List EntryView} → opened es base ps ≡ ds → EachLater (λ x y. x.0 ≢ y.0) ps → (name : List ℕ) → in_dir name (dirs_of ds) ≡ in_part name ps
 in_dir_is ds es ps is apart name = λ i path. level_at ds es ps is apart name path i
 
-module _ (old : Opened) (es es' : List EntryView) (ps ps' : List Part) (view : opened es ps ≡ old) (apart : EachLater (λ x y. x.0 ≢ y.0) ps) (apart' : EachLater (λ x y. x.0 ≢ y.0) ps') (name : List ℕ) (next : Dirs) (becomes : Becomes name next ps ps') where
-  -- at another path than the directory's own
-  elsewhere : (first : List ℕ) (path : Path) → dirs_of (opened es' ps') (first ∷ path) ≡ cond (same_name name first) (next path) (dirs_of old (first ∷ path))
-  elsewhere first path = at_name es' ps' first path apart' ∙ becomes.says first path ∙ ap (λ o. cond (same_name name first) (next path) o) (sym (level_at old es ps view apart first path))
+pub in_dir_based : (ds : Opened) (es : List EntryView) (ps : List Part) {base : List EntryView} → opened es base ps ≡ ds → EachLater (λ x y. x.0 ≢ y.0) ps → (name : List ℕ) → in_dir name (bases_of ds) ≡ bases_in name ps
+in_dir_based ds es ps is apart name = λ i path. based_at ds es ps is apart name path i
 
-  pub put_last : (mode : ℕ) (id null : ObjectId) → es' ≡ with_entry (record { mode = mode; name = name; id = id }) es → ((path : Path) → next path ≡ None) → (at : Path) → dirs_of (opened es' ps') at ≡ upserted_dirs (name ∷ []) mode id null (dirs_of old) at
+module _ (old : Opened) (es es' : List EntryView) (ps ps' : List Part) {base : List EntryView} (view : opened es base ps ≡ old) (apart : EachLater (λ x y. x.0 ≢ y.0) ps) (apart' : EachLater (λ x y. x.0 ≢ y.0) ps') (name : List ℕ) (next : Dirs) (becomes : Becomes name next ps ps') where
+  -- at another path than the directory's own
+  elsewhere : (first : List ℕ) (path : Path) → dirs_of (opened es' [] ps') (first ∷ path) ≡ cond (same_name name first) (next path) (dirs_of old (first ∷ path))
+  elsewhere first path = at_name es' [] ps' first path apart' ∙ becomes.says first path ∙ ap (λ o. cond (same_name name first) (next path) o) (sym (level_at old es ps view apart first path))
+
+  pub put_last : (mode : ℕ) (id null : ObjectId) → es' ≡ with_entry (record { mode = mode; name = name; id = id }) es → ((path : Path) → next path ≡ None) → (at : Path) → dirs_of (opened es' [] ps') at ≡ upserted_dirs (name ∷ []) mode id null (dirs_of old) at
   put_last mode id null is gone [] = ap Some is ∙ ap (λ o. Some (with_entry (record { mode = mode; name = name; id = id }) (or_empty o))) (sym (level_root old es ps view))
   put_last mode id null is gone (first ∷ path) = elsewhere first path ∙ ap (λ o. cond (same_name name first) o (dirs_of old (first ∷ path))) (gone path)
 
   pub put_deeper : (second : List ℕ) (rest : Path) (mode : ℕ) (id null : ObjectId) → es' ≡ with_directory name null es → ((path : Path) → next path ≡ upserted_dirs (second ∷ rest) mode id null (in_part name ps) path)
-      → (at : Path) → dirs_of (opened es' ps') at ≡ upserted_dirs (name ∷ second ∷ rest) mode id null (dirs_of old) at
+      → (at : Path) → dirs_of (opened es' [] ps') at ≡ upserted_dirs (name ∷ second ∷ rest) mode id null (dirs_of old) at
   put_deeper second rest mode id null is below [] = ap Some is ∙ ap (λ o. Some (with_directory name null (or_empty o))) (sym (level_root old es ps view))
   put_deeper second rest mode id null is below (first ∷ path) =
       elsewhere first path ∙ ap (λ o. cond (same_name name first) o (dirs_of old (first ∷ path))) (below path ∙ ap (λ (d : Dirs). upserted_dirs (second ∷ rest) mode id null d path) (sym (in_dir_is old es ps view apart name)))
 
-  pub assured_deeper : (rest : Path) (null : ObjectId) → es' ≡ with_directory name null es → ((path : Path) → next path ≡ assured_dirs rest null (in_part name ps) path) → (at : Path) → dirs_of (opened es' ps') at ≡ assured_dirs (name ∷ rest) null (dirs_of old) at
+  pub assured_deeper : (rest : Path) (null : ObjectId) → es' ≡ with_directory name null es → ((path : Path) → next path ≡ assured_dirs rest null (in_part name ps) path) → (at : Path) → dirs_of (opened es' [] ps') at ≡ assured_dirs (name ∷ rest) null (dirs_of old) at
   assured_deeper rest null is below [] = ap Some is ∙ ap (λ o. Some (with_directory name null (or_empty o))) (sym (level_root old es ps view))
   assured_deeper rest null is below (first ∷ path) =
       elsewhere first path ∙ ap (λ o. cond (same_name name first) o (dirs_of old (first ∷ path))) (below path ∙ ap (λ (d : Dirs). assured_dirs rest null d path) (sym (in_dir_is old es ps view apart name)))
 
-  pub taken_last : es' ≡ without name es → ((path : Path) → next path ≡ None) → (at : Path) → dirs_of (opened es' ps') at ≡ removed_dirs (name ∷ []) (dirs_of old) at
+  pub taken_last : es' ≡ without name es → ((path : Path) → next path ≡ None) → (at : Path) → dirs_of (opened es' [] ps') at ≡ removed_dirs (name ∷ []) (dirs_of old) at
   taken_last is gone [] = ap Some is ∙ ap (option_map (without name)) (sym (level_root old es ps view))
   taken_last is gone (first ∷ path) = elsewhere first path ∙ ap (λ o. cond (same_name name first) o (dirs_of old (first ∷ path))) (gone path)
 
-  pub taken_deeper : (second : List ℕ) (rest : Path) → es' ≡ es → ((path : Path) → next path ≡ removed_dirs (second ∷ rest) (in_part name ps) path) → (at : Path) → dirs_of (opened es' ps') at ≡ removed_dirs (name ∷ second ∷ rest) (dirs_of old) at
+  pub taken_deeper : (second : List ℕ) (rest : Path) → es' ≡ es → ((path : Path) → next path ≡ removed_dirs (second ∷ rest) (in_part name ps) path) → (at : Path) → dirs_of (opened es' [] ps') at ≡ removed_dirs (name ∷ second ∷ rest) (dirs_of old) at
   taken_deeper second rest is below [] = ap Some is ∙ sym (level_root old es ps view)
   taken_deeper second rest is below (first ∷ path) =
       elsewhere first path ∙ ap (λ o. cond (same_name name first) o (dirs_of old (first ∷ path))) (below path ∙ ap (λ (d : Dirs). removed_dirs (second ∷ rest) d path) (sym (in_dir_is old es ps view apart name)))
 
-  pub written_deeper : (rest : Path) (inner : Dirs) → es' ≡ es → ((path : Path) → next path ≡ with_path rest inner (in_part name ps) path) → (at : Path) → dirs_of (opened es' ps') at ≡ with_path (name ∷ rest) inner (dirs_of old) at
+  pub written_deeper : (rest : Path) (inner : Dirs) → es' ≡ es → ((path : Path) → next path ≡ with_path rest inner (in_part name ps) path) → (at : Path) → dirs_of (opened es' [] ps') at ≡ with_path (name ∷ rest) inner (dirs_of old) at
   written_deeper rest inner is below [] = ap Some is ∙ sym (level_root old es ps view)
   written_deeper rest inner is below (first ∷ path) =
       elsewhere first path ∙ ap (λ o. cond (same_name name first) o (dirs_of old (first ∷ path))) (below path ∙ ap (λ (d : Dirs). with_path rest inner d path) (sym (in_dir_is old es ps view apart name)))
 
   -- the directories of one name are replaced
-  pub replaced : es' ≡ es → (at : Path) → dirs_of (opened es' ps') at ≡ with_dir name next (dirs_of old) at
+  pub replaced : es' ≡ es → (at : Path) → dirs_of (opened es' [] ps') at ≡ with_dir name next (dirs_of old) at
   replaced is [] = ap Some is ∙ sym (level_root old es ps view)
   replaced is (first ∷ path) = elsewhere first path
 
@@ -87,7 +90,7 @@ removed_none (name ∷ next ∷ rest) dirs none (first ∷ at) =
     elim (same_name name first) as (λ b. cond b (removed_dirs (next ∷ rest) (in_dir name dirs) at) (dirs (first ∷ at)) ≡ None) [ true ↦ removed_none (next ∷ rest) (in_dir name dirs) (λ q. none (name ∷ q)) at | false ↦ none (first ∷ at) ]
 
 -- a removal below a name that isn't open changes nothing
-pub taken_nothing : (old : Opened) (es : List EntryView) (ps : List Part) → opened es ps ≡ old → EachLater (λ x y. x.0 ≢ y.0) ps → (name second : List ℕ) (rest : Path) → ((path : Path) → in_part name ps path ≡ None)
+pub taken_nothing : (old : Opened) (es : List EntryView) (ps : List Part) {base : List EntryView} → opened es base ps ≡ old → EachLater (λ x y. x.0 ≢ y.0) ps → (name second : List ℕ) (rest : Path) → ((path : Path) → in_part name ps path ≡ None)
     → (at : Path) → dirs_of old at ≡ removed_dirs (name ∷ second ∷ rest) (dirs_of old) at
 taken_nothing old es ps view apart name second rest none [] = refl
 taken_nothing old es ps view apart name second rest none (first ∷ at) =
@@ -98,7 +101,7 @@ taken_nothing old es ps view apart name second rest none (first ∷ at) =
     ] refl
 
 -- the entry at a path of more names
-pub entry_deeper : (old : Opened) (es : List EntryView) (ps : List Part) → opened es ps ≡ old → EachLater (λ x y. x.0 ≢ y.0) ps → (name second : List ℕ) (rest : Path) (dirs : Dirs) → ((path : Path) → in_part name ps path ≡ dirs path)
+pub entry_deeper : (old : Opened) (es : List EntryView) (ps : List Part) {base : List EntryView} → opened es base ps ≡ old → EachLater (λ x y. x.0 ≢ y.0) ps → (name second : List ℕ) (rest : Path) (dirs : Dirs) → ((path : Path) → in_part name ps path ≡ dirs path)
     → entry_at (name ∷ second ∷ rest) (dirs_of old) ≡ entry_at (second ∷ rest) dirs
 entry_deeper old es ps view apart name second rest dirs is =
     let same : in_part name ps ≡ dirs = λ i path. is path i in
@@ -110,27 +113,30 @@ entry_none (name ∷ []) = refl
 entry_none (name ∷ next ∷ rest) = entry_none (next ∷ rest)
 
 -- an upsert where nothing is open, and in an empty open directory
-pub fresh : (name : List ℕ) (path : Path) (mode : ℕ) (id null : ObjectId) (at : Path) → upserted_dirs (name ∷ path) mode id null (dirs_of (opened [] [])) at ≡ upserted_dirs (name ∷ path) mode id null (λ _. None) at
+pub fresh : (name : List ℕ) (path : Path) (mode : ℕ) (id null : ObjectId) (at : Path) → upserted_dirs (name ∷ path) mode id null (dirs_of (opened [] [] [])) at ≡ upserted_dirs (name ∷ path) mode id null (λ _. None) at
 fresh name [] mode id null [] = refl
 fresh name [] mode id null (first ∷ at) = refl
 fresh name (next ∷ rest) mode id null [] = refl
 fresh name (next ∷ rest) mode id null (first ∷ at) = refl
 
 -- a directory assured where it is open, in an empty open directory, and where nothing is open
-pub assured_here : (old : Opened) (es : List EntryView) (ps : List Part) → opened es ps ≡ old → (null : ObjectId) (at : Path) → dirs_of old at ≡ assured_dirs [] null (dirs_of old) at
+pub assured_here : (old : Opened) (es : List EntryView) (ps : List Part) {base : List EntryView} → opened es base ps ≡ old → (null : ObjectId) (at : Path) → dirs_of old at ≡ assured_dirs [] null (dirs_of old) at
 assured_here old es ps view null [] = let root : dirs_of old [] ≡ Some es = level_root old es ps view in root ∙ ap (λ o. Some (or_empty o)) (sym root)
 assured_here old es ps view null (first ∷ at) = refl
 
-pub assured_fresh : (path : Path) (null : ObjectId) (at : Path) → assured_dirs path null (dirs_of (opened [] [])) at ≡ assured_dirs path null (λ _. None) at
+pub assured_fresh : (path : Path) (null : ObjectId) (at : Path) → assured_dirs path null (dirs_of (opened [] [] [])) at ≡ assured_dirs path null (λ _. None) at
 assured_fresh [] null [] = refl
 assured_fresh [] null (first ∷ at) = refl
 assured_fresh (name ∷ rest) null [] = refl
 assured_fresh (name ∷ rest) null (first ∷ at) = refl
 
 -- where a search for the first name of a path ended: what is open at and below the path
-module _ (old : Opened) (es : List EntryView) (cs l : List Child) (view : opened es (parts cs) ≡ old) (apart : EachLater (λ x y. x.0 ≢ y.0) (parts cs)) (path : Path) (name : List ℕ) (rest : Path) (path_is : path ≡ name ∷ rest) (same : l ≡ cs) where
+module _ (old : Opened) (es : List EntryView) (cs l : List Child) {base : List EntryView} (view : opened es base (parts cs) ≡ old) (apart : EachLater (λ x y. x.0 ≢ y.0) (parts cs)) (path : Path) (name : List ℕ) (rest : Path) (path_is : path ≡ name ∷ rest) (same : l ≡ cs) where
   pub path_down : (i : ℕ) (child : Child) → Some i ≡ position (called name) l → child ≡ get_or cs i child → (at : Path) → dirs_of old (path ++ at) ≡ dirs_of child.open (rest ++ at)
   path_down i child found_at is at = rw path_is (level_at old es (parts cs) view apart name (rest ++ at) ∙ found name cs l i child same found_at is (rest ++ at))
+
+  pub path_based : (i : ℕ) (child : Child) → Some i ≡ position (called name) l → child ≡ get_or cs i child → (at : Path) → bases_of old (path ++ at) ≡ bases_of child.open (rest ++ at)
+  path_based i child found_at is at = rw path_is (based_at old es (parts cs) view apart name (rest ++ at) ∙ found_by base_side name cs l i child same found_at is (rest ++ at))
 
   pub place_down : (i : ℕ) (child : Child) → Some i ≡ position (called name) l → child ≡ get_or cs i child → dirs_of old path ≡ dirs_of child.open rest
   place_down i child found_at is = rw path_is (level_at old es (parts cs) view apart name rest ∙ found name cs l i child same found_at is rest)

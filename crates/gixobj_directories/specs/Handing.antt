@@ -1,19 +1,25 @@
 -- How a write goes through open directories: what one entry hands out, and where a write stops.
-use Rattle.std.specs.Prelude.{◌≡◌, List, ◌∷◌, ◌++◌}
+use Rattle.std.specs.Prelude.{◌≡◌, ◌+◌, ℕ, List, [], ◌∷◌, ◌++◌, Option, Some, None}
 use Rattle.std.specs.List.{FoldsTo}
 use Rattle.gixobj_trees.specs.Entries.{EntryView}
 use Rattle.gixobj_ids.specs.declared.hash.object_id.ObjectId.{ObjectId}
-use Rattle.gixobj_files.specs.HandingOut.{Walks}
+use Rattle.gixobj_files.specs.HandingOut.{Walks, entry_with}
 use Rattle.gixobj_files.specs.Tables.{Pair}
 use Rattle.gixobj_files.specs.Opening.{Dirs, in_dir}
 use Rattle.gixobj_directories.specs.declared.write.WriteError.{WriteError}
 use Rattle.gixobj_directories.specs.declared.write.WriteError.TheVariants as write
 
--- the entry hands these pairs out and leaves these entries, whatever comes behind it; the directories are those in it
-abbrev pub Visits : Dirs → EntryView → List Pair → List EntryView → Type 0
-Visits inside e inner kept =
-    (dirs : Dirs) → in_dir e.name dirs ≡ inside → (entries : List EntryView) (below : List Pair) (own : List EntryView) → Walks dirs entries below own
-    → Walks dirs (e ∷ entries) (inner ++ below) (kept ++ own)
+-- the entry hands these pairs out and leaves these entries, with so many unchanged directories at and below it, whatever comes behind it;
+-- the directories and the bases are those in it
+abbrev pub Visits : Dirs → Dirs → EntryView → List Pair → List EntryView → ℕ → Type 0
+Visits inside based e inner kept saved =
+    (dirs bases : Dirs) → in_dir e.name dirs ≡ inside → in_dir e.name bases ≡ based → (entries : List EntryView) (below : List Pair) (own : List EntryView) (more : ℕ) → Walks dirs bases entries below own more
+    → Walks dirs bases (e ∷ entries) (inner ++ below) (kept ++ own) (saved + more)
+
+-- what is kept of an entry that gets this id, or none
+abbrev pub kept_with : EntryView → Option ObjectId → List EntryView
+kept_with e None = []
+kept_with e (Some id) = entry_with e id
 
 -- a write stopped: calls were answered for the first pairs of what goes out, and then one was refused, or memory was wanting
 abbrev pub Stopped : {F E : Type 0} → (F → Pair → F → Type 0) → (F → List EntryView → E → F → Type 0) → (List Pair → Type 0) → F → F → WriteError E → Type 0

@@ -1,4 +1,4 @@
--- Nested open directories as one list: each open path with its entries, from the top.
+-- Nested open directories as one list: each open path with its entries and its base, from the top.
 use Rattle.std.specs.Prelude.{◌≡◌, ◌≢◌, ℕ, true, not, List, [], ◌∷◌, ◌++◌, map, length, None, if◌then◌else◌}
 use Rattle.std.proofs.Common.{arith}
 use Rattle.std.specs.List.{AllByRecursion, filter}
@@ -12,8 +12,12 @@ use Rattle.gixobj_files.specs.Files.{Path}
 use Rattle.gixobj_files.specs.Opening.{Dirs}
 use Rattle.gixobj_directories.specs.declared.open.Child.{Child}
 
+-- the entries of an open directory, and its base
+abbrev pub Level : Type 0
+Level = List EntryView × List EntryView
+
 abbrev pub Opened : Type 0
-Opened = List (Path × List EntryView)
+Opened = List (Path × Level)
 
 -- the same, with a name in front of each path
 abbrev pub under : List ℕ → Opened → Opened
@@ -35,12 +39,29 @@ below [] = []
 below (p ∷ ps) = under p.0 p.1 ++ below ps
 
 -- what is open at and below a directory
-abbrev pub opened : List EntryView → List Part → Opened
-opened entries ps = ([], entries) ∷ below ps
+abbrev pub opened : List EntryView → List EntryView → List Part → Opened
+opened entries base ps = ([], (entries, base)) ∷ below ps
 
--- the entries of each open directory
+-- one of the lists of each open directory
+abbrev pub side_list : (Level → List EntryView) → Opened → List (Path × List EntryView)
+side_list side [] = []
+side_list side (d ∷ ds) = (d.0, side d.1) ∷ side_list side ds
+
+abbrev pub at_side : (Level → List EntryView) → Opened → Dirs
+at_side side ds = λ path. find (slice_cmp (slice_cmp nat_cmp)) path (side_list side ds)
+
+-- the entries of each open directory, and its base
+abbrev pub entries_side : Level → List EntryView
+entries_side level = level.0
+
+abbrev pub base_side : Level → List EntryView
+base_side level = level.1
+
 abbrev pub dirs_of : Opened → Dirs
-dirs_of ds = λ path. find (slice_cmp (slice_cmp nat_cmp)) path ds
+dirs_of ds = at_side entries_side ds
+
+abbrev pub bases_of : Opened → Dirs
+bases_of ds = at_side base_side ds
 
 -- one level: its tree is well-formed, and each open directory in it has a name of its own, that of a tree's entry
 pub record IsLevel (entries : List EntryView) (ps : List Part) : Type 0 where
@@ -53,9 +74,15 @@ length-under name [] = omega arith
 length-under name (d ∷ ds) = omega (arith, length-under name ds)
 
 -- what is open in the directory of a name
+abbrev pub part_at : (Level → List EntryView) → List ℕ → List Part → Dirs
+part_at side name [] path = None
+part_at side name (p ∷ ps) path = if same_name p.0 name then at_side side p.1 path else part_at side name ps path
+
 abbrev pub in_part : List ℕ → List Part → Dirs
-in_part name [] path = None
-in_part name (p ∷ ps) path = if same_name p.0 name then dirs_of p.1 path else in_part name ps path
+in_part name ps = part_at entries_side name ps
+
+abbrev pub bases_in : List ℕ → List Part → Dirs
+bases_in name ps = part_at base_side name ps
 
 -- the directories of other names
 abbrev pub other_parts : List ℕ → List Part → List Part

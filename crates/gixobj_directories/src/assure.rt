@@ -5,7 +5,8 @@ ghost use Rattle.gixobj_trees.specs.Entries.{IsEntryName};
 ghost use Rattle.gixobj_files.specs.Edits.{assured_dirs};
 ghost use Rattle.gixobj_files.specs.Files.{Path};
 ghost use Rattle.gixobj_directories.specs.Calls.{names_of};
-ghost use Rattle.gixobj_directories.specs.Nested.{dirs_of};
+ghost use Rattle.gixobj_directories.specs.Nested.{bases_of, dirs_of};
+ghost use Rattle.gixobj_files.specs.Bases.{edited_bases};
 
 use crate::open::{Open, add_directory, child_at};
 use bstr::BString;
@@ -28,6 +29,7 @@ impl Open {
     ) -> Result<(), AllocError>
         requires { AllByRecursion IsEntryName (names_of path.now) }
         ensures ok { OnOk result ((at : Path) → dirs_of self.new at ≡ assured_dirs (names_of path.now) null (dirs_of self.old) at) }
+        ensures bases { OnOk result ((at : Path) → bases_of self.new at ≡ edited_bases (dirs_of self.old) (dirs_of self.new) (bases_of self.old) at) }
         ensures unchanged { OnErr result (self.new ≡ self.old) }
         ensures shut { OnErr result (dirs_of self.old (names_of path.now) ≡ None) }
     {

@@ -105,6 +105,19 @@ fn is_kept(entry: &Entry) -> bool
     !entry.oid.is_null()
 }
 
+/// Copies of the entries, with names of their own.
+///
+/// It takes memory for the list and for each name, and fails only where that is wanting.
+pub(crate) fn copies(alloc: Global, entries: &[Entry]) -> Result<Vec<Entry>, AllocError>
+    ensures { IfOk result (λ copied. copied.items ≡ entries.now) }
+{
+    let mut copied = Vec::new(alloc);
+    for entry in entries {
+        copied.push(copy(alloc, entry)?)?;
+    }
+    Ok(copied)
+}
+
 /// A copy of the entry, with a name of its own.
 ///
 /// It fails only where there is no memory for the name.

@@ -6,4 +6,5 @@ pub mod entries;
 pub mod laws;
 pub mod open;
 pub mod opening;
+mod own_tree;
 pub mod write;

@@ -9,9 +9,10 @@ ghost use Rattle.gixobj_files.specs.Editing.{has_tree, same_name, with_entry, wi
 ghost use Rattle.gixobj_files.specs.Edits.{IsEntryOf, entry_at, removed_dirs, upserted_dirs, with_directory};
 ghost use Rattle.gixobj_files.specs.Files.{Has, Path};
 ghost use Rattle.gixobj_directories.specs.Calls.{names_of};
-ghost use Rattle.gixobj_directories.specs.Nested.{dirs_of, opened, other_parts, parts};
+ghost use Rattle.gixobj_directories.specs.Nested.{bases_of, dirs_of, opened, other_parts, parts};
+ghost use Rattle.gixobj_files.specs.Bases.{edited_bases};
 
-use crate::entries::{copy, put, take_out};
+use crate::entries::{copies, put, take_out};
 use bstr::BString;
 use gixobj_ids::hash::ObjectId;
 use gixobj_trees::Tree;
@@ -19,15 +20,16 @@ use gixobj_trees::tree::{Entry, EntryKind, EntryMode};
 use std::alloc::{AllocError, Global};
 use std::marker::Model;
 
-/// An open directory: its tree, and the open directories in it.
+/// An open directory: its tree, the tree that it was opened with, and the open directories in it.
 ///
-/// In contracts it is the list of the open paths, each with the entries of its directory; its own path,
-/// without names, is the first. Its tree is well-formed, and each open directory in it has a name of its
-/// own, that of a tree's entry. A path is a list of names.
+/// In contracts it is the list of the open paths, each with the entries of its directory and its base, the
+/// entries that it was opened with; its own path, without names, is the first. Its tree is well-formed, and
+/// each open directory in it has a name of its own, that of a tree's entry. A path is a list of names.
 #[cycle(open)]
 #[derive(Drop)]
 pub struct Open {
     pub(crate) tree: Tree,
+    pub(crate) base: Tree,
     pub(crate) children: Vec<Child>,
 }
 
@@ -43,11 +45,11 @@ impl Model for Open {
     ghost use Rattle.std.specs.Prelude.{List, ℕ, ◌∷◌, [], length};
     ghost use Rattle.gixobj_trees.specs.Entries.{EntryView};
 
-    ghost Value = { List (List (List ℕ) × List EntryView) };
+    ghost Value = { List (List (List ℕ) × (List EntryView × List EntryView)) };
 
     ghost use Rattle.gixobj_directories.specs.Nested.{IsLevel, opened, parts};
 
-    ghost view = { λ a. opened a.tree (parts a.children.items) };
+    ghost view = { λ a. opened a.tree a.base (parts a.children.items) };
 
     ghost invariant = { λ a. IsLevel a.tree (parts a.children.items) };
 
@@ -73,16 +75,25 @@ fn is_named(child: &Child, name: &BString) -> bool
 }
 
 impl Open {
-    /// A directory of this tree, with nothing open in it.
+    /// A directory of this tree, with nothing open in it, and the empty base.
     ///
     /// The tree must be well-formed, as [`Tree::is_well_formed`] tells. It takes no memory: `alloc` is only
     /// kept with the directories that are opened in it.
     pub fn new(alloc: Global, tree: Tree) -> Open
         requires { IsWellFormed tree }
-        ensures { result ≡ opened tree [] }
+        ensures { result ≡ opened tree [] [] }
+    {
+        Open::with_base(alloc, tree, Tree::empty(alloc))
+    }
+
+    /// As [`Open::new`], with a base.
+    pub(crate) fn with_base(alloc: Global, tree: Tree, base: Tree) -> Open
+        requires { IsWellFormed tree }
+        ensures { result ≡ opened tree base [] }
     {
         Open {
             tree,
+            base,
             children: Vec::new(alloc),
         }
     }
@@ -164,6 +175,7 @@ impl Open {
     ) -> Result<(), AllocError>
         requires { AllByRecursion IsEntryName (names_of path.now) }
         ensures ok { OnOk result ((at : Path) → dirs_of self.new at ≡ upserted_dirs (names_of path.now) (mode_bits mode) id null (dirs_of self.old) at) }
+        ensures bases { OnOk result ((at : Path) → bases_of self.new at ≡ edited_bases (dirs_of self.old) (dirs_of self.new) (bases_of self.old) at) }
         ensures unchanged { OnErr result (self.new ≡ self.old) }
     {
         let Some((name, rest)) = path.split_first() else {
@@ -189,7 +201,8 @@ impl Open {
     ///
     /// It takes no memory.
     pub fn take(&mut self, path: &[BString])
-        ensures { (at : Path) → dirs_of self.new at ≡ removed_dirs (names_of path.now) (dirs_of self.old) at }
+        ensures dirs { (at : Path) → dirs_of self.new at ≡ removed_dirs (names_of path.now) (dirs_of self.old) at }
+        ensures bases { (at : Path) → bases_of self.new at ≡ edited_bases (dirs_of self.old) (dirs_of self.new) (bases_of self.old) at }
     {
         let Some((name, rest)) = path.split_first() else {
             return;
@@ -215,13 +228,18 @@ impl Open {
         ensures { IfOk result (λ it. it ≡ self.now) }
     {
         let tree = copy_tree(alloc, &self.tree)?;
+        let base = copy_tree(alloc, &self.base)?;
         let mut children = Vec::new(alloc);
         for child in &self.children {
             let name = BString::from_slice(alloc, child.name.as_bytes())?;
             let inner = child.open.copy(alloc)?;
             children.push(Child { name, open: inner })?;
         }
-        Ok(Open { tree, children })
+        Ok(Open {
+            tree,
+            base,
+            children,
+        })
     }
 }
 
@@ -229,10 +247,7 @@ impl Open {
 pub(crate) fn copy_tree(alloc: Global, tree: &Tree) -> Result<Tree, AllocError>
     ensures { IfOk result (λ it. it ≡ tree.now) }
 {
-    let mut entries = Vec::new(alloc);
-    for entry in &tree.entries {
-        entries.push(copy(alloc, entry)?)?;
-    }
+    let entries = copies(alloc, &tree.entries)?;
     Ok(Tree { entries })
 }
 

@@ -4,17 +4,18 @@ ghost use Rattle.bstr.specs.Owned.{bstring_bytes};
 ghost use Rattle.gixobj_trees.specs.Entries.{EntryView, IsWellFormed};
 ghost use Rattle.gixobj_trees.specs.Mode.{is_tree_mode};
 ghost use Rattle.gixobj_files.specs.Edits.{Finds, IsEntryOf, Opens, counted};
-ghost use Rattle.gixobj_files.specs.Files.{Has, Trees};
+ghost use Rattle.gixobj_files.specs.Files.{Has, Path, Trees};
 ghost use Rattle.gixobj_files.specs.Halting.{Halts};
 ghost use Rattle.gixobj_files.specs.Opening.{IsOpened};
 ghost use Rattle.gixobj_files.specs.Tables.{IsEmptyId};
 ghost use Rattle.gixobj_ids.specs.declared.hash.object_id.ObjectId.{ObjectId};
 ghost use Rattle.gixobj_directories.specs.Calls.{names_of};
-ghost use Rattle.gixobj_directories.specs.Nested.{dirs_of};
+ghost use Rattle.gixobj_files.specs.Bases.{opened_bases};
+ghost use Rattle.gixobj_directories.specs.Nested.{bases_of, dirs_of};
 ghost use Rattle.gixobj_directories.specs.Openings.{AreTreesOf, EndsBefore, NamesTree, RefusesAt, RefusesDirectory};
 ghost use Rattle.gixobj_directories.specs.declared.opening.Unasked.TheVariants.{Left};
 
-use crate::open::{Open, child_at, push_child, room_for, tree_id};
+use crate::open::{Open, child_at, copy_tree, push_child, room_for, tree_id};
 use bstr::BString;
 use gixobj_data::{Find, find};
 use gixobj_ids::hash::ObjectId;
@@ -132,19 +133,37 @@ fn find_directory<S: Find>(alloc: Global, store: &S, id: ObjectId) -> Result<Tre
     Ok(tree)
 }
 
-/// The tree that a directory of this id is opened as: empty for the null id and that of the empty tree, for
-/// which the store isn't asked. Each question is counted.
-fn load<S: Find>(alloc: Global, store: &S, id: ObjectId, lookups: &mut u64) -> Result<Tree, Error>
-    ensures well_formed { IfOk result IsWellFormed }
-    ensures found { IfOk result (λ tree. (trees : Trees) → AreTreesOf (S.objects store.now) trees → (asked : List ObjectId) × Finds trees id tree asked × (lookups.new ≡ counted lookups.old asked)) }
+/// The tree that a store has by an id, and a copy of it.
+fn find_copied<S: Find>(alloc: Global, store: &S, id: ObjectId) -> Result<(Tree, Tree), Error>
+    requires { IsEmptyId id → ⊥ }
+    ensures found { IfOk result (λ it. NamesTree (S.objects store.now) id it.0) }
+    ensures copied { IfOk result (λ it. it.1 ≡ it.0) }
+    ensures refusal { IfErr result (RefusesDirectory (S.objects store.now) (S.may_fail store.now) id) }
+{
+    let tree = find_directory(alloc, store, id)?;
+    let copied = copy_tree(alloc, &tree)?;
+    Ok((tree, copied))
+}
+
+/// The tree that a directory of this id is opened as, and a copy of it: empty for the null id and that of the
+/// empty tree, for which the store isn't asked. Each question is counted.
+fn load<S: Find>(
+    alloc: Global,
+    store: &S,
+    id: ObjectId,
+    lookups: &mut u64,
+) -> Result<(Tree, Tree), Error>
+    ensures well_formed { IfOk result (λ it. IsWellFormed it.0) }
+    ensures copied { IfOk result (λ it. it.1 ≡ it.0) }
+    ensures found { IfOk result (λ it. (trees : Trees) → AreTreesOf (S.objects store.now) trees → (asked : List ObjectId) × Finds trees id it.0 asked × (lookups.new ≡ counted lookups.old asked)) }
     ensures asked { OnErr result ((IsEmptyId id → ⊥) × (lookups.new ≡ counted lookups.old (id ∷ []))) }
     ensures refusal { IfErr result (RefusesDirectory (S.objects store.now) (S.may_fail store.now) id) }
 {
     if is_unasked(id) {
-        return Ok(Tree::empty(alloc));
+        return Ok((Tree::empty(alloc), Tree::empty(alloc)));
     }
     *lookups = lookups.saturating_add(1);
-    find_directory(alloc, store, id)
+    find_copied(alloc, store, id)
 }
 
 impl Open {
@@ -168,6 +187,8 @@ impl Open {
         ensures halted { IfErr result (λ error. (trees : Trees) → AreTreesOf (S.objects store.now) trees → (asked : List ObjectId) × (vain : Option ObjectId) × Halts (EndsBefore unasked) trees (names_of path.now) (dirs_of self.old) (dirs_of self.new) asked vain
             × (lookups.new ≡ counted lookups.old asked) × RefusesAt (S.objects store.now) (S.may_fail store.now) vain error) }
         ensures still_opened { IsOpened (dirs_of self.old) → IsOpened (dirs_of self.new) }
+        ensures bases { (at : Path) → bases_of self.new at ≡ opened_bases (dirs_of self.old) (dirs_of self.new) (bases_of self.old) at }
+        ensures same_root { dirs_of self.new [] ≡ dirs_of self.old [] }
         ensures root { (entries : List EntryView) × (dirs_of self.old [] ≡ Some entries) }
     {
         let _ = &self.tree;
@@ -182,8 +203,8 @@ impl Open {
             return Ok(());
         };
         let own_name = room_for(alloc, &mut self.children, name)?;
-        let tree = load(alloc, store, id, lookups)?;
-        let mut inner = Open::new(alloc, tree);
+        let (tree, base) = load(alloc, store, id, lookups)?;
+        let mut inner = Open::with_base(alloc, tree, base);
         let opened = inner.open_along(alloc, rest, unasked, store, lookups);
         push_child(&mut self.children, own_name, inner);
         opened

@@ -1,20 +1,21 @@
 //! Open directories handed out, those in a directory before the directory itself.
-ghost use Rattle.std.specs.Prelude.{◌≡◌, ◌≢◌, ◌++◌, ◌∷◌, [], Err, IfErr, IfOk, List, None, Ok, OnErr, OnOk, ◌==◌, length};
+ghost use Rattle.std.specs.Prelude.{◌≡◌, ◌≢◌, ◌↔◌, ◌+◌, ◌++◌, ◌∷◌, [], ℕ, IsTrue, Some, Err, IfErr, IfOk, List, None, Ok, OnErr, OnOk, ◌==◌, length};
 ghost use Rattle.std.specs.Fn.{CalledAt};
 ghost use Rattle.std.specs.List.{FoldsTo};
 ghost use Rattle.gixobj_trees.specs.Entries.{EntryView};
-ghost use Rattle.gixobj_files.specs.Edits.{only, with_path};
+ghost use Rattle.gixobj_files.specs.Bases.{edited_bases};
+ghost use Rattle.gixobj_files.specs.Edits.{only, raised, with_path};
 ghost use Rattle.gixobj_files.specs.Files.{Path};
-ghost use Rattle.gixobj_files.specs.HandingOut.{HandsOut, Leaves, entry_with};
+ghost use Rattle.gixobj_files.specs.HandingOut.{HandsOutSome, Leaves, Saves, entry_with};
 ghost use Rattle.gixobj_files.specs.Opening.{in_path};
 ghost use Rattle.gixobj_files.specs.Tables.{Pair};
 ghost use Rattle.gixobj_directories.specs.Calls.{IsCallableOnTrees, IsStorable, names_of};
-ghost use Rattle.gixobj_directories.specs.Handing.{Stopped, Visits};
-ghost use Rattle.gixobj_directories.specs.Nested.{dirs_of, in_part, opened, parts};
-ghost use Rattle.gixobj_directories.specs.declared.write.WriteError.TheVariants.{OutOfMemory};
+ghost use Rattle.gixobj_directories.specs.Handing.{Stopped, Visits, kept_with};
+ghost use Rattle.gixobj_directories.specs.Nested.{bases_in, bases_of, dirs_of, in_part, opened, parts};
+ghost use Rattle.gixobj_directories.specs.OwnTrees.{IsBeside, so_far};
 
-use crate::entries::copy;
 use crate::open::{Child, Open, child_at, copy_tree};
+use crate::own_tree::OwnTree;
 use bstr::BString;
 use gixobj_ids::hash::ObjectId;
 use gixobj_trees::Tree;
@@ -22,13 +23,17 @@ use gixobj_trees::tree::Entry;
 use std::alloc::{AllocError, AllocFailed, Global};
 use std::fmt::Display;
 
-/// What a write handed out.
+/// What a write handed out: the changed trees, and that of the directory that was written.
 #[derive(Debug, Drop)]
 pub struct Written {
     /// The id of the directory that was written.
     pub id: ObjectId,
     /// Each tree with its id, in the order handed out; the directory's own is the last.
     pub trees: Vec<(ObjectId, Tree)>,
+    /// How many open directories below it have entries and weren't handed out, since their trees
+    /// are those that they were opened with. Their entries keep their ids. It stays at the
+    /// greatest `usize`.
+    pub saved: usize,
 }
 
 /// Why a write stopped. What is open is as it was.
@@ -63,28 +68,38 @@ impl<E, T: Drop> From<AllocFailed<T>> for WriteError<E> {
     }
 }
 
-/// Hands out what is open in a directory, and answers its own tree.
+/// Hands out what is open in a directory, and answers its own tree, which is made beside a base.
 #[cycle(walk)]
-pub(crate) fn leaves<E, F: FnMut(&Tree) -> Result<ObjectId, E>>(
+fn leaves<E, F: FnMut(&Tree) -> Result<ObjectId, E>>(
     alloc: Global,
     node: &Open,
+    base: &[Entry],
     out: &mut F,
     pairs: &mut Vec<(ObjectId, Tree)>,
-) -> Result<Tree, WriteError<E>>
+    saved: &mut usize,
+) -> Result<OwnTree, WriteError<E>>
     requires callable { IsCallableOnTrees F.pre (λ f p g. CalledAt F.FnMut f p.1 (Ok p.0) g) out.old }
-    ensures ok { IfOk result (λ own. (below : List Pair) × Leaves (dirs_of node.now) below own
-        × (pairs.new.items ≡ pairs.old.items ++ below) × FoldsTo (λ f p g. CalledAt F.FnMut f p.1 (Ok p.0) g) out.old below out.new) }
-    ensures storable { IfOk result IsStorable }
-    ensures stopped { IfErr result (Stopped (λ f p g. CalledAt F.FnMut f p.1 (Ok p.0) g) (λ f t e g. CalledAt F.FnMut f t (Err e) g) (λ ps. (own : List EntryView) × Leaves (dirs_of node.now) ps own) out.old out.new) }
+    ensures beside { IfOk result (IsBeside base.now) }
+    ensures ok { IfOk result (λ own. (below : List Pair) × (count : ℕ)
+        × Leaves (dirs_of node.now) (bases_of node.now) below (so_far base.now own) count
+        × (saved.new ≡ raised saved.old count) × (pairs.new.items ≡ pairs.old.items ++ below)
+        × FoldsTo (λ f p g. CalledAt F.FnMut f p.1 (Ok p.0) g) out.old below out.new) }
+    ensures storable { IfOk result (λ own. IsStorable (so_far base.now own)) }
+    ensures stopped { IfErr result (Stopped (λ f p g. CalledAt F.FnMut f p.1 (Ok p.0) g)
+        (λ f t e g. CalledAt F.FnMut f t (Err e) g)
+        (λ ps. (own : List EntryView) × (count : ℕ)
+        × Leaves (dirs_of node.now) (bases_of node.now) ps own count) out.old out.new) }
 {
-    let mut own = Vec::new(alloc);
+    let mut own = OwnTree::new();
     for entry in entries_of(&node.tree) {
-        visit(alloc, entry, &node.children, out, pairs, &mut own)?;
+        let id = visit(alloc, entry, &node.children, out, pairs, saved)?;
+        keep(alloc, &mut own, base, entry, id)?;
     }
-    Ok(Tree { entries: own })
+    Ok(own)
 }
 
-/// Hands out what is open at and below an entry, and adds the entry with its new id to the tree that is made.
+/// Hands out what is open at and below an entry, and answers the id that the entry gets. There is none
+/// where the directory's own tree is empty.
 #[cycle(walk)]
 fn visit<E, F: FnMut(&Tree) -> Result<ObjectId, E>>(
     alloc: Global,
@@ -92,27 +107,62 @@ fn visit<E, F: FnMut(&Tree) -> Result<ObjectId, E>>(
     children: &[Child],
     out: &mut F,
     pairs: &mut Vec<(ObjectId, Tree)>,
-    own: &mut Vec<Entry>,
-) -> Result<(), WriteError<E>>
+    saved: &mut usize,
+) -> Result<Option<ObjectId>, WriteError<E>>
     requires callable { IsCallableOnTrees F.pre (λ f p g. CalledAt F.FnMut f p.1 (Ok p.0) g) out.old }
-    ensures ok { OnOk result ((inner : List Pair) × (kept : List EntryView) × Visits (in_part entry.now.name (parts children.now)) entry.now inner kept
-        × (own.new.items ≡ own.old.items ++ kept) × (pairs.new.items ≡ pairs.old.items ++ inner)
+    ensures ok { IfOk result (λ id. (inner : List Pair) × (count : ℕ)
+        × Visits (in_part entry.now.name (parts children.now)) (bases_in entry.now.name (parts children.now))
+        entry.now inner (kept_with entry.now id) count
+        × (saved.new ≡ raised saved.old count) × (pairs.new.items ≡ pairs.old.items ++ inner)
         × FoldsTo (λ f p g. CalledAt F.FnMut f p.1 (Ok p.0) g) out.old inner out.new) }
-    ensures stopped { IfErr result (Stopped (λ f p g. CalledAt F.FnMut f p.1 (Ok p.0) g) (λ f t e g. CalledAt F.FnMut f t (Err e) g)
-        (λ inner. (kept : List EntryView) × Visits (in_part entry.now.name (parts children.now)) entry.now inner kept) out.old out.new) }
+    ensures stopped { IfErr result (Stopped (λ f p g. CalledAt F.FnMut f p.1 (Ok p.0) g)
+        (λ f t e g. CalledAt F.FnMut f t (Err e) g)
+        (λ inner. (kept : List EntryView) × (count : ℕ)
+        × Visits (in_part entry.now.name (parts children.now))
+        (bases_in entry.now.name (parts children.now)) entry.now inner kept count) out.old out.new) }
 {
     let Some(place) = child_at(children, &entry.filename) else {
-        keep(alloc, own, entry, entry.oid)?;
-        return Ok(());
+        return Ok(Some(entry.oid));
     };
     let child = &children[place];
-    let tree = leaves(alloc, &child.open, out, pairs)?;
-    if is_bare(&tree) {
-        return Ok(());
+    let base = base_of(&child.open);
+    let own = leaves(alloc, &child.open, base, out, pairs, saved)?;
+    if own.is_bare() {
+        return Ok(None);
     }
+    if own.is_base(base) {
+        count(saved);
+        let unchanged = entry.oid;
+        return Ok(Some(unchanged));
+    }
+    let tree = own.into_tree(alloc, base)?;
     let id = hand(tree, out, pairs)?;
-    keep(alloc, own, entry, id)?;
-    Ok(())
+    Ok(Some(id))
+}
+
+/// As [`leaves`], with a copy of the directory's own tree.
+fn leaves_copied<E, F: FnMut(&Tree) -> Result<ObjectId, E>>(
+    alloc: Global,
+    node: &Open,
+    out: &mut F,
+    pairs: &mut Vec<(ObjectId, Tree)>,
+    saved: &mut usize,
+) -> Result<Tree, WriteError<E>>
+    requires callable { IsCallableOnTrees F.pre (λ f p g. CalledAt F.FnMut f p.1 (Ok p.0) g) out.old }
+    ensures ok { IfOk result (λ own. (below : List Pair) × (count : ℕ)
+        × Leaves (dirs_of node.now) (bases_of node.now) below own count
+        × (saved.new ≡ raised saved.old count) × (pairs.new.items ≡ pairs.old.items ++ below)
+        × FoldsTo (λ f p g. CalledAt F.FnMut f p.1 (Ok p.0) g) out.old below out.new) }
+    ensures storable { IfOk result IsStorable }
+    ensures stopped { IfErr result (Stopped (λ f p g. CalledAt F.FnMut f p.1 (Ok p.0) g)
+        (λ f t e g. CalledAt F.FnMut f t (Err e) g)
+        (λ ps. (own : List EntryView) × (count : ℕ)
+        × Leaves (dirs_of node.now) (bases_of node.now) ps own count) out.old out.new) }
+{
+    let base = base_of(node);
+    let own = leaves(alloc, node, base, out, pairs, saved)?;
+    let tree = own.into_tree(alloc, base)?;
+    Ok(tree)
 }
 
 /// The entries of the tree.
@@ -122,11 +172,18 @@ fn entries_of(tree: &Tree) -> &[Entry]
     &tree.entries
 }
 
-/// Whether the tree has no entries.
-fn is_bare(tree: &Tree) -> bool
-    ensures { result ≡ (length tree.now == 0) }
+/// The entries that the directory was opened with.
+fn base_of(node: &Open) -> &[Entry]
+    ensures { bases_of node.now [] ≡ Some result.now }
 {
-    tree.entries.is_empty()
+    entries_of(&node.base)
+}
+
+/// One more, up to the greatest number.
+fn count(saved: &mut usize)
+    ensures { saved.new ≡ raised saved.old 1 }
+{
+    *saved = saved.saturating_add(1);
 }
 
 /// Hands a tree out, and adds it to the pairs with the id that it got.
@@ -150,55 +207,71 @@ fn hand<E, F: FnMut(&Tree) -> Result<ObjectId, E>>(
     }
 }
 
-/// Adds the entry with an id, unless that is null.
-fn keep<E>(
+/// Adds the entry with the id that it gets, unless there is none or it is null.
+fn keep(
     alloc: Global,
-    own: &mut Vec<Entry>,
+    own: &mut OwnTree,
+    base: &[Entry],
     entry: &Entry,
-    id: ObjectId,
-) -> Result<(), WriteError<E>>
-    ensures ok { OnOk result (own.new.items ≡ own.old.items ++ entry_with entry.now id) }
-    ensures stopped { IfErr result (λ error. error ≡ OutOfMemory) }
+    id: Option<ObjectId>,
+) -> Result<(), AllocError>
+    requires { IsBeside base.now own.old }
+    ensures entries { OnOk result (so_far base.now own.new
+        ≡ so_far base.now own.old ++ kept_with entry.now id) }
+    ensures beside { OnOk result (IsBeside base.now own.new) }
+    ensures off { OnErr result ((rest : List EntryView)
+        → (so_far base.now own.old ++ kept_with entry.now id) ++ rest ≢ base.now) }
 {
+    let Some(id) = id else {
+        return Ok(());
+    };
     if id.is_null() {
         return Ok(());
     }
-    let mut kept = copy(alloc, entry)?;
-    kept.oid = id;
-    own.push(kept)?;
-    Ok(())
+    own.push(alloc, base, entry, id)
 }
 
-/// Hands out the directories that are open in this one, each behind those in it, and then its own tree,
-/// also where that is empty. It keeps that tree, with nothing open in it.
+/// Hands out the changed directories that are open in this one, each behind those in it, and then
+/// its own tree, also where that is empty or as it was. It keeps that tree, with nothing open in
+/// it. What the directory was opened with stays.
 ///
-/// In what is handed out an entry whose directory is open has the id that `out` answered for it, and is
-/// left out where the directory's tree is empty: that is not handed out then. Entries with null ids are
-/// left out too. `out` may be called on every well-formed tree without null ids, whatever it was called on
-/// before.
+/// A directory is changed where its tree isn't the one that it was opened with. In what is handed
+/// out the entry of a changed one has the id that `out` answered for it. That of an unchanged one
+/// keeps its id, and is counted in [`Written::saved`]. One whose tree is empty is left out and not
+/// counted, and entries with null ids are left out. `out` may be called on every well-formed tree
+/// without null ids, whatever it was called on before.
 ///
-/// `Out` with its refusal where `out` refused a tree, and then it is asked for no other; `OutOfMemory` where
-/// memory was wanting. A refusal leaves what is open as it was; `out` may have been called by then.
+/// It takes memory for the trees that go out, for the list of them and for a copy of its own tree,
+/// and none for an unchanged directory below it.
+///
+/// `Out` with its refusal where `out` refused a tree, and then it is asked for no other;
+/// `OutOfMemory` where memory was wanting. A refusal leaves what is open as it was; `out` may have
+/// been called by then.
 pub fn write_all<E, F: FnMut(&Tree) -> Result<ObjectId, E>>(
     alloc: Global,
     node: &mut Open,
     out: &mut F,
 ) -> Result<Written, WriteError<E>>
     requires { IsCallableOnTrees F.pre (λ f p g. CalledAt F.FnMut f p.1 (Ok p.0) g) out.old }
-    ensures ok { IfOk result (λ it. (below : List Pair) × (own : List EntryView) × Leaves (dirs_of node.old) below own × (it.trees.items ≡ below ++ (it.id, own) ∷ [])
-        × FoldsTo (λ f p g. CalledAt F.FnMut f p.1 (Ok p.0) g) out.old (below ++ (it.id, own) ∷ []) out.new × IsStorable own × (node.new ≡ opened own [])) }
-    ensures stopped { IfErr result (Stopped (λ f p g. CalledAt F.FnMut f p.1 (Ok p.0) g) (λ f t e g. CalledAt F.FnMut f t (Err e) g) (HandsOut (dirs_of node.old)) out.old out.new) }
+    ensures ok { IfOk result (λ it. (below : List Pair) × (own : List EntryView) × Saves (dirs_of node.old) (bases_of node.old) below own it.saved × (it.trees.items ≡ below ++ (it.id, own) ∷ [])
+        × FoldsTo (λ f p g. CalledAt F.FnMut f p.1 (Ok p.0) g) out.old (below ++ (it.id, own) ∷ []) out.new × IsStorable own
+        × ((base : List EntryView) × (node.new ≡ opened own base []))) }
+    ensures bases { OnOk result ((at : Path) → bases_of node.new at ≡ edited_bases (dirs_of node.old) (dirs_of node.new) (bases_of node.old) at) }
+    ensures stopped { IfErr result (Stopped (λ f p g. CalledAt F.FnMut f p.1 (Ok p.0) g) (λ f t e g. CalledAt F.FnMut f t (Err e) g) (HandsOutSome (dirs_of node.old) (bases_of node.old)) out.old out.new) }
     ensures unchanged { OnErr result (node.new ≡ node.old) }
 {
     let mut trees = Vec::new(alloc);
-    let own = leaves(alloc, node, out, &mut trees)?;
+    let mut saved = 0;
+    let own = leaves_copied(alloc, node, out, &mut trees, &mut saved)?;
     let root = copy_tree(alloc, &own)?;
     let id = hand(own, out, &mut trees)?;
-    *node = Open::new(alloc, root);
-    Ok(Written { id, trees })
+    node.tree = root;
+    node.children = Vec::new(alloc);
+    Ok(Written { id, trees, saved })
 }
 
-/// As [`write_all`], of the directory at a path, which must be open. All else stays open as it was.
+/// As [`write_all`], of the directory at a path, which must be open. All else stays open as it
+/// was, and so does what each directory was opened with.
 pub fn write_at<E, F: FnMut(&Tree) -> Result<ObjectId, E>>(
     alloc: Global,
     node: &mut Open,
@@ -207,10 +280,11 @@ pub fn write_at<E, F: FnMut(&Tree) -> Result<ObjectId, E>>(
 ) -> Result<Written, WriteError<E>>
     requires callable { IsCallableOnTrees F.pre (λ f p g. CalledAt F.FnMut f p.1 (Ok p.0) g) out.old }
     requires is_open { dirs_of node.old (names_of path.now) ≢ None }
-    ensures ok { IfOk result (λ it. (below : List Pair) × (own : List EntryView) × Leaves (in_path (names_of path.now) (dirs_of node.old)) below own × (it.trees.items ≡ below ++ (it.id, own) ∷ [])
+    ensures ok { IfOk result (λ it. (below : List Pair) × (own : List EntryView) × Saves (in_path (names_of path.now) (dirs_of node.old)) (in_path (names_of path.now) (bases_of node.old)) below own it.saved × (it.trees.items ≡ below ++ (it.id, own) ∷ [])
         × FoldsTo (λ f p g. CalledAt F.FnMut f p.1 (Ok p.0) g) out.old (below ++ (it.id, own) ∷ []) out.new × IsStorable own
         × ((at : Path) → dirs_of node.new at ≡ with_path (names_of path.now) (only own) (dirs_of node.old) at)) }
-    ensures stopped { IfErr result (Stopped (λ f p g. CalledAt F.FnMut f p.1 (Ok p.0) g) (λ f t e g. CalledAt F.FnMut f t (Err e) g) (HandsOut (in_path (names_of path.now) (dirs_of node.old))) out.old out.new) }
+    ensures bases { OnOk result ((at : Path) → bases_of node.new at ≡ edited_bases (dirs_of node.old) (dirs_of node.new) (bases_of node.old) at) }
+    ensures stopped { IfErr result (Stopped (λ f p g. CalledAt F.FnMut f p.1 (Ok p.0) g) (λ f t e g. CalledAt F.FnMut f t (Err e) g) (HandsOutSome (in_path (names_of path.now) (dirs_of node.old)) (in_path (names_of path.now) (bases_of node.old))) out.old out.new) }
     ensures unchanged { OnErr result (node.new ≡ node.old) }
 {
     let Some((name, rest)) = path.split_first() else {

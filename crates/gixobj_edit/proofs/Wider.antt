@@ -13,8 +13,8 @@ use Rattle.gixobj_directories.specs.declared.write.WriteError.TheVariants as wri
 use Rattle.gixobj_directories.specs.declared.write.Written.{Written}
 use Rattle.gixobj_editor.specs.Cursors.{prefix_of}
 use Rattle.gixobj_files.specs.Files.{Path}
-use Rattle.gixobj_files.specs.HandingOut.{HandsOut}
-use Rattle.gixobj_files.specs.State.{State, open_dirs}
+use Rattle.gixobj_files.specs.HandingOut.{HandsOutSome}
+use Rattle.gixobj_files.specs.State.{State, open_bases, open_dirs}
 use Rattle.gixobj_files.specs.Tables.{Pair}
 use Rattle.gixobj_ids.specs.declared.hash.object_id.ObjectId.{ObjectId}
 use Rattle.gixobj_trees.specs.Entries.{EntryView}
@@ -39,9 +39,11 @@ module _ {S E : Type 0} (means : Meaning S) (answers wider : Answers E) (within 
     own = is.own;
     last = is.last;
     dirs = is.dirs;
+    bases = is.bases;
     rest = is.rest;
     files = is.files;
     same_files = is.same_files;
+    has_bases = is.has_bases;
   }
   written (at_cursor prefix) it old new is = record {
     handed_out = is.handed_out;
@@ -51,10 +53,12 @@ module _ {S E : Type 0} (means : Meaning S) (answers wider : Answers E) (within 
     own = is.own;
     last = is.last;
     dirs = is.dirs;
+    bases = is.bases;
     rest = is.rest;
     is_opened = is.is_opened;
     files = is.files;
     same_files = is.same_files;
+    has_bases = is.has_bases;
   }
 
   kept : (place : Place) (it : Written) (Keeps : Objects → Objects → Type 0) (old new : State S) → IsWriteKept means (IsWrittenAt answers place it old) Keeps old new
@@ -66,7 +70,7 @@ module _ {S E : Type 0} (means : Meaning S) (answers wider : Answers E) (within 
   stopped goes_out write.OutOfMemory (before, rest, folded, goes) = (before, rest, folds tt before tt folded, goes)
 
   refused_write : (place : Place) (old : State S) (error : WriteError E) (new : State S) → IsRefusedWrite answers place old error new → IsRefusedWrite wider place old error new
-  refused_write place old error new is = record { stopped = stopped (HandsOut (dirs_at place (open_dirs old))) error is.stopped; unchanged = is.unchanged }
+  refused_write place old error new is = record { stopped = stopped (HandsOutSome (dirs_at place (open_dirs old)) (dirs_at place (open_bases old))) error is.stopped; unchanged = is.unchanged }
 
   edit_reply_wider : (place : Place) (old new : State S) (it : Edit) (its_reply : EditReply E) → IsEditReply means answers place old it its_reply new → IsEditReply means wider place old it its_reply new
   edit_reply_wider place old new (edit.Upsert path kind id) edit_reply.Done is = is

@@ -41,6 +41,7 @@ memory_means = record { objects = memory_objects; may_fail = λ store id. false 
 -- a new editor on the empty root, over a store that has nothing
 pub record IsNew (hash : hash.Kind) (state : State Memory) : Type 0 where
   pub root : state.dirs ≡ root_alone []
+  pub bases : state.bases ≡ root_alone []
   pub nothing : memory_objects state.store ≡ finite.empty
   pub lookups : state.lookups ≡ 0
   pub object_hash : state.object_hash ≡ hash

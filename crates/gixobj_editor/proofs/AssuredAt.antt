@@ -1,5 +1,6 @@
 -- An editor after a directory was assured, from what became of its open directories.
 use Rattle.std.proofs.Common.{◌≡◌, ◌≢◌, ◌∙◌, ℕ, Bool, List, [], ◌++◌, Option, Some, None, refl, sym, ap, subst}
+use Rattle.std.proofs.lemmas.List.Elements.{recursion_from_All}
 use Rattle.std.specs.List.{AllByRecursion}
 use Rattle.gixobj_data.specs.Stores.{Objects}
 use Rattle.gixobj_directories.specs.Calls.{AreNames}
@@ -7,7 +8,7 @@ use Rattle.gixobj_directories.specs.Nested.{Opened, dirs_of}
 use Rattle.gixobj_directories.specs.Openings.{RefusesAt}
 use Rattle.gixobj_directories.specs.declared.opening.Error as directory
 use Rattle.gixobj_directories.specs.declared.opening.Error.TheVariants as opening
-use Rattle.gixobj_files.specs.Edits.{IsNoTree, Opens, assured_dirs, counted}
+use Rattle.gixobj_files.specs.Edits.{IsNoTree, Opens, assured_dirs, counted, raised}
 use Rattle.gixobj_files.specs.Files.{Assured, Path, SameFiles, Trees}
 use Rattle.gixobj_files.specs.Halting.{Halts, IsShutAbove, IsUnopenedAbove}
 use Rattle.gixobj_files.specs.Opening.{Dirs, IsOpened, OpenFiles}
@@ -18,17 +19,18 @@ use Rattle.gixobj_files.proofs.CursorFiles.{assured_at_files}
 use Rattle.gixobj_files.proofs.Halted.{halted_at, halted_shut}
 use Rattle.gixobj_files.proofs.PrefixStays.{assured_stays}
 use Rattle.gixobj_files.proofs.StillOpenedAssured.{opened_assured}
-use Rattle.gixobj_files.proofs.StillOpenedOpenings.{opening_keeps}
+use Rattle.gixobj_files.proofs.StillOpenedOpenings.{opened_opening, opening_keeps}
 use Rattle.gixobj_files.proofs.UnopenedCounts.{asked_count}
 use Rattle.gixobj_ids.specs.Hash.{null_id}
 use Rattle.gixobj_ids.specs.declared.hash.kind.Kind.{Kind}
 use Rattle.gixobj_ids.specs.declared.hash.object_id.ObjectId.{ObjectId}
 use Rattle.gixobj_trees.specs.Entries.{EntryView, IsEntryName}
 use Rattle.gixobj_editor.specs.Cursors.{IsAssured, RefusesCursor}
-use Rattle.gixobj_editor.specs.Upserts.{RefusesNames, edit_refusal, raised}
+use Rattle.gixobj_editor.specs.Upserts.{RefusesNames, edit_refusal}
 use Rattle.gixobj_editor.specs.declared.editor.error.Error.{Error}
 use Rattle.gixobj_editor.specs.declared.editor.error.Error.TheVariants as error
-use Rattle.gixobj_editor.proofs.Edited.{as_map, at_files, dirs_at, known_above, map_dirs, no_other, same_dirs, state_of}
+use Rattle.gixobj_editor.proofs.Edited.{EditedSo, OpenedOn, OpenedSo, as_map, at_files, dirs_at, edited_map, known_above, map_bases, map_dirs, no_other, on_map, same_dirs, state_of}
+use Rattle.gixobj_files.proofs.Calls.{assured_based}
 use Rattle.gixobj_editor.proofs.Paths.{counted_raised, strictly_above}
 
 pub still_assured : (path : Path) (null : ObjectId) (mid ds : Opened) → AllByRecursion IsEntryName path → IsOpened (dirs_of mid) → ((at : Path) → dirs_of ds at ≡ assured_dirs path null (dirs_of mid) at) → IsOpened (dirs_of ds)
@@ -72,8 +74,8 @@ module _ {S : Type 0} (store : S) (hash : Kind) (prefix : Path) (trees : Trees) 
   made ds n = state_of store hash prefix ds n
 
   in_place : (ds mid ds' : Opened) (n m : ℕ) (path : Path) (asked : List ObjectId) → AreNames path → Opens IsNoTree trees path (dirs_of ds) (dirs_of mid) asked → ((at : Path) → dirs_of ds' at ≡ assured_dirs path (null_id hash) (dirs_of mid) at) → m ≡ counted n asked
-      → IsOpened (dirs_of ds') → IsAssured trees (made ds n) path (state_of store hash path ds' m)
-  in_place ds mid ds' n m path asked names opens assured count all =
+      → OpenedOn ds → OpenedSo ds mid → EditedSo mid ds' → IsAssured trees (made ds n) path (state_of store hash path ds' m)
+  in_place ds mid ds' n m path asked names opens assured count was first then =
       let opened : Opens IsNoTree trees path (map_dirs ds) (dirs_of mid) asked = subst (λ (d : Dirs). Opens IsNoTree trees path d (dirs_of mid) asked) (sym (same_dirs ds)) opens in
       let new_is : map_dirs ds' ≡ assured_dirs path (null_id hash) (dirs_of mid) = λ i at. (dirs_at ds' at ∙ assured at) i in
       record {
@@ -82,17 +84,19 @@ module _ {S : Type 0} (store : S) (hash : Kind) (prefix : Path) (trees : Trees) 
         asked = asked;
         opens = opened;
         dirs = λ at. dirs_at ds' at ∙ assured at;
+        bases = edited_map ds mid ds' first then;
         lookups = count ∙ counted_raised n asked ∙ ap (raised n) (asked_count trees at_files path [] (map_dirs ds) (dirs_of mid) asked opened);
         rest = refl;
-        is_opened = as_map ds' all;
+        is_opened = as_map ds' (still_assured path (null_id hash) mid ds' (recursion_from_All IsEntryName path names) (opened_opening trees path (dirs_of ds) (dirs_of mid) asked opens was.opened) assured);
         known = known_above at_files trees (inside path) path [] refl (map_dirs ds) (dirs_of mid) asked opened;
         files = λ T k agrees. subst (λ (d : Dirs). SameFiles (OpenFiles T k d) (Assured path (OpenFiles T k (map_dirs ds)))) (sym new_is) (assured_at_files T trees agrees path (null_id hash) (map_dirs ds) (dirs_of mid) asked opened k);
+        has_bases = λ T agrees has. assured_based T trees hash (map_dirs ds) (map_bases ds) (map_dirs ds') (map_bases ds') (on_map ds was) agrees has path (dirs_of mid) asked opened (λ at. dirs_at ds' at ∙ assured at) (edited_map ds mid ds' first then);
       }
 
   pub assured_at : (ds mid ds' : Opened) (n m : ℕ) (old : State S) → made ds n ≡ old → (path : Path) (asked : List ObjectId) → AreNames path → Opens IsNoTree trees path (dirs_of ds) (dirs_of mid) asked
-      → ((at : Path) → dirs_of ds' at ≡ assured_dirs path (null_id hash) (dirs_of mid) at) → m ≡ counted n asked → IsOpened (dirs_of ds') → (named : Path) → named ≡ path → IsAssured trees old path (state_of store hash named ds' m)
-  assured_at ds mid ds' n m old view path asked names opens assured count all named is =
-      subst (λ (p : Path). IsAssured trees old path (state_of store hash p ds' m)) (sym is) (subst (λ (o : State S). IsAssured trees o path (state_of store hash path ds' m)) view (in_place ds mid ds' n m path asked names opens assured count all))
+      → ((at : Path) → dirs_of ds' at ≡ assured_dirs path (null_id hash) (dirs_of mid) at) → m ≡ counted n asked → OpenedOn ds → OpenedSo ds mid → EditedSo mid ds' → (named : Path) → named ≡ path → IsAssured trees old path (state_of store hash named ds' m)
+  assured_at ds mid ds' n m old view path asked names opens assured count was first then named is =
+      subst (λ (p : Path). IsAssured trees old path (state_of store hash p ds' m)) (sym is) (subst (λ (o : State S). IsAssured trees o path (state_of store hash path ds' m)) view (in_place ds mid ds' n m path asked names opens assured count was first then))
 
   -- why the opening halted
   pub refuses_at : (objects : Objects) (may_fail : ObjectId → Bool) (ds ds' : Opened) (n : ℕ) (old : State S) → made ds n ≡ old → (path : Path) → AreNames path → IsOpened (dirs_of ds) → (asked : List ObjectId) (vain : Option ObjectId) → Halts IsNoTree trees path (dirs_of ds) (dirs_of ds') asked vain

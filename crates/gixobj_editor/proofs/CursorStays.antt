@@ -4,10 +4,10 @@ use Rattle.std.specs.Prelude.{OnErr, OnOk}
 use Rattle.gixobj_data.specs.Stores.{Objects}
 use Rattle.gixobj_directories.specs.Openings.{AreTreesOf}
 use Rattle.gixobj_directories.proofs.NamedTrees.{trees_of}
-use Rattle.gixobj_files.specs.Edits.{Opens}
+use Rattle.gixobj_files.specs.Edits.{arrived, Opens}
 use Rattle.gixobj_files.specs.Files.{Path, Trees}
 use Rattle.gixobj_files.specs.Opening.{Dirs, IsOpened}
-use Rattle.gixobj_files.specs.State.{EditorFiles, State, open_dirs}
+use Rattle.gixobj_files.specs.State.{EditorFiles, State, open_bases, open_dirs}
 use Rattle.gixobj_files.proofs.EditedFiles.{same_refl}
 use Rattle.gixobj_files.proofs.PrefixStays.{removed_stays, upserted_stays}
 use Rattle.gixobj_files.proofs.StillOpenedOpenings.{opening_keeps}
@@ -16,6 +16,8 @@ use Rattle.gixobj_ids.specs.declared.hash.object_id.ObjectId.{ObjectId}
 use Rattle.gixobj_trees.specs.Entries.{EntryView}
 use Rattle.gixobj_editor.specs.Cursors.{from_root}
 use Rattle.gixobj_editor.specs.Removals.{IsRemoved}
+use Rattle.gixobj_files.specs.Bases.{opened_bases}
+use Rattle.gixobj_directories.specs.declared.opening.Unasked.TheVariants as unasked
 use Rattle.gixobj_editor.specs.Upserts.{IsRefused, IsUpserted, directory_of}
 
 -- what keeps each open directory keeps this one
@@ -65,13 +67,22 @@ either_way (Ok it) objects Known Accepted Refused ok err accepted refused = let 
 either_way (Err error) objects Known Accepted Refused ok err accepted refused = let named = trees_of objects in refused named.0 (err named.0 named.1)
 
 -- nothing was done
-pub nothing_done : {S : Type 0} (trees : Trees) (old : State S) (path : Path) → IsOpened (open_dirs old) → IsRefused trees old path old
-nothing_done trees old path all = record {
+pub nothing_done : {S : Type 0} (trees : Trees) (old : State S) (path : Path) → IsOpened (open_dirs old) → ((at : Path) → open_bases old at ≡ opened_bases (open_dirs old) (open_dirs old) (open_bases old) at) → IsRefused trees old path old
+nothing_done trees old path all idle = record {
+  unasked = unasked.Opened;
+  front = [];
+  more = path;
+  on_the_way = refl;
+  asked = [];
+  opens = arrived (open_dirs old);
+  bases = idle;
   stays = λ at entries is. is;
-  count = 0;
+  vain = [];
+  one = omega arith;
   few = omega arith;
   lookups = refl;
   rest = refl;
   is_opened = all;
   files = λ T n agrees. same_refl (EditorFiles T n old);
+  has_bases = λ T agrees has. has;
 }

@@ -1,7 +1,8 @@
 -- An editor after an edit, from what became of its open directories.
-use Rattle.std.proofs.Common.{◌≡◌, ◌≢◌, ◌∙◌, ◌≤◌, inl, inr, ℕ, Bool, true, List, [], ◌∷◌, ◌++◌, Option, Some, None, length, refl, sym, ap, subst, arith}
+use Rattle.std.proofs.Common.{◌≡◌, ◌≢◌, ◌∙◌, ◌≤◌, inl, inr, ℕ, Bool, true, List, [], ◌∷◌, ◌++◌, Option, Some, None, Result, Ok, Err, length, refl, sym, ap, subst}
 use Rattle.std.proofs.lemmas.Cmp.{lists_total, nat_list_cmp_total}
-use Rattle.std.proofs.lemmas.List.Elements.{All-nil}
+use Rattle.std.proofs.lemmas.List.Elements.{All-nil, recursion_from_All}
+use Rattle.std.specs.Prelude.{IfOk, OnOk}
 use Rattle.std.specs.FinMap as map
 use Rattle.std.specs.List.{AllByRecursion}
 use Rattle.gixobj_trees.specs.Entries.{EntryView, IsEntryName}
@@ -9,38 +10,105 @@ use Rattle.gixobj_ids.specs.Hash.{null_id}
 use Rattle.gixobj_ids.specs.declared.hash.kind.Kind.{Kind}
 use Rattle.gixobj_ids.specs.declared.hash.object_id.ObjectId.{ObjectId}
 use Rattle.gixobj_data.specs.Stores.{Objects}
-use Rattle.gixobj_files.specs.Edits.{IsNoTree, Opens, arrived, counted, upserted_dirs}
+use Rattle.gixobj_files.specs.Edits.{IsNoTree, Opens, arrived, counted, upserted_dirs, raised}
 use Rattle.gixobj_files.specs.Files.{Path, SameFiles, Trees, Upserted}
 use Rattle.gixobj_files.specs.Halting.{Halts, IsUnopenedAbove}
 use Rattle.gixobj_files.specs.Opening.{Dirs, IsOpened, OpenFiles}
-use Rattle.gixobj_files.specs.State.{DirMap, EditorFiles, State, open_dirs}
+use Rattle.gixobj_files.specs.State.{DirMap, EditorFiles, State, open_bases, open_dirs}
 use Rattle.gixobj_files.specs.Unopened.{is_unopened, told_entry, unopened_count}
 use Rattle.gixobj_files.proofs.EditedFiles.{same_refl, same_trans, same_upserted}
-use Rattle.gixobj_files.proofs.Halted.{halted_at, halted_count, halts_opens, opens_known}
+use Rattle.gixobj_files.proofs.Halted.{halted_at, opens_known}
 use Rattle.gixobj_files.proofs.OpeningFiles.{opens_files, opens_ready}
 use Rattle.gixobj_files.proofs.StillOpened.{opened_upserted}
-use Rattle.gixobj_files.proofs.StillOpenedOpenings.{opening_keeps}
+use Rattle.gixobj_files.proofs.StillOpenedOpenings.{opened_opening, opening_keeps}
 use Rattle.gixobj_files.proofs.UnopenedCounts.{IsIdle, asked_count}
 use Rattle.gixobj_files.proofs.UpsertedFiles.{IsReady, upserted_files}
 use Rattle.gixobj_directories.specs.Calls.{AreNames}
-use Rattle.gixobj_directories.specs.Nested.{Opened, dirs_of}
-use Rattle.gixobj_directories.specs.Openings.{RefusesAt}
+use Rattle.gixobj_directories.specs.Nested.{Opened, base_side, bases_of, dirs_of, entries_side, side_list}
+use Rattle.gixobj_directories.specs.Openings.{EndsBefore, RefusesAt}
+use Rattle.gixobj_directories.proofs.BaseSteps.{editing as when_edited, no_base, opening as when_opened, unmoved}
+use Rattle.gixobj_directories.specs.declared.opening.Unasked.{Unasked}
+use Rattle.gixobj_directories.specs.declared.opening.Unasked.TheVariants as unasked
+use Rattle.gixobj_files.specs.Bases.{AreOpenedOn, base_edited, base_opened, edited_bases, opened_bases}
+use Rattle.gixobj_files.proofs.Calls.{opened_based, upserted_based}
 use Rattle.gixobj_directories.specs.declared.opening.Error as directory
 use Rattle.gixobj_directories.specs.declared.opening.Error.TheVariants as opening
-use Rattle.gixobj_editor.specs.Upserts.{IsRefused, IsUpserted, RefusesName, RefusesNames, RefusesUpsert, directory_of, edit_refusal, raised}
+use Rattle.gixobj_editor.specs.Upserts.{IsOpenedInPart, IsRefused, IsUpserted, RefusesName, RefusesNames, RefusesUpsert, directory_of, edit_refusal}
 use Rattle.gixobj_editor.specs.declared.editor.error.Error.{Error}
 use Rattle.gixobj_editor.specs.declared.editor.error.Error.TheVariants as error
+use Rattle.gixobj_editor.proofs.InPart.{halted_in_part, none_in_part, opened_in_part}
 use Rattle.gixobj_editor.proofs.Paths.{counted_raised, directory_is, strictly_above}
 
 -- the open directories of an editor
 abbrev pub map_of : Opened → DirMap
-map_of ds = map.from_entries ds
+map_of ds = map.from_entries (side_list entries_side ds)
 
 abbrev pub map_dirs : Opened → Dirs
 map_dirs ds = λ at. map.get (map_of ds) at
 
 pub dirs_at : (ds : Opened) (at : Path) → map_dirs ds at ≡ dirs_of ds at
-dirs_at ds at = map.get-from_entries (lists_total nat_list_cmp_total) ds at
+dirs_at ds at = map.get-from_entries (lists_total nat_list_cmp_total) (side_list entries_side ds) at
+
+-- and their bases
+abbrev pub base_map : Opened → DirMap
+base_map ds = map.from_entries (side_list base_side ds)
+
+abbrev pub map_bases : Opened → Dirs
+map_bases ds = λ at. map.get (base_map ds) at
+
+pub bases_at : (ds : Opened) (at : Path) → map_bases ds at ≡ bases_of ds at
+bases_at ds at = map.get-from_entries (lists_total nat_list_cmp_total) (side_list base_side ds) at
+
+pub same_bases : (ds : Opened) → map_bases ds ≡ bases_of ds
+same_bases ds = λ i at. bases_at ds at i
+
+-- the bases after directories were opened, and after they were edited
+abbrev pub OpenedSo : Opened → Opened → Type 0
+OpenedSo ds mid = (at : Path) → bases_of mid at ≡ opened_bases (dirs_of ds) (dirs_of mid) (bases_of ds) at
+
+abbrev pub EditedSo : Opened → Opened → Type 0
+EditedSo mid ds' = (at : Path) → bases_of ds' at ≡ edited_bases (dirs_of mid) (dirs_of ds') (bases_of mid) at
+
+pub opened_map : (ds mid : Opened) → OpenedSo ds mid → (at : Path) → bases_of mid at ≡ opened_bases (map_dirs ds) (dirs_of mid) (map_bases ds) at
+opened_map ds mid first at =
+    first at ∙ ap (λ o. base_opened o (dirs_of mid at) (bases_of ds at)) (sym (dirs_at ds at)) ∙ ap (λ b. base_opened (map_dirs ds at) (dirs_of mid at) b) (sym (bases_at ds at))
+
+pub edited_map : (ds mid ds' : Opened) → OpenedSo ds mid → EditedSo mid ds' → (at : Path) → map_bases ds' at ≡ edited_bases (dirs_of mid) (map_dirs ds') (opened_bases (map_dirs ds) (dirs_of mid) (map_bases ds)) at
+edited_map ds mid ds' first then at =
+    bases_at ds' at ∙ then at ∙ ap (λ b. base_edited (dirs_of mid at) (dirs_of ds' at) b) (opened_map ds mid first at)
+    ∙ ap (λ o. base_edited (dirs_of mid at) o (opened_bases (map_dirs ds) (dirs_of mid) (map_bases ds) at)) (sym (dirs_at ds' at))
+
+pub only_opened_map : (ds ds' : Opened) → OpenedSo ds ds' → (at : Path) → map_bases ds' at ≡ opened_bases (map_dirs ds) (map_dirs ds') (map_bases ds) at
+only_opened_map ds ds' first at = bases_at ds' at ∙ opened_map ds ds' first at ∙ ap (λ o. base_opened (map_dirs ds at) o (map_bases ds at)) (sym (dirs_at ds' at))
+
+pub only_edited_map : (ds ds' : Opened) → EditedSo ds ds' → (at : Path) → map_bases ds' at ≡ edited_bases (map_dirs ds) (map_dirs ds') (map_bases ds) at
+only_edited_map ds ds' then at =
+    bases_at ds' at ∙ then at ∙ ap (λ o. base_edited o (dirs_of ds' at) (bases_of ds at)) (sym (dirs_at ds at)) ∙ ap (λ o. base_edited (map_dirs ds at) o (bases_of ds at)) (sym (dirs_at ds' at)) ∙ ap (λ b. base_edited (map_dirs ds at) (map_dirs ds' at) b) (sym (bases_at ds at))
+
+-- an editor that stays as it is
+idle_map : (ds : Opened) (at : Path) → map_bases ds at ≡ edited_bases (map_dirs ds) (map_dirs ds) (opened_bases (map_dirs ds) (map_dirs ds) (map_bases ds)) at
+idle_map ds at =
+    let none : map_dirs ds at ≡ None → map_bases ds at ≡ None = λ shut. bases_at ds at ∙ no_base ds at (sym (dirs_at ds at) ∙ shut) in
+    let same = when_opened.same (map_dirs ds at) (map_bases ds at) none in
+    same ∙ when_edited.same (map_dirs ds at) (base_opened (map_dirs ds at) (map_dirs ds at) (map_bases ds at)) (λ shut. sym same ∙ none shut)
+
+pub idle_at : {S : Type 0} (store : S) (hash : Kind) (prefix : Path) (ds : Opened) (n : ℕ) (old : State S) → record { dirs = map_of ds; bases = base_map ds; store = store; lookups = n; object_hash = hash; prefix = prefix } ≡ old
+    → (at : Path) → open_bases old at ≡ edited_bases (open_dirs old) (open_dirs old) (opened_bases (open_dirs old) (open_dirs old) (open_bases old)) at
+idle_at {S} store hash prefix ds n old view at = subst (λ (o : State S). open_bases o at ≡ edited_bases (open_dirs o) (open_dirs o) (opened_bases (open_dirs o) (open_dirs o) (open_bases o)) at) view (idle_map ds at)
+
+unopened_map : (ds : Opened) (at : Path) → map_bases ds at ≡ opened_bases (map_dirs ds) (map_dirs ds) (map_bases ds) at
+unopened_map ds at = when_opened.same (map_dirs ds at) (map_bases ds at) (λ shut. bases_at ds at ∙ no_base ds at (sym (dirs_at ds at) ∙ shut))
+
+pub unopened_at : {S : Type 0} (store : S) (hash : Kind) (prefix : Path) (ds : Opened) (n : ℕ) (old : State S) → record { dirs = map_of ds; bases = base_map ds; store = store; lookups = n; object_hash = hash; prefix = prefix } ≡ old
+    → (at : Path) → open_bases old at ≡ opened_bases (open_dirs old) (open_dirs old) (open_bases old) at
+unopened_at {S} store hash prefix ds n old view at = subst (λ (o : State S). open_bases o at ≡ opened_bases (open_dirs o) (open_dirs o) (open_bases o) at) view (unopened_map ds at)
+
+-- nothing was opened, and nothing edited
+pub none_opened : (ds : Opened) → OpenedSo ds ds
+none_opened ds = unmoved base_opened when_opened ds
+
+pub none_edited : (ds : Opened) → EditedSo ds ds
+none_edited ds = unmoved base_edited when_edited ds
 
 pub same_dirs : (ds : Opened) → map_dirs ds ≡ dirs_of ds
 same_dirs ds = λ i at. dirs_at ds at i
@@ -48,7 +116,14 @@ same_dirs ds = λ i at. dirs_at ds at i
 pub as_map : (ds : Opened) → IsOpened (dirs_of ds) → IsOpened (map_dirs ds)
 as_map ds all = subst (λ (d : Dirs). IsOpened d) (sym (same_dirs ds)) all
 
-pub opened_as : {S : Type 0} (store : S) (hash : Kind) (prefix : Path) (ds : Opened) (n : ℕ) (old : State S) → record { dirs = map_of ds; store = store; lookups = n; object_hash = hash; prefix = prefix } ≡ old → IsOpened (dirs_of ds) → IsOpened (open_dirs old)
+-- what the open directories and their bases are
+abbrev pub OpenedOn : Opened → Type 0
+OpenedOn ds = AreOpenedOn (dirs_of ds) (bases_of ds)
+
+pub on_map : (ds : Opened) → OpenedOn ds → AreOpenedOn (map_dirs ds) (map_bases ds)
+on_map ds on = subst (λ (b : Dirs). AreOpenedOn (map_dirs ds) b) (sym (same_bases ds)) (subst (λ (d : Dirs). AreOpenedOn d (bases_of ds)) (sym (same_dirs ds)) on)
+
+pub opened_as : {S : Type 0} (store : S) (hash : Kind) (prefix : Path) (ds : Opened) (n : ℕ) (old : State S) → record { dirs = map_of ds; bases = base_map ds; store = store; lookups = n; object_hash = hash; prefix = prefix } ≡ old → IsOpened (dirs_of ds) → IsOpened (open_dirs old)
 opened_as {S} store hash prefix ds n old view all = subst (λ (o : State S). IsOpened (open_dirs o)) view (as_map ds all)
 
 pub still_put : (path : Path) (mode : ℕ) (id null : ObjectId) (mid ds : Opened) → AllByRecursion IsEntryName path → IsOpened (dirs_of mid) → ((at : Path) → dirs_of ds at ≡ upserted_dirs path mode id null (dirs_of mid) at) → IsOpened (dirs_of ds)
@@ -75,8 +150,8 @@ known_above idle trees path front last is old new asked opens it h =
     (found.0, ap trees (sym h.named) ∙ found.1)
 
 -- without names nothing is put in
-pub nothing_upserted : {S : Type 0} (trees : Trees) (old : State S) (path : Path) → path ≡ [] → (mode : ℕ) (id : ObjectId) → IsOpened (open_dirs old) → IsUpserted trees old path mode id old
-nothing_upserted {S} trees old path none mode id all = subst (λ p. IsUpserted trees old p mode id old) (sym none) nothing
+pub nothing_upserted : {S : Type 0} (trees : Trees) (old : State S) (path : Path) → path ≡ [] → (mode : ℕ) (id : ObjectId) → IsOpened (open_dirs old) → ((at : Path) → open_bases old at ≡ edited_bases (open_dirs old) (open_dirs old) (opened_bases (open_dirs old) (open_dirs old) (open_bases old)) at) → IsUpserted trees old path mode id old
+nothing_upserted {S} trees old path none mode id all idle = subst (λ p. IsUpserted trees old p mode id old) (sym none) nothing
   where
     nothing : IsUpserted trees old [] mode id old
     nothing = record {
@@ -85,11 +160,13 @@ nothing_upserted {S} trees old path none mode id all = subst (λ p. IsUpserted t
       asked = [];
       opens = arrived (open_dirs old);
       dirs = λ at. refl;
+      bases = idle;
       lookups = refl;
       rest = refl;
       is_opened = all;
       known = λ it h. absurd (none_above trees (open_dirs old) it h);
       files = λ T k agrees. same_refl (EditorFiles T k old);
+      has_bases = λ T agrees has. has;
     }
 
 -- a name was refused
@@ -108,7 +185,7 @@ name_refused objects may_fail trees dirs path error.OutOfMemory h = absurd (no_o
 
 -- an editor of these parts
 abbrev pub state_of : {S : Type 0} → S → Kind → Path → Opened → ℕ → State S
-state_of store hash prefix ds n = record { dirs = map_of ds; store = store; lookups = n; object_hash = hash; prefix = prefix }
+state_of store hash prefix ds n = record { dirs = map_of ds; bases = base_map ds; store = store; lookups = n; object_hash = hash; prefix = prefix }
 
 module _ {S : Type 0} (store : S) (hash : Kind) (prefix : Path) (trees : Trees) where
   abbrev made : Opened → ℕ → State S
@@ -116,8 +193,8 @@ module _ {S : Type 0} (store : S) (hash : Kind) (prefix : Path) (trees : Trees) 
 
   -- an entry was put in
   put_in : (ds mid ds' : Opened) (n m : ℕ) (path front : Path) (last : List ℕ) (mode : ℕ) (id : ObjectId) (asked : List ObjectId) → path ≡ front ++ last ∷ [] → AreNames path → Opens IsNoTree trees front (dirs_of ds) (dirs_of mid) asked
-      → ((at : Path) → dirs_of ds' at ≡ upserted_dirs path mode id (null_id hash) (dirs_of mid) at) → m ≡ counted n asked → IsOpened (dirs_of ds') → IsUpserted trees (made ds n) path mode id (made ds' m)
-  put_in ds mid ds' n m path front last mode id asked is names opens put count all =
+      → ((at : Path) → dirs_of ds' at ≡ upserted_dirs path mode id (null_id hash) (dirs_of mid) at) → m ≡ counted n asked → OpenedOn ds → OpenedSo ds mid → EditedSo mid ds' → IsUpserted trees (made ds n) path mode id (made ds' m)
+  put_in ds mid ds' n m path front last mode id asked is names opens put count was first then =
       let old_is = same_dirs ds in
       let opened : Opens IsNoTree trees front (map_dirs ds) (dirs_of mid) asked = subst (λ (d : Dirs). Opens IsNoTree trees front d (dirs_of mid) asked) (sym old_is) opens in
       let new_is : map_dirs ds' ≡ upserted_dirs path mode id (null_id hash) (dirs_of mid) = λ i at. (dirs_at ds' at ∙ put at) i in
@@ -128,47 +205,61 @@ module _ {S : Type 0} (store : S) (hash : Kind) (prefix : Path) (trees : Trees) 
         asked = asked;
         opens = subst (λ p. Opens IsNoTree trees p (map_dirs ds) (dirs_of mid) asked) (sym (ap directory_of is ∙ directory_is front last)) opened;
         dirs = λ at. dirs_at ds' at ∙ put at;
+        bases = edited_map ds mid ds' first then;
         lookups = count ∙ counted_raised n asked ∙ ap (raised n) (asked_count trees at_files front last (map_dirs ds) (dirs_of mid) asked opened ∙ ap (unopened_count trees (map_dirs ds)) (sym is));
         rest = refl;
-        is_opened = as_map ds' all;
+        is_opened = as_map ds' (still_put path mode id (null_id hash) mid ds' (recursion_from_All IsEntryName path names) (opened_opening trees front (dirs_of ds) (dirs_of mid) asked opens was.opened) put);
         known = known_above at_files trees path front last is (map_dirs ds) (dirs_of mid) asked opened;
         files = λ T k agrees. subst (λ (d : Dirs). SameFiles (OpenFiles T k d) (Upserted T k path mode id (OpenFiles T k (map_dirs ds)))) (sym new_is)
             (same_trans _ _ _ (upserted_files T k path mode id (null_id hash) (dirs_of mid) ready) (same_upserted T k path mode id (OpenFiles T k (dirs_of mid)) (OpenFiles T k (map_dirs ds)) (opens_files T trees agrees front (map_dirs ds) (dirs_of mid) asked opened k)));
+        has_bases = λ T agrees has. upserted_based T trees hash (map_dirs ds) (map_bases ds) (map_dirs ds') (map_bases ds') (on_map ds was) agrees has front last mode id (dirs_of mid) asked opened
+            (λ at. dirs_at ds' at ∙ put at ∙ ap (λ p. upserted_dirs p mode id (null_id hash) (dirs_of mid) at) is) (edited_map ds mid ds' first then);
       }
 
   pub upserted_at : (ds mid ds' : Opened) (n m : ℕ) (old : State S) → made ds n ≡ old → (path front : Path) (last : List ℕ) (mode : ℕ) (id : ObjectId) (asked : List ObjectId) → path ≡ front ++ last ∷ [] → AreNames path → Opens IsNoTree trees front (dirs_of ds) (dirs_of mid) asked
-      → ((at : Path) → dirs_of ds' at ≡ upserted_dirs path mode id (null_id hash) (dirs_of mid) at) → m ≡ counted n asked → IsOpened (dirs_of ds') → IsUpserted trees old path mode id (made ds' m)
-  upserted_at ds mid ds' n m old view path front last mode id asked is names opens put count all =
-      subst (λ (o : State S). IsUpserted trees o path mode id (made ds' m)) view (put_in ds mid ds' n m path front last mode id asked is names opens put count all)
+      → ((at : Path) → dirs_of ds' at ≡ upserted_dirs path mode id (null_id hash) (dirs_of mid) at) → m ≡ counted n asked → OpenedOn ds → OpenedSo ds mid → EditedSo mid ds' → IsUpserted trees old path mode id (made ds' m)
+  upserted_at ds mid ds' n m old view path front last mode id asked is names opens put count was first then =
+      subst (λ (o : State S). IsUpserted trees o path mode id (made ds' m)) view (put_in ds mid ds' n m path front last mode id asked is names opens put count was first then)
 
   -- nothing but directories was opened
-  pub stay : {Ends : EntryView → Type 0} (ds ds' : Opened) (n m : ℕ) (path front : Path) (answered asked : List ObjectId) → Opens Ends trees front (dirs_of ds) (dirs_of ds') answered → length asked ≤ unopened_count trees (dirs_of ds) path → m ≡ counted n asked → IsOpened (dirs_of ds') → IsRefused trees (made ds n) path (made ds' m)
-  stay {Ends = Ends} ds ds' n m path front answered asked opens few count all =
-      let opened : Opens Ends trees front (map_dirs ds) (map_dirs ds') answered = subst (λ (d : Dirs). Opens Ends trees front d (map_dirs ds') answered) (sym (same_dirs ds)) (subst (λ (d : Dirs). Opens Ends trees front (dirs_of ds) d answered) (sym (same_dirs ds')) opens) in
+  pub stay : (it : Unasked) (ds ds' : Opened) (n m : ℕ) (path : Path) → IsOpenedInPart (EndsBefore it) trees path (dirs_of ds) (dirs_of ds') n m → OpenedOn ds → OpenedSo ds ds' → IsRefused trees (made ds n) path (made ds' m)
+  stay it ds ds' n m path so was first =
+      let opened : Opens (EndsBefore it) trees so.front (map_dirs ds) (map_dirs ds') so.asked =
+      subst (λ (d : Dirs). Opens (EndsBefore it) trees so.front d (map_dirs ds') so.asked) (sym (same_dirs ds)) (subst (λ (d : Dirs). Opens (EndsBefore it) trees so.front (dirs_of ds) d so.asked) (sym (same_dirs ds')) so.opens) in
       record {
-        stays = opening_keeps trees front (map_dirs ds) (map_dirs ds') answered opened;
-        count = length asked;
-        few = subst (λ (d : Dirs). length asked ≤ unopened_count trees d path) (sym (same_dirs ds)) few;
-        lookups = count ∙ counted_raised n asked;
+        unasked = it;
+        front = so.front;
+        more = so.more;
+        on_the_way = so.on_the_way;
+        asked = so.asked;
+        opens = opened;
+        bases = only_opened_map ds ds' first;
+        stays = opening_keeps trees so.front (map_dirs ds) (map_dirs ds') so.asked opened;
+        vain = so.vain;
+        one = so.one;
+        lookups = so.lookups ∙ counted_raised n (so.asked ++ so.vain);
+        few = subst (λ (d : Dirs). length (so.asked ++ so.vain) ≤ unopened_count trees d path) (sym (same_dirs ds)) so.few;
         rest = refl;
-        is_opened = as_map ds' all;
-        files = λ T k agrees. opens_files T trees agrees front (map_dirs ds) (map_dirs ds') answered opened k;
+        is_opened = as_map ds' (opened_opening trees so.front (dirs_of ds) (dirs_of ds') so.asked so.opens was.opened);
+        files = λ T k agrees. opens_files T trees agrees so.front (map_dirs ds) (map_dirs ds') so.asked opened k;
+        has_bases = λ T agrees has. opened_based T trees hash (map_dirs ds) (map_bases ds) (map_dirs ds') (map_bases ds') (on_map ds was) agrees has so.front so.asked opened (only_opened_map ds ds' first);
       }
 
-  pub unchanged_at : (ds : Opened) (n : ℕ) (old : State S) → made ds n ≡ old → (path : Path) → IsOpened (dirs_of ds) → IsRefused trees old path old
-  unchanged_at ds n old view path all = subst (λ (o : State S). IsRefused trees o path o) view (stay {Ends = IsNoTree} ds ds n n path [] [] [] (arrived (dirs_of ds)) (omega arith) refl all)
+  pub stay_at : (it : Unasked) (ds ds' : Opened) (n m : ℕ) (old : State S) → made ds n ≡ old → (path : Path) → IsOpenedInPart (EndsBefore it) trees path (dirs_of ds) (dirs_of ds') n m → OpenedOn ds → OpenedSo ds ds' → IsRefused trees old path (made ds' m)
+  stay_at it ds ds' n m old view path so was first = subst (λ (o : State S). IsRefused trees o path (made ds' m)) view (stay it ds ds' n m path so was first)
+
+  pub unchanged_at : (ds : Opened) (n : ℕ) (old : State S) → made ds n ≡ old → (path : Path) → OpenedOn ds → IsRefused trees old path old
+  unchanged_at ds n old view path was = subst (λ (o : State S). IsRefused trees o path o) view (stay unasked.Opened ds ds n n path (none_in_part trees path (dirs_of ds) n) was (none_opened ds))
 
   pub halted_so : (ds ds' : Opened) (n m : ℕ) (old : State S) → made ds n ≡ old → (path front : Path) (last : List ℕ) → path ≡ front ++ last ∷ [] → (asked : List ObjectId) (vain : Option ObjectId) → Halts IsNoTree trees front (dirs_of ds) (dirs_of ds') asked vain → m ≡ counted n asked
-      → IsOpened (dirs_of ds') → IsRefused trees old path (made ds' m)
-  halted_so ds ds' n m old view path front last is asked vain halts count all =
-      let came = halts_opens trees front (dirs_of ds) (dirs_of ds') asked vain halts in
-      subst (λ (o : State S). IsRefused trees o path (made ds' m)) view
-      (stay ds ds' n m path came.0 came.2 asked came.5 (subst (λ p. length asked ≤ unopened_count trees (dirs_of ds) p) (sym is) (halted_count trees front last [] (dirs_of ds) (dirs_of ds') asked vain halts)) count all)
+      → OpenedOn ds → OpenedSo ds ds' → IsRefused trees old path (made ds' m)
+  halted_so ds ds' n m old view path front last is asked vain halts count =
+      stay_at unasked.Opened ds ds' n m old view path (halted_in_part trees path front last [] is (dirs_of ds) (dirs_of ds') asked vain halts n m count)
 
-  pub opened_so : {Ends : EntryView → Type 0} → IsIdle Ends → (ds ds' : Opened) (n m : ℕ) (old : State S) → made ds n ≡ old → (path front : Path) (last : List ℕ) → path ≡ front ++ last ∷ [] → (asked : List ObjectId) → Opens Ends trees front (dirs_of ds) (dirs_of ds') asked → m ≡ counted n asked → IsOpened (dirs_of ds') → IsRefused trees old path (made ds' m)
-  opened_so idle ds ds' n m old view path front last is asked opens count all =
-      subst (λ (o : State S). IsRefused trees o path (made ds' m)) view
-      (stay ds ds' n m path front asked asked opens (subst (λ p. length asked ≤ unopened_count trees (dirs_of ds) p) (sym is) (let same = asked_count trees idle front last (dirs_of ds) (dirs_of ds') asked opens in omega (arith, same))) count all)
+  pub opened_so : (it : Unasked) (ds ds' : Opened) (n m : ℕ) (old : State S) → made ds n ≡ old → (path front : Path) (last : List ℕ) → path ≡ front ++ last ∷ [] → (asked : List ObjectId) → Opens (EndsBefore it) trees front (dirs_of ds) (dirs_of ds') asked → m ≡ counted n asked
+      → OpenedOn ds → OpenedSo ds ds' → IsRefused trees old path (made ds' m)
+  opened_so it ds ds' n m old view path front last is asked opens count =
+      stay_at it ds ds' n m old view path (opened_in_part trees path front last [] is (dirs_of ds) (dirs_of ds') asked opens n m count)
 
   -- why the opening halted
   some_name : (front : Path) (last : List ℕ) → front ++ last ∷ [] ≢ []
@@ -193,3 +284,8 @@ module _ {S : Type 0} (store : S) (hash : Kind) (prefix : Path) (trees : Trees) 
       by_cause opening.MalformedTree (Some it) h r = (names, (it, above (Some it) h it refl, r))
       by_cause (opening.FindExistingObject why) None h r = absurd (cc r)
       by_cause (opening.FindExistingObject why) (Some it) h r = (names, (it, above (Some it) h it refl, r))
+
+-- what two clauses say of a result that came through
+pub both_hold : {X E : Type 0} (r : Result X E) (P : X → Type 0) (Q : Type 0) (R : X → Type 0) → IfOk r P → OnOk r Q → ((x : X) → P x → Q → R x) → IfOk r R
+both_hold (Ok x) P Q R h k f = f x h k
+both_hold (Err error) P Q R h k f = tt

@@ -2,9 +2,11 @@ mod AssuredAt
 mod CursorStays
 mod Edited
 mod FoundBelow
+mod InPart
 mod Paths
 mod RemovedAt
 mod Removing
 mod RootAlone
+mod StillOn
 mod WrittenBelow
 mod WrittenOut

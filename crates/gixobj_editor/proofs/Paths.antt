@@ -4,15 +4,21 @@ use Rattle.std.proofs.lemmas.List.{map-append}
 use Rattle.bstr.specs.Owned.{bstring_bytes}
 use Rattle.bstr.specs.declared.bstring.BString.{BString}
 use Rattle.gixobj_directories.specs.Calls.{names_of}
-use Rattle.gixobj_files.specs.Edits.{counted}
+use Rattle.gixobj_files.specs.Edits.{counted, raised}
 use Rattle.gixobj_files.specs.Files.{Path}
 use Rattle.gixobj_ids.specs.declared.hash.object_id.ObjectId.{ObjectId}
-use Rattle.gixobj_editor.specs.Upserts.{directory_of, raised}
+use Rattle.gixobj_editor.specs.Upserts.{directory_of}
 
 pub directory_is : (front : Path) (last : List ℕ) → directory_of (front ++ last ∷ []) ≡ front
 directory_is [] last = refl
 directory_is (name ∷ []) last = refl
 directory_is (name ∷ next ∷ rest) last = ap (λ p. name ∷ p) (directory_is (next ∷ rest) last)
+
+-- which begins the path
+pub directory_begins : (path : Path) → (more : Path) × (path ≡ directory_of path ++ more)
+directory_begins [] = ([], refl)
+directory_begins (name ∷ []) = (name ∷ [], refl)
+directory_begins (name ∷ next ∷ rest) = let deeper = directory_begins (next ∷ rest) in (deeper.0, ap (λ p. name ∷ p) deeper.1)
 
 pub names_last : (path rest : List BString) (last : BString) → path ≡ rest ++ last ∷ [] → names_of path ≡ names_of rest ++ bstring_bytes last ∷ []
 names_last path rest last is = ap names_of is ∙ map-append bstring_bytes rest (last ∷ [])

@@ -1,10 +1,10 @@
 -- An editor after a removal, from what became of its open directories.
-use Rattle.std.proofs.Common.{◌≡◌, ◌∙◌, ◌≤◌, inl, inr, ℕ, List, [], ◌∷◌, ◌++◌, Some, refl, sym, ap, subst, length, arith}
+use Rattle.std.proofs.Common.{◌≡◌, ◌∙◌, inl, inr, ℕ, List, [], ◌∷◌, ◌++◌, Some, refl, sym, ap, subst, length, arith}
 use Rattle.gixobj_trees.specs.Entries.{EntryView}
 use Rattle.gixobj_ids.specs.declared.hash.kind.Kind.{Kind}
 use Rattle.gixobj_ids.specs.declared.hash.object_id.ObjectId.{ObjectId}
 use Rattle.gixobj_directories.specs.Nested.{Opened, dirs_of}
-use Rattle.gixobj_files.specs.Edits.{IsUnasked, Opens, arrived, counted, down, entry_at, found, removed_dirs, stops}
+use Rattle.gixobj_files.specs.Edits.{IsUnasked, Opens, arrived, counted, down, entry_at, found, removed_dirs, stops, raised}
 use Rattle.gixobj_files.specs.Files.{Path, Removed, SameFiles, Table, Trees}
 use Rattle.gixobj_files.specs.Halting.{IsUnopenedAbove}
 use Rattle.gixobj_files.specs.Opening.{Dirs, IsOpened, OpenFiles}
@@ -14,12 +14,18 @@ use Rattle.gixobj_files.proofs.Coming.{opens_reached, told_after}
 use Rattle.gixobj_files.proofs.EditedFiles.{same_removed, same_trans}
 use Rattle.gixobj_files.proofs.OpeningFiles.{opens_files}
 use Rattle.gixobj_files.proofs.RemovedFiles.{IsReached, removed_files}
+use Rattle.gixobj_files.proofs.StillOpenedOpenings.{opened_opening}
 use Rattle.gixobj_files.proofs.StillOpenedRemovals.{opened_removed}
 use Rattle.gixobj_files.proofs.UnopenedCounts.{IsIdle, asked_count}
-use Rattle.gixobj_editor.specs.Upserts.{IsRefused, directory_of, raised}
+use Rattle.gixobj_editor.specs.Upserts.{IsRefused, directory_of}
 use Rattle.gixobj_editor.specs.Removals.{IsRemoved}
-use Rattle.gixobj_editor.proofs.Edited.{as_map, known_above, map_dirs, none_above, same_dirs, stay, state_of}
-use Rattle.gixobj_editor.proofs.Paths.{counted_raised, directory_is}
+use Rattle.gixobj_editor.proofs.Edited.{EditedSo, OpenedOn, OpenedSo, as_map, edited_map, known_above, map_bases, map_dirs, none_above, on_map, same_dirs, state_of, stay_at}
+use Rattle.gixobj_directories.proofs.OpeningSteps.{ends_idle}
+use Rattle.gixobj_directories.specs.Openings.{EndsBefore}
+use Rattle.gixobj_directories.specs.declared.opening.Unasked.{Unasked}
+use Rattle.gixobj_files.proofs.Calls.{removed_based}
+use Rattle.gixobj_editor.proofs.InPart.{front_in_part}
+use Rattle.gixobj_editor.proofs.Paths.{counted_raised, directory_begins, directory_is}
 use Rattle.gixobj_editor.proofs.Removing.{IsOpenedFor, path_ends}
 
 nothing_asked : {Ends : EntryView → Type 0} (trees : Trees) (p : Path) → p ≡ [] → (old new : Dirs) (asked : List ObjectId) → Opens Ends trees p old new asked → length asked ≡ 0
@@ -64,17 +70,23 @@ module _ {Ends : EntryView → Type 0} (idle : IsIdle Ends) (trees : Trees) (pat
     | inr ends ↦ subst (λ p. entry_at p new ≡ told_entry trees p old) (sym ends.2) (told_after idle trees ends.0 ends.1 old new asked (along ends.0 ends.1 ends.2))
   ]
 
-module _ {S : Type 0} (store : S) (hash : Kind) (prefix : Path) (trees : Trees) {Ends : EntryView → Type 0} (idle : IsIdle Ends) where
+module _ {S : Type 0} (store : S) (hash : Kind) (prefix : Path) (trees : Trees) (it : Unasked) where
   abbrev made : Opened → ℕ → State S
   made ds n = state_of store hash prefix ds n
+
+  abbrev Ends : EntryView → Type 0
+  Ends = EndsBefore it
+
+  idle : IsIdle Ends
+  idle = ends_idle it
 
   -- the directories of an editor's map in place of the owned ones
   for_map : (ds : Opened) (new : Dirs) (path : Path) (asked : List ObjectId) → IsOpenedFor Ends trees path (dirs_of ds) new asked → IsOpenedFor Ends trees path (map_dirs ds) new asked
   for_map ds new path asked opened = subst (λ (d : Dirs). IsOpenedFor Ends trees path d new asked) (sym (same_dirs ds)) opened
 
   taken_out : (ds mid ds' : Opened) (n m : ℕ) (path : Path) (asked : List ObjectId) → IsOpenedFor Ends trees path (dirs_of ds) (dirs_of mid) asked → m ≡ counted n asked → ((at : Path) → dirs_of ds' at ≡ removed_dirs path (dirs_of mid) at)
-      → IsOpened (dirs_of ds') → IsRemoved Ends trees (made ds n) path (made ds' m)
-  taken_out ds mid ds' n m path asked opened count take all =
+      → OpenedOn ds → OpenedSo ds mid → EditedSo mid ds' → IsRemoved Ends trees (made ds n) path (made ds' m)
+  taken_out ds mid ds' n m path asked opened count take was first then =
       let so = for_map ds (dirs_of mid) path asked opened in
       let new_is : map_dirs ds' ≡ removed_dirs path (dirs_of mid) = same_dirs ds' ∙ (λ i at. take at i) in
       record {
@@ -83,29 +95,28 @@ module _ {S : Type 0} (store : S) (hash : Kind) (prefix : Path) (trees : Trees) 
         asked = asked;
         opens = so.0;
         dirs = λ at. ap (λ (d : Dirs). d at) new_is;
+        bases = edited_map ds mid ds' first then;
         lookups = count ∙ counted_raised n asked ∙ ap (raised n) (count_above idle trees path (map_dirs ds) (dirs_of mid) asked so.0);
         rest = refl;
-        is_opened = as_map ds' all;
+        is_opened = as_map ds' (still_taken path mid ds' (opened_opening trees (directory_of path) (dirs_of ds) (dirs_of mid) asked opened.0 was.opened) take);
         known = all_known idle trees path (map_dirs ds) (dirs_of mid) asked so.0;
         files = λ T k agrees. subst (λ (d : Dirs). SameFiles (OpenFiles T k d) (Removed path (OpenFiles T k (map_dirs ds)))) (sym new_is)
             (same_trans _ _ _ (removed_files T k path (dirs_of mid) (reached_above idle trees path (map_dirs ds) (dirs_of mid) asked so.0 T)) (same_removed path (OpenFiles T k (dirs_of mid)) (OpenFiles T k (map_dirs ds)) (opens_files T trees agrees (directory_of path) (map_dirs ds) (dirs_of mid) asked so.0 k)));
+        has_bases = λ T agrees has. removed_based T trees hash (map_dirs ds) (map_bases ds) (map_dirs ds') (map_bases ds') (on_map ds was) agrees has (directory_of path) path (dirs_of mid) asked so.0 (λ at. ap (λ (d : Dirs). d at) new_is) (edited_map ds mid ds' first then);
       }
 
   pub removed_at : (ds mid ds' : Opened) (n m : ℕ) (old : State S) → made ds n ≡ old → (path : Path) (asked : List ObjectId) → IsOpenedFor Ends trees path (dirs_of ds) (dirs_of mid) asked → m ≡ counted n asked
-      → ((at : Path) → dirs_of ds' at ≡ removed_dirs path (dirs_of mid) at) → IsOpened (dirs_of ds') → IsRemoved Ends trees old path (made ds' m)
-  removed_at ds mid ds' n m old view path asked opened count take all = subst (λ (o : State S). IsRemoved Ends trees o path (made ds' m)) view (taken_out ds mid ds' n m path asked opened count take all)
+      → ((at : Path) → dirs_of ds' at ≡ removed_dirs path (dirs_of mid) at) → OpenedOn ds → OpenedSo ds mid → EditedSo mid ds' → IsRemoved Ends trees old path (made ds' m)
+  removed_at ds mid ds' n m old view path asked opened count take was first then = subst (λ (o : State S). IsRemoved Ends trees o path (made ds' m)) view (taken_out ds mid ds' n m path asked opened count take was first then)
 
   -- the entry at the path, before and after the opening
   pub told_at : (ds mid : Opened) (n : ℕ) (old : State S) → made ds n ≡ old → (path : Path) (asked : List ObjectId) → IsOpenedFor Ends trees path (dirs_of ds) (dirs_of mid) asked → entry_at path (dirs_of mid) ≡ told_entry trees path (open_dirs old)
   told_at ds mid n old view path asked opened = subst (λ (o : State S). entry_at path (dirs_of mid) ≡ told_entry trees path (open_dirs o)) view (told_same idle trees path (map_dirs ds) (dirs_of mid) asked (for_map ds (dirs_of mid) path asked opened).0)
 
   -- nothing but directories was opened, and then the removal was refused
-  pub refused_at : (ds mid : Opened) (n m : ℕ) (old : State S) → made ds n ≡ old → (path : Path) (asked : List ObjectId) → IsOpenedFor Ends trees path (dirs_of ds) (dirs_of mid) asked → m ≡ counted n asked → IsOpened (dirs_of mid) → IsRefused trees old path (made mid m)
-  refused_at ds mid n m old view path asked opened count all =
+  pub refused_at : (ds mid : Opened) (n m : ℕ) (old : State S) → made ds n ≡ old → (path : Path) (asked : List ObjectId) → IsOpenedFor Ends trees path (dirs_of ds) (dirs_of mid) asked → m ≡ counted n asked
+      → OpenedOn ds → OpenedSo ds mid → IsRefused trees old path (made mid m)
+  refused_at ds mid n m old view path asked opened count =
       let same = count_above idle trees path (dirs_of ds) (dirs_of mid) asked opened.0 in
-      subst (λ (o : State S). IsRefused trees o path (made mid m)) view (stay store hash prefix trees ds mid n m path (directory_of path) asked asked opened.0 (omega (arith, same)) count all)
-
-  -- the opening was refused
-  pub stopped_at : (ds mid : Opened) (n m : ℕ) (old : State S) → made ds n ≡ old → (path front : Path) (answered asked : List ObjectId) → Opens Ends trees front (dirs_of ds) (dirs_of mid) answered → m ≡ counted n asked → length asked ≤ unopened_count trees (dirs_of ds) path
-      → IsOpened (dirs_of mid) → IsRefused trees old path (made mid m)
-  stopped_at ds mid n m old view path front answered asked opens count few all = subst (λ (o : State S). IsRefused trees o path (made mid m)) view (stay store hash prefix trees ds mid n m path front answered asked opens few count all)
+      let begins = directory_begins path in
+      stay_at store hash prefix trees it ds mid n m old view path (front_in_part trees path (directory_of path) begins.0 begins.1 (dirs_of ds) (dirs_of mid) asked opened.0 (omega (arith, same)) n m count)

@@ -1,5 +1,5 @@
 -- How far a removal's opening comes, and which names it judges.
-use Rattle.std.proofs.Common.{◌≡◌, ◌≢◌, ◌∙◌, ◌⊎◌, ◌≤◌, inl, inr, ℕ, Bool, List, [], ◌∷◌, ◌++◌, Option, Some, None, length, refl, sym, ap, subst}
+use Rattle.std.proofs.Common.{◌≡◌, ◌≢◌, ◌∙◌, ◌⊎◌, inl, inr, ℕ, Bool, List, [], ◌∷◌, ◌++◌, Option, Some, None, refl, sym, ap, subst}
 use Rattle.std.proofs.lemmas.List.Elements.{All-cons, All-head, All-nil, All-tail}
 use Rattle.gixobj_trees.specs.Entries.{EntryView, IsEntryName}
 use Rattle.gixobj_ids.specs.declared.hash.object_id.ObjectId.{ObjectId}
@@ -8,19 +8,19 @@ use Rattle.gixobj_directories.specs.Calls.{AreNames}
 use Rattle.gixobj_directories.specs.Openings.{RefusesAt}
 use Rattle.gixobj_directories.specs.declared.opening.Error as directory
 use Rattle.gixobj_directories.specs.declared.opening.Error.TheVariants as opening
-use Rattle.gixobj_files.specs.Edits.{Opens}
+use Rattle.gixobj_files.specs.Edits.{Opens, counted}
 use Rattle.gixobj_files.specs.Files.{Path, Trees}
 use Rattle.gixobj_files.specs.Halting.{ComesTo, Halts, at_once, in_vain}
 use Rattle.gixobj_files.specs.Halting as halting
 use Rattle.gixobj_files.specs.Opening.{Dirs}
-use Rattle.gixobj_files.specs.Unopened.{unopened_count}
 use Rattle.gixobj_files.proofs.Coming.{comes_open, open_comes, opens_longer}
-use Rattle.gixobj_files.proofs.Halted.{halted_at, halted_count, halted_shut, halts_opens}
-use Rattle.gixobj_files.proofs.UnopenedCounts.{IsIdle, opens_at_most}
-use Rattle.gixobj_editor.specs.Upserts.{IsJudged, RefusesName, RefusesNames, directory_of, edit_refusal}
+use Rattle.gixobj_files.proofs.Halted.{halted_at, halted_shut}
+use Rattle.gixobj_files.proofs.UnopenedCounts.{IsIdle}
+use Rattle.gixobj_editor.specs.Upserts.{IsJudged, IsOpenedInPart, RefusesName, RefusesNames, directory_of, edit_refusal}
 use Rattle.gixobj_editor.specs.Removals.{Judges, RefusesRemoval}
 use Rattle.gixobj_editor.specs.declared.editor.error.Error.{Error}
 use Rattle.gixobj_editor.specs.declared.editor.error.Error.TheVariants as error
+use Rattle.gixobj_editor.proofs.InPart.{halted_in_part, opened_in_part}
 use Rattle.gixobj_editor.proofs.Paths.{cuts, directory_is}
 
 -- names of a path and of its parts
@@ -61,9 +61,9 @@ no_halt trees path is old new asked vain (halting.down name rest d inner e entri
 no_halt trees path is old new asked vain (halting.found name rest d inner e entries first more v entry tree free none finds halts) = cc is
 
 -- where a removal was refused: what was opened, how often the store was asked, and why
-abbrev pub IsRefusedSo : (EntryView → Type 0) → Objects → (ObjectId → Bool) → Trees → Path → Dirs → Dirs → List ObjectId → Error → Type 0
-IsRefusedSo Ends objects may_fail trees path old new asked refusal =
-    (front : Path) × (answered : List ObjectId) × Opens Ends trees front old new answered × (length asked ≤ unopened_count trees old path) × RefusesRemoval Ends objects may_fail trees old path refusal
+abbrev pub IsRefusedSo : (EntryView → Type 0) → Objects → (ObjectId → Bool) → Trees → Path → Dirs → Dirs → ℕ → ℕ → Error → Type 0
+IsRefusedSo Ends objects may_fail trees path old new before after refusal =
+    IsOpenedInPart Ends trees path old new before after × RefusesRemoval Ends objects may_fail trees old path refusal
 
 module _ {Ends : EntryView → Type 0} (idle : IsIdle Ends) (objects : Objects) (may_fail : ObjectId → Bool) (trees : Trees) where
   -- a directory wasn't opened
@@ -80,17 +80,13 @@ module _ {Ends : EntryView → Type 0} (idle : IsIdle Ends) (objects : Objects) 
       subst (λ p. RefusesRemoval Ends objects may_fail trees old p (error.FindExistingObject why)) (sym is) (it, h.0, names_before h.0.place h.1 (subst AreNames h.2 good), at)
 
   pub halted_removal : (path names refused : Path) → IsJudged path names refused → (old new : Dirs) (asked : List ObjectId) (vain : Option ObjectId) → Halts Ends trees names old new asked vain → (cause : directory.Error) → RefusesAt objects may_fail vain cause
-      → IsRefusedSo Ends objects may_fail trees path old new asked (edit_refusal cause)
-  halted_removal path names refused judged old new asked vain halts cause at = elim (behind_names path names refused judged) [
+      → (n m : ℕ) → m ≡ counted n asked → IsRefusedSo Ends objects may_fail trees path old new n m (edit_refusal cause)
+  halted_removal path names refused judged old new asked vain halts cause at n m count = elim (behind_names path names refused judged) [
     | inl none ↦ absurd (no_halt trees names none.1 old new asked vain halts)
-    | inr left ↦
-        let came = halts_opens trees names old new asked vain halts in (
-          came.0,
-          came.2,
-          came.5,
-          subst (λ p. length asked ≤ unopened_count trees old p) (sym left.2) (halted_count trees names left.0 left.1 old new asked vain halts),
-          halt_refuses path names left.0 left.1 left.2 left.3 old new asked vain halts cause at,
-        )
+    | inr left ↦ (
+      halted_in_part trees path names left.0 left.1 left.2 old new asked vain halts n m count,
+      halt_refuses path names left.0 left.1 left.2 left.3 old new asked vain halts cause at,
+    )
   ]
 
   -- a name was refused
@@ -104,16 +100,13 @@ module _ {Ends : EntryView → Type 0} (idle : IsIdle Ends) (objects : Objects) 
   first_refused path names name rest good is old new asked opens entries there error.OutOfMemory h = absurd h
 
   pub name_refused_so : (path names refused : Path) → IsJudged path names refused → (old new : Dirs) (asked : List ObjectId) → Opens Ends trees names old new asked → (entries : List EntryView) → new names ≡ Some entries → (refusal : Error) → RefusesNames refused refusal
-      → IsRefusedSo Ends objects may_fail trees path old new asked refusal
-  name_refused_so path names [] judged old new asked opens entries there refusal h = absurd h
-  name_refused_so path names (name ∷ rest) judged old new asked opens entries there refusal (inl h) = (
-    names,
-    asked,
-    opens,
-    subst (λ p. length asked ≤ unopened_count trees old p) (sym judged.2) (opens_at_most trees names name rest old new asked opens),
+      → (n m : ℕ) → m ≡ counted n asked → IsRefusedSo Ends objects may_fail trees path old new n m refusal
+  name_refused_so path names [] judged old new asked opens entries there refusal h n m count = absurd h
+  name_refused_so path names (name ∷ rest) judged old new asked opens entries there refusal (inl h) n m count = (
+    opened_in_part trees path names name rest judged.2 old new asked opens n m count,
     first_refused path names name rest judged.0 judged.2 old new asked opens entries there refusal h,
   )
-  name_refused_so path names (name ∷ rest) judged old new asked opens entries there refusal (inr h) = absurd (judged.1 h.0)
+  name_refused_so path names (name ∷ rest) judged old new asked opens entries there refusal (inr h) n m count = absurd (judged.1 h.0)
 
 -- what was opened, where nothing was refused, and that each name that was judged is one
 abbrev pub IsOpenedFor : (EntryView → Type 0) → Trees → Path → Dirs → Dirs → List ObjectId → Type 0

@@ -5,18 +5,20 @@ use Rattle.std.specs.List.{FoldsTo}
 use Rattle.gixobj_data.specs.Stores.{Objects}
 use Rattle.gixobj_directories.specs.Calls.{AreNames, IsStorable}
 use Rattle.gixobj_directories.specs.declared.opening.Error.TheVariants as opening
-use Rattle.gixobj_files.specs.Edits.{IsNoTree, Opens, assured_dirs, only, with_path}
+use Rattle.gixobj_directories.specs.declared.write.Written.{Written}
+use Rattle.gixobj_files.specs.Bases.{HasBases, edited_bases, opened_bases}
+use Rattle.gixobj_files.specs.Edits.{IsNoTree, Opens, assured_dirs, only, with_path, raised}
 use Rattle.gixobj_files.specs.Files.{Assured, NamedFiles, Path, SameFiles, Table, Trees}
 use Rattle.gixobj_files.specs.Halting.{IsUnopenedAbove}
 use Rattle.gixobj_files.specs.HandingOut.{HandsOut}
 use Rattle.gixobj_files.specs.Opening.{Dirs, IsOpened, in_path}
-use Rattle.gixobj_files.specs.State.{EditorFiles, FilesBelow, State, open_dirs}
+use Rattle.gixobj_files.specs.State.{EditorFiles, FilesBelow, State, open_bases, open_dirs}
 use Rattle.gixobj_files.specs.Tables.{AgreesWithPairs, AgreesWithStore, Pair}
 use Rattle.gixobj_files.specs.Unopened.{inside, unopened_count}
 use Rattle.gixobj_ids.specs.Hash.{null_id}
 use Rattle.gixobj_ids.specs.declared.hash.object_id.ObjectId.{ObjectId}
 use Rattle.gixobj_trees.specs.Entries.{EntryView}
-use Rattle.gixobj_editor.specs.Upserts.{RefusesNames, RefusesUnopened, raised}
+use Rattle.gixobj_editor.specs.Upserts.{RefusesNames, RefusesUnopened}
 use Rattle.gixobj_editor.specs.declared.editor.error.Error.{Error}
 use Rattle.gixobj_editor.specs.declared.editor.error.Error.TheVariants as error
 
@@ -53,25 +55,30 @@ pub record IsAssured {S : Type 0} (trees : Trees) (old : State S) (path : Path) 
   pub asked : List ObjectId
   pub opens : Opens IsNoTree trees path (open_dirs old) opened asked
   pub dirs : (at : Path) → open_dirs new at ≡ assured_dirs path (null_id old.object_hash) opened at
+  pub bases : (at : Path) → open_bases new at ≡ edited_bases opened (open_dirs new) (opened_bases (open_dirs old) opened (open_bases old)) at
   pub lookups : new.lookups ≡ raised old.lookups (unopened_count trees (open_dirs old) (inside path))
-  pub rest : new ≡ record old { dirs = new.dirs; lookups = new.lookups; prefix = path }
+  pub rest : new ≡ record old { dirs = new.dirs; bases = new.bases; lookups = new.lookups; prefix = path }
   pub is_opened : IsOpened (open_dirs new)
   -- the store has each unopened directory at or above the path
   pub known : (it : ObjectId) → IsUnopenedAbove trees (open_dirs old) (inside path) it → (entries : List EntryView) × (trees it ≡ Some entries)
   pub files : (T : Table) (n : ℕ) → AgreesWithStore T trees → SameFiles (EditorFiles T n new) (Assured path (EditorFiles T n old))
+  -- the bases are as they are named by their ids, in every table in which they were
+  pub has_bases : (T : Table) → AgreesWithStore T trees → HasBases T (open_dirs old) (open_bases old) → HasBases T (open_dirs new) (open_bases new)
 
--- a write of the directory at a prefix: these pairs went out, its own last, and the closure was called on these trees alone, in this
+-- a write of the directory at a prefix: its pairs went out, its own last, and the closure was called on these trees alone, in this
 -- order; the directory is open with the tree handed out last, nothing in it is, and all else is as before; the tree that is named has
 -- exactly the files below the prefix, and the editor's files stay
-pub record IsWrittenBelow {S F : Type 0} (gave : F → Pair → F → Type 0) (asked : F) (old : State S) (prefix : Path) (id : ObjectId) (pairs : List Pair) (new : State S) (answered : F) : Type 0 where
-  pub handed_out : HandsOut (in_path prefix (open_dirs old)) pairs
-  pub called : FoldsTo gave asked pairs answered
-  pub storable : All (λ pair. IsStorable pair.1) pairs
+pub record IsWrittenBelow {S F : Type 0} (gave : F → Pair → F → Type 0) (asked : F) (old : State S) (prefix : Path) (it : Written) (new : State S) (answered : F) : Type 0 where
+  pub handed_out : HandsOut (in_path prefix (open_dirs old)) (in_path prefix (open_bases old)) it.saved it.trees.items
+  pub called : FoldsTo gave asked it.trees.items answered
+  pub storable : All (λ pair. IsStorable pair.1) it.trees.items
   pub below : List Pair
   pub own : List EntryView
-  pub last : pairs ≡ below ++ (id, own) ∷ []
+  pub last : it.trees.items ≡ below ++ (it.id, own) ∷ []
   pub dirs : (at : Path) → open_dirs new at ≡ with_path prefix (only own) (open_dirs old) at
-  pub rest : new ≡ record old { dirs = new.dirs }
+  pub bases : (at : Path) → open_bases new at ≡ edited_bases (open_dirs old) (open_dirs new) (open_bases old) at
+  pub rest : new ≡ record old { dirs = new.dirs; bases = new.bases }
   pub is_opened : IsOpened (open_dirs new)
-  pub files : (T : Table) (n : ℕ) → AgreesWithPairs T pairs → SameFiles (NamedFiles T n id) (FilesBelow T n prefix old)
-  pub same_files : (T : Table) (n : ℕ) → AgreesWithPairs T pairs → SameFiles (EditorFiles T n new) (EditorFiles T n old)
+  pub files : (T : Table) (n : ℕ) → AgreesWithPairs T it.trees.items → HasBases T (open_dirs old) (open_bases old) → SameFiles (NamedFiles T n it.id) (FilesBelow T n prefix old)
+  pub same_files : (T : Table) (n : ℕ) → AgreesWithPairs T it.trees.items → HasBases T (open_dirs old) (open_bases old) → SameFiles (EditorFiles T n new) (EditorFiles T n old)
+  pub has_bases : (T : Table) → HasBases T (open_dirs old) (open_bases old) → HasBases T (open_dirs new) (open_bases new)

@@ -6,18 +6,19 @@ use Rattle.gixobj_directories.specs.Calls.{AreNames}
 use Rattle.gixobj_directories.specs.Openings.{RefusesDirectory}
 use Rattle.gixobj_directories.specs.declared.opening.Error as directory
 use Rattle.gixobj_directories.specs.declared.opening.Error.TheVariants as opening
-use Rattle.gixobj_files.specs.Edits.{IsUnasked, Opens, removed_dirs}
+use Rattle.gixobj_files.specs.Bases.{HasBases, edited_bases, opened_bases}
+use Rattle.gixobj_files.specs.Edits.{IsUnasked, Opens, removed_dirs, raised}
 use Rattle.gixobj_files.specs.Files.{Path, Removed, SameFiles, Table, Trees}
 use Rattle.gixobj_files.specs.Halting.{ComesTo, IsShutAbove, IsUnopenedAbove}
 use Rattle.gixobj_files.specs.Opening.{Dirs, IsOpened}
-use Rattle.gixobj_files.specs.State.{EditorFiles, State, open_dirs}
+use Rattle.gixobj_files.specs.State.{EditorFiles, State, open_bases, open_dirs}
 use Rattle.gixobj_files.specs.Tables.{AgreesWithStore}
 use Rattle.gixobj_files.specs.Unopened.{told_entry, unopened_count}
 use Rattle.gixobj_ids.specs.declared.hash.object_id.ObjectId.{ObjectId}
 use Rattle.gixobj_texts.specs.Bytes.{slash}
 use Rattle.gixobj_trees.specs.Entries.{EntryView, IsEntryName}
 use Rattle.gixobj_trees.specs.Mode.{is_tree_mode}
-use Rattle.gixobj_editor.specs.Upserts.{RefusesName, directory_of, raised}
+use Rattle.gixobj_editor.specs.Upserts.{RefusesName, directory_of}
 use Rattle.gixobj_editor.specs.declared.editor.error.Error.{Error}
 use Rattle.gixobj_editor.specs.declared.editor.error.Error.TheVariants as error
 
@@ -70,12 +71,15 @@ pub record IsRemoved {S : Type 0} (Ends : EntryView → Type 0) (trees : Trees) 
   pub asked : List ObjectId
   pub opens : Opens Ends trees (directory_of path) (open_dirs old) opened asked
   pub dirs : (at : Path) → open_dirs new at ≡ removed_dirs path opened at
+  pub bases : (at : Path) → open_bases new at ≡ edited_bases opened (open_dirs new) (opened_bases (open_dirs old) opened (open_bases old)) at
   pub lookups : new.lookups ≡ raised old.lookups (unopened_count trees (open_dirs old) path)
-  pub rest : new ≡ record old { dirs = new.dirs; lookups = new.lookups }
+  pub rest : new ≡ record old { dirs = new.dirs; bases = new.bases; lookups = new.lookups }
   pub is_opened : IsOpened (open_dirs new)
   -- the store has each unopened directory above the path
   pub known : (it : ObjectId) → IsUnopenedAbove trees (open_dirs old) path it → (entries : List EntryView) × (trees it ≡ Some entries)
   pub files : (T : Table) (n : ℕ) → AgreesWithStore T trees → SameFiles (EditorFiles T n new) (Removed path (EditorFiles T n old))
+  -- the bases are as they are named by their ids, in every table in which they were
+  pub has_bases : (T : Table) → AgreesWithStore T trees → HasBases T (open_dirs old) (open_bases old) → HasBases T (open_dirs new) (open_bases new)
 
 -- an accepted removal of a leaf: no directory was at the path
 pub record IsLeafRemoved {S : Type 0} (trees : Trees) (old : State S) (path : Path) (new : State S) : Type 0 where

@@ -1,15 +1,17 @@
 -- What an upsert of an editor promises, and an edit that was refused.
-use Rattle.std.specs.Prelude.{◌≡◌, ◌≢◌, ◌≤◌, ◌⊎◌, ◌+◌, ◌++◌, ℕ, zero, suc, Bool, List, [], ◌∷◌, Contains, Some, min, ⊤}
+use Rattle.std.specs.Prelude.{◌≡◌, ◌≢◌, ◌≤◌, ◌⊎◌, ◌++◌, ℕ, Bool, List, [], ◌∷◌, Contains, Some, length, ⊤}
 use Rattle.gixobj_data.specs.Stores.{Objects}
 use Rattle.gixobj_directories.specs.Calls.{AreNames}
-use Rattle.gixobj_directories.specs.Openings.{RefusesDirectory}
+use Rattle.gixobj_directories.specs.Openings.{EndsBefore, RefusesDirectory}
+use Rattle.gixobj_directories.specs.declared.opening.Unasked.{Unasked}
+use Rattle.gixobj_files.specs.Bases.{HasBases, edited_bases, opened_bases}
 use Rattle.gixobj_directories.specs.declared.opening.Error as directory
 use Rattle.gixobj_directories.specs.declared.opening.Error.TheVariants as opening
-use Rattle.gixobj_files.specs.Edits.{IsNoTree, Opens, upserted_dirs}
+use Rattle.gixobj_files.specs.Edits.{IsNoTree, Opens, counted, raised, upserted_dirs}
 use Rattle.gixobj_files.specs.Files.{Path, SameFiles, Table, Trees, Upserted}
 use Rattle.gixobj_files.specs.Halting.{IsUnopenedAbove}
 use Rattle.gixobj_files.specs.Opening.{Dirs, IsOpened}
-use Rattle.gixobj_files.specs.State.{EditorFiles, State, open_dirs}
+use Rattle.gixobj_files.specs.State.{EditorFiles, State, open_bases, open_dirs}
 use Rattle.gixobj_files.specs.Tables.{AgreesWithStore}
 use Rattle.gixobj_files.specs.Unopened.{unopened_count}
 use Rattle.gixobj_ids.specs.Hash.{null_id}
@@ -24,11 +26,6 @@ abbrev pub directory_of : Path → Path
 directory_of [] = []
 directory_of (name ∷ []) = []
 directory_of (name ∷ next ∷ rest) = name ∷ directory_of (next ∷ rest)
-
--- a count raised so many times by one; it stays at the greatest u64
-abbrev pub raised : ℕ → ℕ → ℕ
-raised n zero = n
-raised n (suc times) = raised (min (n + 1) 18446744073709551615) times
 
 -- a name that no entry may have
 abbrev pub RefusesName : List ℕ → Error → Type 0
@@ -90,20 +87,46 @@ pub record IsUpserted {S : Type 0} (trees : Trees) (old : State S) (path : Path)
   pub asked : List ObjectId
   pub opens : Opens IsNoTree trees (directory_of path) (open_dirs old) opened asked
   pub dirs : (at : Path) → open_dirs new at ≡ upserted_dirs path mode id (null_id old.object_hash) opened at
+  pub bases : (at : Path) → open_bases new at ≡ edited_bases opened (open_dirs new) (opened_bases (open_dirs old) opened (open_bases old)) at
   pub lookups : new.lookups ≡ raised old.lookups (unopened_count trees (open_dirs old) path)
-  pub rest : new ≡ record old { dirs = new.dirs; lookups = new.lookups }
+  pub rest : new ≡ record old { dirs = new.dirs; bases = new.bases; lookups = new.lookups }
   pub is_opened : IsOpened (open_dirs new)
   -- the store has each unopened directory above the path
   pub known : (it : ObjectId) → IsUnopenedAbove trees (open_dirs old) path it → (entries : List EntryView) × (trees it ≡ Some entries)
   pub files : (T : Table) (n : ℕ) → AgreesWithStore T trees → SameFiles (EditorFiles T n new) (Upserted T n path mode id (EditorFiles T n old))
+  -- the bases are as they are named by their ids, in every table in which they were
+  pub has_bases : (T : Table) → AgreesWithStore T trees → HasBases T (open_dirs old) (open_bases old) → HasBases T (open_dirs new) (open_bases new)
 
--- a refused edit: what was open stays open, with its list, and more may be open; there were at most as many lookups as there are
--- unopened directories above the path; the files and all else stay
+-- the directories on a path were opened in part: those on a front of it, and no other; one more at most was asked for, in vain
+pub record IsOpenedInPart (Ends : EntryView → Type 0) (trees : Trees) (path : Path) (old new : Dirs) (before after : ℕ) : Type 0 where
+  pub front : Path
+  pub more : Path
+  pub on_the_way : path ≡ front ++ more
+  pub asked : List ObjectId
+  pub opens : Opens Ends trees front old new asked
+  pub vain : List ObjectId
+  pub one : length vain ≤ 1
+  pub lookups : after ≡ counted before (asked ++ vain)
+  pub few : length (asked ++ vain) ≤ unopened_count trees old path
+
+-- a refused edit: the directories on a front of the path were opened, and no other; one more at most was asked for, in vain. What was
+-- open stays open, with its list. Each question is counted, and there are no more than unopened directories above the path. The files
+-- and all else stay
 pub record IsRefused {S : Type 0} (trees : Trees) (old : State S) (path : Path) (new : State S) : Type 0 where
+  pub unasked : Unasked
+  pub front : Path
+  pub more : Path
+  pub on_the_way : path ≡ front ++ more
+  pub asked : List ObjectId
+  pub opens : Opens (EndsBefore unasked) trees front (open_dirs old) (open_dirs new) asked
+  pub bases : (at : Path) → open_bases new at ≡ opened_bases (open_dirs old) (open_dirs new) (open_bases old) at
   pub stays : (at : Path) (entries : List EntryView) → open_dirs old at ≡ Some entries → open_dirs new at ≡ Some entries
-  pub count : ℕ
-  pub few : count ≤ unopened_count trees (open_dirs old) path
-  pub lookups : new.lookups ≡ raised old.lookups count
-  pub rest : new ≡ record old { dirs = new.dirs; lookups = new.lookups }
+  pub vain : List ObjectId
+  pub one : length vain ≤ 1
+  pub lookups : new.lookups ≡ raised old.lookups (length (asked ++ vain))
+  pub few : length (asked ++ vain) ≤ unopened_count trees (open_dirs old) path
+  pub rest : new ≡ record old { dirs = new.dirs; bases = new.bases; lookups = new.lookups }
   pub is_opened : IsOpened (open_dirs new)
   pub files : (T : Table) (n : ℕ) → AgreesWithStore T trees → SameFiles (EditorFiles T n new) (EditorFiles T n old)
+  -- the bases are as they are named by their ids, in every table in which they were
+  pub has_bases : (T : Table) → AgreesWithStore T trees → HasBases T (open_dirs old) (open_bases old) → HasBases T (open_dirs new) (open_bases new)

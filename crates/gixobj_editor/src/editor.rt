@@ -11,8 +11,9 @@ ghost use Rattle.gixobj_trees.specs.Mode.{mode_of_kind};
 ghost use Rattle.gixobj_files.specs.Edits.{IsNoTree, entry_at};
 ghost use Rattle.gixobj_files.specs.Files.{Files, SameFiles, Table, Trees};
 ghost use Rattle.gixobj_files.specs.Opening.{IsOpened};
-ghost use Rattle.gixobj_files.specs.State.{EditorFiles, open_dirs, root_alone, with_store};
-ghost use Rattle.gixobj_files.specs.HandingOut.{HandsOut};
+ghost use Rattle.gixobj_files.specs.Bases.{HasBases};
+ghost use Rattle.gixobj_files.specs.State.{EditorFiles, open_bases, open_dirs, root_alone, with_store};
+ghost use Rattle.gixobj_files.specs.HandingOut.{HandsOutSome};
 ghost use Rattle.gixobj_directories.specs.Calls.{IsCallableOnTrees, names_of};
 ghost use Rattle.gixobj_directories.specs.Handing.{Stopped};
 ghost use Rattle.gixobj_editor.specs.Writes.{IsWritten};
@@ -44,8 +45,9 @@ use std::marker::Model;
 
 /// An editor of a tree, over a store of objects.
 ///
-/// In contracts it is the list of each open directory, by its path, with the store, the number of lookups,
-/// the kind of the ids, and the path at which the newest cursor was made. An entry with a null id is a
+/// In contracts it is the list of each open directory, by its path, and the list that the
+/// directory was opened with, its base; with the store, the number of lookups, the kind of the
+/// ids, and the path at which the newest cursor was made. An entry with a null id is a
 /// placeholder, which is never written.
 #[derive(Drop)]
 pub struct Editor<S> {
@@ -59,8 +61,8 @@ pub struct Editor<S> {
 impl<S> Model for Editor<S> {
     ghost use Rattle.std.specs.FinMap as map;
     ghost use Rattle.gixobj_directories.specs.Calls.{names_of};
-    ghost use Rattle.gixobj_directories.specs.Nested.{dirs_of};
-    ghost use Rattle.gixobj_files.specs.Opening.{IsOpened};
+    ghost use Rattle.gixobj_directories.specs.Nested.{base_side, bases_of, dirs_of, entries_side, side_list};
+    ghost use Rattle.gixobj_files.specs.Bases.{AreOpenedOn};
     ghost use Rattle.gixobj_files.specs.State.{State};
     ghost use Rattle.gixobj_files.specs.State.Codes.{state_code};
 
@@ -68,15 +70,15 @@ impl<S> Model for Editor<S> {
 
     ghost coded = { state_code S.code };
 
-    ghost view = { λ e. record { dirs = map.from_entries e.root; store = e.store; lookups = e.lookups; object_hash = e.object_hash; prefix = names_of e.prefix.items } };
+    ghost view = { λ e. record { dirs = map.from_entries (side_list entries_side e.root); bases = map.from_entries (side_list base_side e.root); store = e.store; lookups = e.lookups; object_hash = e.object_hash; prefix = names_of e.prefix.items } };
 
-    ghost invariant = { λ e. IsOpened (dirs_of e.root) };
+    ghost invariant = { λ e. AreOpenedOn (dirs_of e.root) (bases_of e.root) };
 }
 
 /// Lifecycle
 impl<S> Editor<S> {
-    /// An editor of this tree, over a store of objects, with ids of this kind of digest. The root must be
-    /// well-formed, as [`Tree::is_well_formed`] tells. It takes no memory.
+    /// An editor of this tree, over a store of objects, with ids of this kind of digest. The root
+    /// must be well-formed, as [`Tree::is_well_formed`] tells. It takes no memory.
     pub fn new(root: Tree, store: S, object_hash: hash::Kind) -> Editor<S>
         requires { IsWellFormed root }
         ensures dirs { result.dirs ≡ root_alone root }
@@ -84,6 +86,8 @@ impl<S> Editor<S> {
         ensures lookups { result.lookups ≡ 0 }
         ensures object_hash { result.object_hash ≡ object_hash }
         ensures prefix { result.prefix ≡ [] }
+        ensures bases { result.bases ≡ root_alone [] }
+        ensures has_bases { (T : Table) → HasBases T (open_dirs result) (open_bases result) }
         ensures is_opened { IsOpened (open_dirs result) }
         ensures files { (T : Table) (n : ℕ) → SameFiles (EditorFiles T n result) (Files T n root) }
     {
@@ -97,13 +101,15 @@ impl<S> Editor<S> {
         }
     }
 
-    /// Begins anew with this root, which must be well-formed, as [`Tree::is_well_formed`] tells: it alone is open,
-    /// and what was edited before counts no more. The store, the kind of the ids and the number of lookups
-    /// stay. It takes no memory.
+    /// Begins anew with this root, which must be well-formed, as [`Tree::is_well_formed`] tells:
+    /// it alone is open, and what was edited before counts no more, nor what directories were
+    /// opened with. The next write hands the root out, also where nothing is edited in it. The
+    /// store, the kind of the ids and the number of lookups stay. It takes no memory.
     pub fn set_root(&mut self, root: Tree) -> &mut Editor<S>
         requires { IsWellFormed root }
         ensures same_reference { result.ghost_name ≡ self.entry.ghost_name }
-        ensures state { result.now ≡ record self.old { dirs = root_alone root } }
+        ensures state { result.now ≡ record self.old { dirs = root_alone root; bases = root_alone [] } }
+        ensures has_bases { (T : Table) → HasBases T (open_dirs result.now) (open_bases result.now) }
         ensures is_opened { IsOpened (open_dirs result.now) }
         ensures files { (T : Table) (n : ℕ) → SameFiles (EditorFiles T n result.now) (Files T n root) }
     {
@@ -133,7 +139,9 @@ impl<S> Editor<S> {
 
 /// Editing
 impl<S: Find> Editor<S> {
-    /// As [`Editor::try_upsert`]; what a refusal leaves, that one says to a caller.
+    /// Puts in or replaces an entry, as [`Editor::try_upsert`], and lends the editor back, so that
+    /// calls chain. A caller's proof knows nothing of the editor behind it: who proves something
+    /// calls that one.
     pub fn upsert(
         &mut self,
         path: &[BString],
@@ -148,7 +156,9 @@ impl<S: Find> Editor<S> {
         Ok(self)
     }
 
-    /// As [`Editor::try_remove`]; what a refusal leaves, that one says to a caller.
+    /// Takes out an entry, as [`Editor::try_remove`], and lends the editor back, so that calls
+    /// chain. A caller's proof knows nothing of the editor behind it: who proves something calls
+    /// that one.
     pub fn remove(&mut self, path: &[BString]) -> Result<&mut Editor<S>, Error>
         ensures same_reference { IfOk result (λ it. it.ghost_name ≡ self.entry.ghost_name) }
         ensures removed { IfOk result (λ it. (trees : Trees) → AreTreesOf (S.objects self.old.store) trees → IsRemoved IsNoTree trees self.old (names_of path.now) it.now) }
@@ -158,7 +168,9 @@ impl<S: Find> Editor<S> {
         Ok(self)
     }
 
-    /// As [`Editor::try_remove_leaf`]; what a refusal leaves, that one says to a caller.
+    /// Takes out what is no directory, as [`Editor::try_remove_leaf`], and lends the editor back,
+    /// so that calls chain. A caller's proof knows nothing of the editor behind it: who proves
+    /// something calls that one.
     pub fn remove_leaf(&mut self, path: &[BString]) -> Result<&mut Editor<S>, Error>
         ensures same_reference { IfOk result (λ it. it.ghost_name ≡ self.entry.ghost_name) }
         ensures removed { IfOk result (λ it. (trees : Trees) → AreTreesOf (S.objects self.old.store) trees → IsLeafRemoved trees self.old (names_of path.now) it.now) }
@@ -168,14 +180,18 @@ impl<S: Find> Editor<S> {
         Ok(self)
     }
 
-    /// Puts an entry of this kind and id at the path, in place of any entry of its name and of all that is
-    /// below it. Each strict beginning of the path becomes a directory: one that isn't open is looked up,
-    /// one that is missing is made, and an entry that is no tree is replaced. Without names nothing changes.
+    /// Puts an entry of this kind and id at the path, in place of any entry of its name and of all
+    /// that is below it. Each strict beginning of the path becomes a directory: one that isn't
+    /// open is looked up, one that is missing is made, and an entry that is no tree is replaced. A
+    /// directory at the path itself is open no more. Without names nothing changes.
     ///
-    /// `EmptyPathComponent` or `SlashInPathComponent` for the first name that no entry may have; else
-    /// `FindExistingObject` or `MalformedTree` for the first directory that the store doesn't have as a
-    /// well-formed tree, or whose lookup fails; `OutOfMemory` where memory was wanting. A refusal leaves the
-    /// files as they were; what was opened on the way stays open.
+    /// What a directory is opened with is kept beside it, to tell at a write whether it was
+    /// changed: that takes memory for a copy.
+    ///
+    /// `EmptyPathComponent` or `SlashInPathComponent` for the first name that no entry may have;
+    /// else `FindExistingObject` or `MalformedTree` for the first directory that the store doesn't
+    /// have as a well-formed tree, or whose lookup fails; `OutOfMemory` where memory was wanting.
+    /// A refusal leaves the files as they were; what was opened on the way stays open.
     pub fn try_upsert(
         &mut self,
         path: &[BString],
@@ -204,15 +220,15 @@ impl<S: Find> Editor<S> {
         Ok(())
     }
 
-    /// Takes out the entry at the path and all that is below it. The directories above are looked up where they
-    /// aren't open; where one is missing, or isn't a directory, there is nothing to remove, and the names
-    /// behind it aren't judged. Without names nothing changes.
+    /// Takes out the entry at the path and all that is below it. The directories above are looked
+    /// up where they aren't open; where one is missing, or isn't a directory, there is nothing to
+    /// remove, and the names behind it aren't judged. Without names nothing changes.
     ///
     /// `EmptyPathComponent` or `SlashInPathComponent` for a name that no entry may have, and
-    /// `FindExistingObject` or `MalformedTree` for a directory that the store doesn't have as a well-formed
-    /// tree, or whose lookup fails, whichever comes first on the way from the root; `OutOfMemory` where memory was
-    /// wanting, which is taken only where a directory is opened. A refusal leaves the files as they were; what
-    /// was opened on the way stays open.
+    /// `FindExistingObject` or `MalformedTree` for a directory that the store doesn't have as a
+    /// well-formed tree, or whose lookup fails, whichever comes first on the way from the root;
+    /// `OutOfMemory` where memory was wanting, which is taken only where a directory is opened. A
+    /// refusal leaves the files as they were; what was opened on the way stays open.
     pub fn try_remove(&mut self, path: &[BString]) -> Result<(), Error>
         ensures removed { OnOk result ((trees : Trees) → AreTreesOf (S.objects self.old.store) trees → IsRemoved IsNoTree trees self.old (names_of path.now) self.new) }
         ensures refused { OnErr result ((trees : Trees) → AreTreesOf (S.objects self.old.store) trees → IsRefused trees self.old (names_of path.now) self.new) }
@@ -229,11 +245,11 @@ impl<S: Find> Editor<S> {
         Ok(())
     }
 
-    /// As [`Editor::try_remove`], but a directory at the path isn't taken out. A directory above it of the null
-    /// id, or of the empty tree's, isn't opened: there is nothing to remove in it.
+    /// As [`Editor::try_remove`], but a directory at the path isn't taken out. A directory above
+    /// it of the null id, or of the empty tree's, isn't opened: there is nothing to remove in it.
     ///
-    /// `CannotRemoveNonLeaf` where a directory is at the path, beside what refuses a removal; `OutOfMemory` also
-    /// where there was no memory for its path.
+    /// `CannotRemoveNonLeaf` where a directory is at the path, beside what refuses a removal;
+    /// `OutOfMemory` also where there was no memory for its path.
     pub fn try_remove_leaf(&mut self, path: &[BString]) -> Result<(), Error>
         ensures removed { OnOk result ((trees : Trees) → AreTreesOf (S.objects self.old.store) trees → IsLeafRemoved trees self.old (names_of path.now) self.new) }
         ensures refused { OnErr result ((trees : Trees) → AreTreesOf (S.objects self.old.store) trees → IsRefused trees self.old (names_of path.now) self.new) }
@@ -254,8 +270,8 @@ impl<S: Find> Editor<S> {
 
 /// Lookup
 impl<S> Editor<S> {
-    /// The entry at the path, by open directories alone, or none. The id of an open directory may be out of
-    /// date. It looks nothing up, takes no memory, and always succeeds.
+    /// The entry at the path, by open directories alone, or none. The id of an open directory may
+    /// be out of date. It looks nothing up, takes no memory, and always succeeds.
     pub fn get(&self, path: &[BString]) -> Result<Option<&Entry>, OutOfMemory>
         ensures succeeds { IsOk result }
         ensures found { IfOk result (λ entry. option_copied entry ≡ entry_at (names_of path.now) (open_dirs self.now)) }
@@ -266,9 +282,12 @@ impl<S> Editor<S> {
 
 /// Copying
 impl<S: Clone> Editor<S> {
-    /// A copy: with the same open directories and number of lookups, over a clone of the store, which must equal it.
+    /// A copy: with the same open directories, what each was opened with, and the number of
+    /// lookups, over a clone of the store, which must equal it. So both hand out the same trees in
+    /// the next write.
     ///
-    /// `OutOfMemory` where memory was wanting.
+    /// It takes memory for each open directory, for its entries and those that it was opened with,
+    /// and for the names of the newest cursor's path. `OutOfMemory` where memory was wanting.
     pub fn clone(&self) -> Result<Editor<S>, OutOfMemory>
         requires { (copied : S) → S.is_clone self.now.store copied → copied ≡ self.now.store }
         ensures { IfOk result (λ it. it ≡ self.now) }
@@ -288,34 +307,43 @@ impl<S: Clone> Editor<S> {
 
 /// Writing
 impl<S> Editor<S> {
-    /// As [`Editor::try_write`], with a closure of its own.
+    /// Like gix-object's `Editor::write` as documented: writes all changed trees, and only changed
+    /// trees, to `out`; the root comes last, changed or not. As [`Editor::try_write`], with a
+    /// closure of its own.
     pub fn write<E, F: FnMut(&Tree) -> Result<ObjectId, E> + Drop>(
         &mut self,
         out: F,
     ) -> Result<Written, WriteError<E>>
         requires { IsCallableOnTrees F.pre (λ f p g. CalledAt F.FnMut f p.1 (Ok p.0) g) out }
-        ensures written { IfOk result (λ it. (last : F) × IsWritten (λ f p g. CalledAt F.FnMut f p.1 (Ok p.0) g) out self.old it.id it.trees.items self.new last) }
-        ensures stopped { IfErr result (λ error. (last : F) × Stopped (λ f p g. CalledAt F.FnMut f p.1 (Ok p.0) g) (λ f t e g. CalledAt F.FnMut f t (Err e) g) (HandsOut (open_dirs self.old)) out last error) }
+        ensures written { IfOk result (λ it. (last : F) × IsWritten (λ f p g. CalledAt F.FnMut f p.1 (Ok p.0) g) out self.old it self.new last) }
+        ensures stopped { IfErr result (λ error. (last : F) × Stopped (λ f p g. CalledAt F.FnMut f p.1 (Ok p.0) g) (λ f t e g. CalledAt F.FnMut f t (Err e) g) (HandsOutSome (open_dirs self.old) (open_bases self.old)) out last error) }
         ensures unchanged { OnErr result (self.new ≡ self.old) }
     {
         let mut out = out;
         self.try_write(&mut out)
     }
 
-    /// Hands out the open directories, each behind those in it and in the order of their entries, the root
-    /// last and also where it is empty; then the root alone is open, with the tree that was handed out for
-    /// it. Entries with null ids are left out, and so are other open directories that are then empty. The
-    /// answer of `out` to a tree is its id in the tree above; a null one leaves it out.
+    /// Hands out the open directories that were changed, each behind those in it and in the order
+    /// of their entries, and last the root, also where it is empty or as it was. Then the root
+    /// alone is open, with the tree that was handed out for it.
     ///
-    /// `Out` where `out` refused a tree, `OutOfMemory` where memory was wanting; the editor is as it was,
-    /// and what `out` was asked so far stands.
+    /// A directory was changed where its tree isn't the one that it was opened with. Any other
+    /// that has entries keeps its id, and [`Written::saved`] counts it. One that is then empty is
+    /// left out, and so are entries with null ids. The answer of `out` to a tree is its id in the
+    /// tree above; a null one leaves it out.
+    ///
+    /// It takes memory for the trees that go out, for the list of them and for a copy of the
+    /// root's, and none for an unchanged directory. It looks nothing up.
+    ///
+    /// `Out` where `out` refused a tree, `OutOfMemory` where memory was wanting; the editor is as
+    /// it was, and what `out` was asked so far stands.
     pub fn try_write<E, F: FnMut(&Tree) -> Result<ObjectId, E>>(
         &mut self,
         out: &mut F,
     ) -> Result<Written, WriteError<E>>
         requires { IsCallableOnTrees F.pre (λ f p g. CalledAt F.FnMut f p.1 (Ok p.0) g) out.old }
-        ensures written { IfOk result (λ it. IsWritten (λ f p g. CalledAt F.FnMut f p.1 (Ok p.0) g) out.old self.old it.id it.trees.items self.new out.new) }
-        ensures stopped { IfErr result (Stopped (λ f p g. CalledAt F.FnMut f p.1 (Ok p.0) g) (λ f t e g. CalledAt F.FnMut f t (Err e) g) (HandsOut (open_dirs self.old)) out.old out.new) }
+        ensures written { IfOk result (λ it. IsWritten (λ f p g. CalledAt F.FnMut f p.1 (Ok p.0) g) out.old self.old it self.new out.new) }
+        ensures stopped { IfErr result (Stopped (λ f p g. CalledAt F.FnMut f p.1 (Ok p.0) g) (λ f t e g. CalledAt F.FnMut f t (Err e) g) (HandsOutSome (open_dirs self.old) (open_bases self.old)) out.old out.new) }
         ensures unchanged { OnErr result (self.new ≡ self.old) }
     {
         let alloc = self.root.alloc();

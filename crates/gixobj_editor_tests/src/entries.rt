@@ -57,6 +57,26 @@ fn missing_directories_are_made(rt: HostRuntime) -> Result<(), Fail> {
     Ok(())
 }
 
+/// Whether an editor gets the tree's entry of the directory `a`, and nothing at no names.
+fn gets_the_directory(alloc: Global, editor: &Editor<Memory>) -> Result<bool, Fail> {
+    let directory = entry_at(alloc, editor, b"a")?;
+    let none = entry_at(alloc, editor, b".")?;
+    Ok(none.is_none() && directory.is_some_and(|(kind, _)| kind == EntryKind::Tree))
+}
+
+/// A directory is got also where it is shut, and nothing in it then; nothing is below a file.
+#[test]
+fn shut_directories_and_files(rt: HostRuntime) -> Result<(), Fail> {
+    let alloc = rt.alloc();
+    let mut editor = stored_file(alloc, &[b"a", b"b"])?;
+    assert!(rt; gets_the_directory(alloc, &editor)?);
+    assert!(rt; entry_at(alloc, &editor, b"a b")?.is_none());
+    assert!(rt; upserted(alloc, &mut editor, b"a c", OTHER)? == 0);
+    assert!(rt; gets_the_directory(alloc, &editor)?);
+    assert!(rt; entry_at(alloc, &editor, b"a b c")?.is_none());
+    Ok(())
+}
+
 /// The number of the refusal of a cursor at this path, or 0.
 fn cursor_made(alloc: Global, editor: &mut Editor<Memory>, path: &[u8]) -> Result<u8, AllocError> {
     let path = path_of(alloc, path)?;

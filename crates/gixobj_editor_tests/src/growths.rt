@@ -1,4 +1,4 @@
-//! Three rows whose answers stay the same where a growth is refused on the way, and the call is made again: what was
+//! Four rows whose answers stay the same where a growth is refused on the way, and the call is made again: what was
 //! refused has lost nothing.
 
 use crate::samples::{FILE, empty_editor, id_of, names, path_of, stored_file};
@@ -92,6 +92,24 @@ fn cursor_keeps(alloc: Global) -> Option<bool> {
     Some(put && is_written(alloc, &mut editor, 2, root))
 }
 
+/// Whether a file put into a stored directory and taken out leaves the root alone to be handed out. None for want of
+/// memory before its edits.
+fn nothing_changed(alloc: Global) -> Option<bool> {
+    let mut editor = stored_file(alloc, &[b"a", b"b", b"c"]).ok()?;
+    let path = path_of(alloc, b"a b d").ok()?;
+    let is_put = put(&mut editor, &path).is_ok() && editor.try_remove(&path).is_ok();
+    let root = "0777f611c446507a3c6fa4a976a7a8d5f0eaed6d";
+    Some(is_put && saves_two(alloc, &mut editor, root))
+}
+
+/// Whether a write hands out the root of this id alone, and counts two directories that it doesn't hand out.
+fn saves_two(alloc: Global, editor: &mut Editor<Memory>, root: &str) -> bool {
+    match written(alloc, editor) {
+        Ok(written) => written.saved == 2 && names(&written, root, 1),
+        Err(_) => false,
+    }
+}
+
 #[test]
 fn remove_then_again_whatever_is_refused(rt: HostRuntime) -> Result<(), Fail> {
     let alloc = rt.alloc();
@@ -109,6 +127,17 @@ fn failed_out_whatever_is_refused(rt: HostRuntime) -> Result<(), Fail> {
     let same = match failed_out(alloc) {
         Ok(same) => same,
         Err(_) => failed_out(alloc)?,
+    };
+    assert!(rt; same);
+    Ok(())
+}
+
+#[test]
+fn nothing_changed_whatever_is_refused(rt: HostRuntime) -> Result<(), Fail> {
+    let alloc = rt.alloc();
+    let same = match nothing_changed(alloc) {
+        Some(same) => same,
+        None => nothing_changed(alloc).ok_or("memory")?,
     };
     assert!(rt; same);
     Ok(())

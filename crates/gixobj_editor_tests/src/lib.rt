@@ -13,6 +13,8 @@ mod entries;
 #[cfg(test)]
 mod growths;
 #[cfg(test)]
+mod lending;
+#[cfg(test)]
 mod loose;
 #[cfg(test)]
 mod runs;
@@ -22,5 +24,7 @@ mod samples;
 mod single_calls;
 #[cfg(test)]
 mod streams;
+#[cfg(test)]
+mod unchanged;
 #[cfg(test)]
 mod writes;

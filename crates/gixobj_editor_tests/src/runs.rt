@@ -3,6 +3,7 @@
 
 mod failing;
 mod growths;
+mod many_edits;
 mod refused_halfway;
 mod refused_out;
 mod samples;

@@ -1,10 +1,12 @@
 //! What a write hands out where it was refused before, and where a tree gets the null id; and a copy of an editor. Ids are
 //! those that `git mktree --missing` answers.
 
-use crate::samples::{FILE, empty_editor, id_of, upserted, went_out};
-use gixobj_base::Tree;
+use crate::samples::{FILE, empty_editor, id_of, path_of, text_of, tree_of, upserted, went_out};
+use crate::unchanged::saves;
 use gixobj_base::hash::{Kind as HashKind, ObjectId};
-use gixobj_editor::editor::{Editor, WriteError};
+use gixobj_base::tree::EntryKind;
+use gixobj_base::{Kind, Tree};
+use gixobj_editor::editor::{Editor, Error, WriteError};
 use gixobj_store::Memory;
 use std::alloc::Global;
 use std::test::Fail;
@@ -84,5 +86,44 @@ fn a_copy_goes_its_own_way(rt: HostRuntime) -> Result<(), Fail> {
     let mut copied = editor.clone()?;
     *copied.store_mut() = 2;
     assert!(rt; *editor.store_mut() == 1 && *copied.store_mut() == 2);
+    Ok(())
+}
+
+/// Opens the stored directory `a` of the file `b` and leaves it as it is, makes the directory `d` of the file `e`, and
+/// goes to `a` by a cursor.
+fn edit_in_directories(alloc: Global, editor: &mut Editor<&Memory>) -> Result<(), Error> {
+    let (a, c, e) = (
+        path_of(alloc, b"a")?,
+        path_of(alloc, b"a c")?,
+        path_of(alloc, b"d e")?,
+    );
+    editor.try_upsert(&c, EntryKind::Blob, FILE)?;
+    editor.try_remove(&c)?;
+    editor.try_upsert(&e, EntryKind::Blob, FILE)?;
+    let _ = editor.cursor_at(&a)?;
+    Ok(())
+}
+
+/// The tree of the file `e`, and the root with the files `a/b` and `d/e`.
+const OF_BOTH_DIRECTORIES: &[&[u8]] = &[
+    b"f0365b6252cddd93422699165f04a60d28a3779f",
+    b"5c622c7b15c7f2057a2b6842e32d963f07e3d235",
+];
+
+/// A copy has the open directories, each with what it was opened with.
+#[test]
+fn a_copy_of_open_directories(rt: HostRuntime) -> Result<(), Fail> {
+    let alloc = rt.alloc();
+    let mut store = Memory::new(alloc);
+    let text = text_of(alloc, &tree_of(alloc, EntryKind::Blob, b"b", FILE)?)?;
+    let id = store.insert(Kind::Tree, HashKind::Sha1, &text)?;
+    let root = tree_of(alloc, EntryKind::Tree, b"a", id)?;
+    assert!(rt; root.is_well_formed());
+    let mut editor = Editor::new(root, &store, HashKind::Sha1);
+    edit_in_directories(alloc, &mut editor)?;
+    let mut copied = editor.clone()?;
+    assert!(rt; saves(alloc, &mut copied, 1, OF_BOTH_DIRECTORIES));
+    assert!(rt; saves(alloc, &mut editor, 1, OF_BOTH_DIRECTORIES));
+    assert!(rt; copied.lookups() == 1 && editor.lookups() == 1);
     Ok(())
 }

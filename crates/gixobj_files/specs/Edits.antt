@@ -1,5 +1,5 @@
 -- The open directories after an edit, and after the directories on a path were opened.
-use Rattle.std.specs.Prelude.{◌≡◌, ◌⊎◌, ◌+◌, ◌++◌, min, ℕ, true, false, List, [], ◌∷◌, Option, Some, None, if◌then◌else◌}
+use Rattle.std.specs.Prelude.{◌≡◌, ◌⊎◌, ◌+◌, ◌++◌, min, ℕ, zero, suc, true, false, List, [], ◌∷◌, Option, Some, None, if◌then◌else◌}
 use Rattle.std.specs.Option.{option_map}
 use Rattle.std.specs.List.{find}
 use Rattle.gixobj_trees.specs.Entries.{EntryView, IsWellFormed}
@@ -88,6 +88,11 @@ Finds trees id entries asked =
 abbrev pub counted : ℕ → List ObjectId → ℕ
 counted n [] = n
 counted n (id ∷ asked) = counted (min (n + 1) 18446744073709551615) asked
+
+-- a count raised so many times by one; it stays at the greatest u64
+abbrev pub raised : ℕ → ℕ → ℕ
+raised n zero = n
+raised n (suc times) = raised (min (n + 1) 18446744073709551615) times
 
 -- an opening may end before an entry that is no tree's; or before one that the store isn't asked for too, by the null id or the empty
 -- tree's

@@ -1,3 +1,4 @@
+pub mod Bases
 pub mod Editing
 pub mod Edits
 pub mod Files
@@ -5,6 +6,7 @@ pub mod Halting
 pub mod HandingOut
 pub mod History
 pub mod Opening
+pub mod PlainHistory
 pub mod State
 pub mod Tables
 pub mod Unopened

@@ -14,10 +14,11 @@ use Rattle.gixobj_files.specs.Opening.{Dirs, OpenFiles}
 abbrev pub DirMap : Type 0
 DirMap = FinMap (slice_cmp (slice_cmp nat_cmp)) (List EntryView)
 
--- the open directories, the store, how many trees were looked up in it, the kind of the ids, and the path at which the newest cursor
--- was made
+-- the open directories and their bases, the store, how many trees were looked up in it, the kind of the ids, and the path at which the
+-- newest cursor was made
 pub record State (S : Type 0) : Type 0 where
   pub dirs : DirMap
+  pub bases : DirMap
   pub store : S
   pub lookups : ℕ
   pub object_hash : Kind
@@ -26,6 +27,10 @@ pub record State (S : Type 0) : Type 0 where
 -- the open directories as a function
 abbrev pub open_dirs : {S : Type 0} → State S → Dirs
 open_dirs state = λ path. map.get state.dirs path
+
+-- the bases as a function; that of the root counts for nothing
+abbrev pub open_bases : {S : Type 0} → State S → Dirs
+open_bases state = λ path. map.get state.bases path
 
 -- the root alone is open
 abbrev pub root_alone : List EntryView → DirMap

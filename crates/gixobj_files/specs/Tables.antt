@@ -1,5 +1,5 @@
 -- Which tables fit what a store names and what was handed out.
-use Rattle.std.specs.Prelude.{◌≡◌, ◌≢◌, ◌⊎◌, true, List, [], ◌∷◌, All, IsFalse, Option, Some, None}
+use Rattle.std.specs.Prelude.{◌≡◌, ◌≢◌, ◌⊎◌, true, List, [], ◌∷◌, All, Contains, IsFalse, Option, Some, None}
 use Rattle.gixobj_trees.specs.Entries.{EntryView}
 use Rattle.gixobj_ids.specs.Hash.{id_kind, id_of}
 use Rattle.gixobj_ids.specs.declared.hash.kind.Kind.{Kind}
@@ -22,6 +22,10 @@ AgreesWithStore T trees = (id : ObjectId) (entries : List EntryView) → (IsEmpt
 -- the table has these trees by these ids
 abbrev pub AgreesWithPairs : Table → List Pair → Type 0
 AgreesWithPairs T pairs = All (λ pair. T.tree_at pair.0 ≡ Some pair.1) pairs
+
+-- no tree of these pairs has two ids
+abbrev pub HasOneId : List Pair → Type 0
+HasOneId pairs = (tree : List EntryView) (x y : ObjectId) → Contains pairs (x, tree) → Contains pairs (y, tree) → x ≡ y
 
 -- a store's own table: the trees that it names, and no other
 abbrev pub IsOwnTable : Table → Trees → Type 0

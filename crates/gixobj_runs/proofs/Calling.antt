@@ -1,10 +1,11 @@
 -- Calls of a closure without a state, by reference.
-use Rattle.std.proofs.Common.{◌≡◌, ◌∙◌, List, [], ◌∷◌, Err, Ok, Result, refl, subst, sym}
+use Rattle.std.proofs.Common.{ℕ, ◌≡◌, ◌∙◌, List, [], ◌∷◌, Err, Ok, Result, refl, subst, sym}
 use Rattle.std.specs.Fn.{Called, CalledAt, FnReturnsAt, Mut, Shared}
 use Rattle.std.specs.List.{FoldsTo}
 use denote.Ref.{Bor}
 use Rattle.gixobj_directories.specs.Calls.{IsCallableOnTrees, IsStorable}
 use Rattle.gixobj_directories.specs.Handing.{Stopped}
+use Rattle.gixobj_directories.specs.declared.write.Written.{Written}
 use Rattle.gixobj_directories.specs.declared.write.WriteError.{WriteError}
 use Rattle.gixobj_directories.specs.declared.write.WriteError.TheVariants as write
 use Rattle.gixobj_editor.specs.Cursors.{IsWrittenBelow}
@@ -46,35 +47,39 @@ module _ {F E : Type 0} (of : Shared F (Bor (List EntryView) × Unit {0}) (Resul
   pub callable : (pre : Bor F → Bor (List EntryView) → Type 0) → ((tree : Bor (List EntryView)) → IsStorable tree.now → pre out tree) → AreCalls → IsCallableOnTrees pre (λ f p g. CalledAt lent f p.1 (Ok p.0) g) out
   callable pre may calls = λ answered state folded tree storable. subst (λ (f : Bor F). pre f tree) (sym (folds out answered state refl folded calls).1) (may tree storable)
 
-  pub written : {S : Type 0} (old new : State S) (id : ObjectId) (pairs : List Pair) → (last : Bor F) × IsWritten (λ f p g. CalledAt lent f p.1 (Ok p.0) g) out old id pairs new last → AreCalls
-      → IsWritten (Gives answers) tt old id pairs new tt
-  written old new id pairs (last, it) calls = record {
-    handed_out = it.handed_out;
-    called = (folds out pairs last refl it.called calls).0;
-    storable = it.storable;
-    below = it.below;
-    own = it.own;
-    last = it.last;
-    dirs = it.dirs;
-    rest = it.rest;
-    files = it.files;
-    same_files = it.same_files;
+  pub written : {S : Type 0} (old new : State S) (it : Written) → (last : Bor F) × IsWritten (λ f p g. CalledAt lent f p.1 (Ok p.0) g) out old it new last → AreCalls
+      → IsWritten (Gives answers) tt old it new tt
+  written old new it (last, wrote) calls = record {
+    handed_out = wrote.handed_out;
+    called = (folds out it.trees.items last refl wrote.called calls).0;
+    storable = wrote.storable;
+    below = wrote.below;
+    own = wrote.own;
+    last = wrote.last;
+    dirs = wrote.dirs;
+    bases = wrote.bases;
+    rest = wrote.rest;
+    files = wrote.files;
+    same_files = wrote.same_files;
+    has_bases = wrote.has_bases;
   }
 
-  pub written_below : {S : Type 0} (old new : State S) (prefix : Path) (id : ObjectId) (pairs : List Pair) → (last : Bor F) × IsWrittenBelow (λ f p g. CalledAt lent f p.1 (Ok p.0) g) out old prefix id pairs new last → AreCalls
-      → IsWrittenBelow (Gives answers) tt old prefix id pairs new tt
-  written_below old new prefix id pairs (last, it) calls = record {
-    handed_out = it.handed_out;
-    called = (folds out pairs last refl it.called calls).0;
-    storable = it.storable;
-    below = it.below;
-    own = it.own;
-    last = it.last;
-    dirs = it.dirs;
-    rest = it.rest;
-    is_opened = it.is_opened;
-    files = it.files;
-    same_files = it.same_files;
+  pub written_below : {S : Type 0} (old new : State S) (prefix : Path) (it : Written) → (last : Bor F) × IsWrittenBelow (λ f p g. CalledAt lent f p.1 (Ok p.0) g) out old prefix it new last → AreCalls
+      → IsWrittenBelow (Gives answers) tt old prefix it new tt
+  written_below old new prefix it (last, wrote) calls = record {
+    handed_out = wrote.handed_out;
+    called = (folds out it.trees.items last refl wrote.called calls).0;
+    storable = wrote.storable;
+    below = wrote.below;
+    own = wrote.own;
+    last = wrote.last;
+    dirs = wrote.dirs;
+    bases = wrote.bases;
+    rest = wrote.rest;
+    is_opened = wrote.is_opened;
+    files = wrote.files;
+    same_files = wrote.same_files;
+    has_bases = wrote.has_bases;
   }
 
   pub stopped : (goes_out : List Pair → Type 0) (error : WriteError E) → (last : Bor F) × Stopped (λ f p g. CalledAt lent f p.1 (Ok p.0) g) (λ f t e g. CalledAt lent f t (Err e) g) goes_out out last error → AreCalls

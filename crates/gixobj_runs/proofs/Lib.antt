@@ -8,3 +8,6 @@ pub mod KeptPairs
 mod Named
 mod Replied
 mod OneMore
+pub mod Plainly
+pub mod OneId
+pub mod Told

@@ -1,5 +1,5 @@
 -- Replies from the contracts of the calls.
-use Rattle.std.proofs.Common.{◌≡◌, List, Err, Ok, Result, subst, sym}
+use Rattle.std.proofs.Common.{◌≡◌, ℕ, List, [], Err, Ok, Result, subst, sym}
 use Rattle.std.specs.Prelude.{IfErr, OnErr, OnOk}
 use Rattle.std.specs.declared.alloc.Global.{Global}
 use Rattle.std.specs.declared.vec.Vec.{Vec}
@@ -12,13 +12,15 @@ use Rattle.gixobj_editor.specs.Removals.{IsLeafRemoved, IsRemoved, RefusesLeafRe
 use Rattle.gixobj_editor.specs.Upserts.{IsForAName, IsRefused, IsUpserted, RefusesUpsert}
 use Rattle.gixobj_editor.specs.declared.editor.error.Error.{Error}
 use Rattle.gixobj_files.specs.Edits.{IsNoTree}
-use Rattle.gixobj_files.specs.Files.{Path, Trees}
-use Rattle.gixobj_files.specs.State.{State, open_dirs}
+use Rattle.gixobj_files.specs.Files.{Files, Path, SameFiles, Table, Trees}
+use Rattle.gixobj_files.specs.Bases.{HasBases}
+use Rattle.gixobj_trees.specs.Entries.{EntryView, IsWellFormed}
+use Rattle.gixobj_files.specs.State.{EditorFiles, State, open_bases, open_dirs, root_alone}
 use Rattle.gixobj_ids.specs.declared.hash.object_id.ObjectId.{ObjectId}
 use Rattle.gixobj_trees.specs.Mode.{mode_of_kind}
 use Rattle.gixobj_trees.specs.declared.tree.entry_kind.EntryKind.{EntryKind}
 use Rattle.gixobj_runs.specs.Commands.{Place, at_cursor, path_at}
-use Rattle.gixobj_runs.specs.Replies.{Answers, AreEditReplies, IsEditReply, IsRefusedEdit, IsReplyAt, Meaning, RefusesAt, reply_to}
+use Rattle.gixobj_runs.specs.Replies.{Answers, AreEditReplies, IsEditReply, IsRefusedEdit, IsReplyAt, IsRootSet, Meaning, RefusesAt, reply_to}
 use Rattle.gixobj_runs.specs.RunTables.{OfTrees}
 use Rattle.gixobj_runs.specs.declared.reply.EditReply.{EditReply}
 use Rattle.gixobj_runs.specs.declared.reply.Reply.TheVariants as reply
@@ -71,3 +73,8 @@ module _ {S E : Type 0} (means : Meaning S) (answers : Answers E) (prefix at : P
     subst (λ (s : State S). AreEditReplies means answers (at_cursor prefix) lent edits replies.items s) (sym outside)
         (subst (λ (p : Path). AreEditReplies means answers (at_cursor p) lent edits replies.items left) is done),
   )
+
+-- a new root, by what the call says of the editor that it hands back
+pub root_set : {S : Type 0} (old new left : State S) (entries : List EntryView) → new ≡ left → IsWellFormed entries → left ≡ record old { dirs = root_alone entries; bases = root_alone [] }
+    → ((T : Table) (n : ℕ) → SameFiles (EditorFiles T n left) (Files T n entries)) → ((T : Table) → HasBases T (open_dirs left) (open_bases left)) → IsRootSet old entries new
+root_set {S} old new left entries same formed state files has = subst (λ (s : State S). IsRootSet old entries s) (sym same) (record { well_formed = formed; state = state; files = files; has_bases = has })

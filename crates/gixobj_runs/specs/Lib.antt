@@ -1,4 +1,5 @@
 pub mod Commands
+pub mod OneId
 pub mod Replies
 pub mod RunTables
 pub use Rattle.gixobj_editor.specs.Cursors

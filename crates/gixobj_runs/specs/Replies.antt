@@ -16,11 +16,12 @@ use Rattle.gixobj_editor.specs.Upserts.{IsForAName, IsRefused, IsUpserted, Refus
 use Rattle.gixobj_editor.specs.Writes.{IsWritten}
 use Rattle.gixobj_editor.specs.declared.editor.error.Error.{Error}
 use Rattle.gixobj_editor.specs.declared.editor.error.Error.TheVariants as editing
+use Rattle.gixobj_files.specs.Bases.{HasBases}
 use Rattle.gixobj_files.specs.Edits.{IsNoTree}
 use Rattle.gixobj_files.specs.Files.{Files, Path, SameFiles, Table, Trees}
-use Rattle.gixobj_files.specs.HandingOut.{HandsOut}
+use Rattle.gixobj_files.specs.HandingOut.{HandsOutSome}
 use Rattle.gixobj_files.specs.Opening.{Dirs, in_path}
-use Rattle.gixobj_files.specs.State.{EditorFiles, State, open_dirs, root_alone, with_store}
+use Rattle.gixobj_files.specs.State.{EditorFiles, State, open_bases, open_dirs, root_alone, with_store}
 use Rattle.gixobj_files.specs.Tables.{Pair}
 use Rattle.gixobj_files.specs.Unopened.{inside}
 use Rattle.gixobj_ids.specs.declared.hash.object_id.ObjectId.{ObjectId}
@@ -77,8 +78,8 @@ pub record IsRefusedEdit {S : Type 0} (means : Meaning S) (Refuses : Trees → T
 
 -- a successful write
 abbrev pub IsWrittenAt : {S E : Type 0} → Answers E → Place → Written → State S → State S → Type 0
-IsWrittenAt answers at_root it old new = IsWritten (Gives answers) tt old it.id it.trees.items new tt
-IsWrittenAt answers (at_cursor prefix) it old new = IsWrittenBelow (Gives answers) tt old prefix it.id it.trees.items new tt
+IsWrittenAt answers at_root it old new = IsWritten (Gives answers) tt old it new tt
+IsWrittenAt answers (at_cursor prefix) it old new = IsWrittenBelow (Gives answers) tt old prefix it new tt
 
 -- a successful write, and then its trees were kept so in the store
 pub record IsWriteKept {S : Type 0} (means : Meaning S) (Writes : State S → Type 0) (Keeps : Objects → Objects → Type 0) (old new : State S) : Type 0 where
@@ -94,14 +95,15 @@ KeepsAll pairs before after = (after ≡ with_trees pairs before) × All (λ pai
 
 -- a refused write leaves the editor as it was
 pub record IsRefusedWrite {S E : Type 0} (answers : Answers E) (place : Place) (old : State S) (error : WriteError E) (new : State S) : Type 0 where
-  pub stopped : Stopped (Gives answers) (Denies answers) (HandsOut (dirs_at place (open_dirs old))) tt tt error
+  pub stopped : Stopped (Gives answers) (Denies answers) (HandsOutSome (dirs_at place (open_dirs old)) (dirs_at place (open_bases old))) tt tt error
   pub unchanged : new ≡ old
 
 -- the editor begins anew
 pub record IsRootSet {S : Type 0} (old : State S) (entries : List EntryView) (new : State S) : Type 0 where
   pub well_formed : IsWellFormed entries
-  pub state : new ≡ record old { dirs = root_alone entries }
+  pub state : new ≡ record old { dirs = root_alone entries; bases = root_alone [] }
   pub files : (T : Table) (n : ℕ) → SameFiles (EditorFiles T n new) (Files T n entries)
+  pub has_bases : (T : Table) → HasBases T (open_dirs new) (open_bases new)
 
 module _ {S E : Type 0} (means : Meaning S) (answers : Answers E) where
   -- the edit may get this reply, and leave the new state of the old one

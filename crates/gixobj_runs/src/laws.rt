@@ -12,15 +12,15 @@ ghost use Rattle.gixobj_tree_readers.specs.Rewriting.{ReadsBack};
 use crate::reply::Reply;
 use gixobj_tree_readers::laws::{tree_has_one_reading, tree_reads_back};
 
-/// Some table agrees with a run, as long as no id of what its writes handed out stands for two trees, and the written text of
-/// each tree that was kept reads as no other well-formed tree.
+/// Some table agrees with a run, as long as no id of what its writes handed out stands for two
+/// trees, and the written text of each tree that was kept reads as no other well-formed tree.
 pub fn fitting_runs_have_a_table<E>(replies: &[Reply<E>])
     ensures { (objects : Objects) (trees : Trees) → AreTreesOf objects trees → FitsBeside (pairs_handed_out replies.now) trees → All ReadsAsItself (pairs_kept replies.now)
         → (T : Table) × AgreesWithRun T objects replies.now }
 {}
 
-/// The written text of a tree reads as no other tree, where no name has a zero byte, all ids are of the kind of the
-/// tree's own, and no mode is 0 or in 0o140001 to 0o147777.
+/// The written text of a tree reads as no other tree, where no name has a zero byte, all ids are
+/// of the kind of the tree's own, and no mode is 0 or in 0o140001 to 0o147777.
 pub fn trees_read_as_themselves()
     ensures { (pair : Pair) → All (ReadsBack (id_kind pair.0)) pair.1 → ReadsAsItself pair }
 {

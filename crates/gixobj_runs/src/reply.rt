@@ -13,7 +13,8 @@ pub enum EditReply<E> {
     Written(Written),
     /// The write was refused. The editor is as it was.
     WriteRefused(WriteError<E>),
-    /// What the write handed out, how many trees of it the store has kept, in order, and why it didn't keep the next one.
+    /// What the write handed out, how many trees of it the store has kept, in order, and why it
+    /// didn't keep the next one.
     NotKept(Written, usize, KeepError),
 }
 

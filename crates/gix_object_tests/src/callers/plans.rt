@@ -15,7 +15,7 @@ use std::test::Fail;
 
 /// A store with the file at the path of these names, the last one first, of the first id, and the id of the tree
 /// above it.
-fn stored(alloc: Global, names: &[&str]) -> Result<(Memory, ObjectId), Fail> {
+pub(super) fn stored(alloc: Global, names: &[&str]) -> Result<(Memory, ObjectId), Fail> {
     let mut store = Memory::new(alloc);
     let mut kind = EntryKind::Blob;
     let mut oid = id(FIRST);

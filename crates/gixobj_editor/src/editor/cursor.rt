@@ -11,10 +11,11 @@ ghost use Rattle.gixobj_editor.specs.Removals.{IsLeafRemoved, IsRemoved, Refuses
 ghost use Rattle.gixobj_editor.specs.Upserts.{IsForAName, IsRefused, IsUpserted, RefusesUpsert};
 ghost use Rattle.gixobj_editor.specs.contracts.editor.Editor.{the_row};
 ghost use Rattle.gixobj_files.specs.Edits.{IsNoTree, entry_at};
-ghost use Rattle.gixobj_files.specs.Files.{Trees};
-ghost use Rattle.gixobj_files.specs.HandingOut.{HandsOut};
+ghost use Rattle.gixobj_files.specs.Files.{Path, Trees};
+ghost use Rattle.gixobj_files.specs.HandingOut.{HandsOutSome};
+ghost use Rattle.gixobj_files.specs.Bases.{opened_bases};
 ghost use Rattle.gixobj_files.specs.Opening.{IsOpened, in_path};
-ghost use Rattle.gixobj_files.specs.State.{open_dirs};
+ghost use Rattle.gixobj_files.specs.State.{open_bases, open_dirs};
 ghost use Rattle.gixobj_files.specs.Unopened.{inside};
 ghost use Rattle.gixobj_trees.specs.Mode.{mode_of_kind};
 
@@ -42,9 +43,11 @@ impl Model for LentBack {
     ghost view = { λ _. tt };
 }
 
-/// A cursor of an editor: its paths go on from the directory at the editor's prefix, which is open.
+/// A cursor of an editor: its paths go on from the directory at the editor's prefix, which is
+/// open.
 ///
-/// In contracts `editor.now` is the editor as it is. Whoever drops the cursor has the editor as its last call left it.
+/// In contracts `editor.now` is the editor as it is. Whoever drops the cursor has the editor as
+/// its last call left it.
 pub struct Cursor<'a, S> {
     editor: &'a mut Editor<S>,
     lent_back: LentBack,
@@ -78,15 +81,18 @@ impl<S> Editor<S> {
 }
 
 impl<S: Find> Editor<S> {
-    /// A cursor at the directory of a path; without names, and at a single empty name, that is the root. The
-    /// directory and each one above it is opened: one that isn't open is looked up, and what is in it is kept; one
-    /// that is missing is made, and an entry that is no tree is replaced.
+    /// A cursor at the directory of a path; without names, and at a single empty name, that is the
+    /// root. The directory and each one above it is opened: one that isn't open is looked up, and
+    /// what is in it is kept; one that is missing is made, and an entry that is no tree is
+    /// replaced. What a directory was opened with is kept beside it, which is no entries where it
+    /// is made: so a write tells whether it was changed.
     ///
-    /// `EmptyPathComponent` or `SlashInPathComponent` for the first name that no entry may have; else
-    /// `FindExistingObject` or `MalformedTree` for the first directory that the store doesn't have as a
-    /// well-formed tree, or whose lookup fails; `OutOfMemory` where memory was wanting, which is taken for the
-    /// directories that aren't open and for a copy of the names. A refusal leaves the files as they were; what was
-    /// opened on the way stays open.
+    /// `EmptyPathComponent` or `SlashInPathComponent` for the first name that no entry may have;
+    /// else `FindExistingObject` or `MalformedTree` for the first directory that the store doesn't
+    /// have as a well-formed tree, or whose lookup fails; `OutOfMemory` where memory was wanting,
+    /// which is taken for the directories that aren't open, twice for one that is looked up, and
+    /// for a copy of the names. A refusal leaves the files as they were; what was opened on the
+    /// way stays open.
     pub fn cursor_at(&mut self, path: &[BString]) -> Result<Cursor<'_, S>, Error>
         ensures* refused { sem 𝓛 (RestsIfErr (the_row S.row) self.entry (λ c. c.editor.ghost_name) result (λ left. ((trees : Trees) → AreTreesOf (S.objects self.old.store) trees → IsRefused trees self.old (inside (prefix_of (names_of path.now))) left)
             × IfErr result (λ error. IsForAName error → left ≡ self.old))) }
@@ -140,6 +146,7 @@ impl<S> Editor<S> {
         ensures joined { IfOk result (λ it. names_of it.items ≡ from_root self.now.prefix (names_of path.now)) }
         ensures taken { OnErr result (names_of path.now ≢ []) }
         ensures is_opened { IsOpened (open_dirs self.now) }
+        ensures idle { (at : Path) → open_bases self.now at ≡ opened_bases (open_dirs self.now) (open_dirs self.now) (open_bases self.now) at }
     {
         join_paths(self.root.alloc(), &self.prefix, path)
     }
@@ -161,8 +168,8 @@ impl<S> Editor<S> {
     ) -> Result<Written, WriteError<E>>
         requires callable { IsCallableOnTrees F.pre (λ f p g. CalledAt F.FnMut f p.1 (Ok p.0) g) out.old }
         requires is_open { open_dirs self.old self.old.prefix ≢ None }
-        ensures written { IfOk result (λ it. IsWrittenBelow (λ f p g. CalledAt F.FnMut f p.1 (Ok p.0) g) out.old self.old self.old.prefix it.id it.trees.items self.new out.new) }
-        ensures stopped { IfErr result (Stopped (λ f p g. CalledAt F.FnMut f p.1 (Ok p.0) g) (λ f t e g. CalledAt F.FnMut f t (Err e) g) (HandsOut (in_path self.old.prefix (open_dirs self.old))) out.old out.new) }
+        ensures written { IfOk result (λ it. IsWrittenBelow (λ f p g. CalledAt F.FnMut f p.1 (Ok p.0) g) out.old self.old self.old.prefix it self.new out.new) }
+        ensures stopped { IfErr result (Stopped (λ f p g. CalledAt F.FnMut f p.1 (Ok p.0) g) (λ f t e g. CalledAt F.FnMut f t (Err e) g) (HandsOutSome (in_path self.old.prefix (open_dirs self.old)) (in_path self.old.prefix (open_bases self.old))) out.old out.new) }
         ensures unchanged { OnErr result (self.new ≡ self.old) }
     {
         let alloc = self.root.alloc();
@@ -182,8 +189,9 @@ fn without_a_single_empty_name(path: &[BString]) -> &[BString]
 
 /// Editing
 impl<S: Find> Cursor<'_, S> {
-    /// As [`Cursor::try_upsert`]; what a refusal leaves, and what the cursor is behind a chain of calls, that one says to
-    /// a caller.
+    /// Puts in or replaces an entry, as [`Cursor::try_upsert`], and lends the cursor back, so that
+    /// calls chain. A caller's proof knows nothing of the cursor behind it: who proves something
+    /// calls that one.
     pub fn upsert(
         &mut self,
         path: &[BString],
@@ -201,8 +209,8 @@ impl<S: Find> Cursor<'_, S> {
         Ok(self)
     }
 
-    /// As [`Editor::try_upsert`], at a path that goes on from the prefix. Without names nothing changes, and
-    /// the prefix stays.
+    /// As [`Editor::try_upsert`], at a path that goes on from the prefix. Without names nothing
+    /// changes, and the prefix stays.
     ///
     /// `OutOfMemory` also where there was no memory for the path from the root.
     pub fn try_upsert(
@@ -223,8 +231,9 @@ impl<S: Find> Cursor<'_, S> {
         self.editor.try_upsert(&path, kind, id)
     }
 
-    /// As [`Cursor::try_remove`]; what a refusal leaves, and what the cursor is behind a chain of calls, that one says to
-    /// a caller.
+    /// Takes out an entry, as [`Cursor::try_remove`], and lends the cursor back, so that calls
+    /// chain. A caller's proof knows nothing of the cursor behind it: who proves something calls
+    /// that one.
     pub fn remove(&mut self, path: &[BString]) -> Result<&mut Self, Error>
         ensures same_reference { IfOk result (λ it. it.ghost_name ≡ self.entry.ghost_name) }
         ensures same_editor { IfOk result (λ it. it.now.editor.ghost_name ≡ self.old.editor.ghost_name) }
@@ -237,8 +246,8 @@ impl<S: Find> Cursor<'_, S> {
         Ok(self)
     }
 
-    /// As [`Editor::try_remove`], at a path that goes on from the prefix. Without names nothing changes, and
-    /// the prefix stays.
+    /// As [`Editor::try_remove`], at a path that goes on from the prefix. Without names nothing
+    /// changes, and the prefix stays.
     ///
     /// `OutOfMemory` also where there was no memory for the path from the root.
     pub fn try_remove(&mut self, path: &[BString]) -> Result<(), Error>
@@ -253,8 +262,9 @@ impl<S: Find> Cursor<'_, S> {
         self.editor.try_remove(&path)
     }
 
-    /// As [`Cursor::try_remove_leaf`]; what a refusal leaves, and what the cursor is behind a chain of calls, that one says to
-    /// a caller.
+    /// Takes out what is no directory, as [`Cursor::try_remove_leaf`], and lends the cursor back,
+    /// so that calls chain. A caller's proof knows nothing of the cursor behind it: who proves
+    /// something calls that one.
     pub fn remove_leaf(&mut self, path: &[BString]) -> Result<&mut Self, Error>
         ensures same_reference { IfOk result (λ it. it.ghost_name ≡ self.entry.ghost_name) }
         ensures same_editor { IfOk result (λ it. it.now.editor.ghost_name ≡ self.old.editor.ghost_name) }
@@ -267,11 +277,11 @@ impl<S: Find> Cursor<'_, S> {
         Ok(self)
     }
 
-    /// As [`Editor::try_remove_leaf`], at a path that goes on from the prefix. Without names nothing changes,
-    /// and the prefix stays.
+    /// As [`Editor::try_remove_leaf`], at a path that goes on from the prefix. Without names
+    /// nothing changes, and the prefix stays.
     ///
-    /// `CannotRemoveNonLeaf` tells the path from the root. `OutOfMemory` also where there was no memory for the path
-    /// from the root.
+    /// `CannotRemoveNonLeaf` tells the path from the root. `OutOfMemory` also where there was no
+    /// memory for the path from the root.
     pub fn try_remove_leaf(&mut self, path: &[BString]) -> Result<(), Error>
         ensures same_reference { self.new.editor.ghost_name ≡ self.old.editor.ghost_name }
         ensures prefix { self.new.editor.now.prefix ≡ self.old.editor.now.prefix }
@@ -311,7 +321,9 @@ impl<S> Cursor<'_, S> {
 
 /// Writing
 impl<S> Cursor<'_, S> {
-    /// As [`Cursor::try_write`], with a closure of its own.
+    /// Like gix-object's `Cursor::write`: writes the changed trees below the prefix to `out`, and
+    /// last that of the directory at the prefix, changed or not. As [`Cursor::try_write`], with a
+    /// closure of its own.
     pub fn write<E, F: FnMut(&Tree) -> Result<ObjectId, E> + Drop>(
         &mut self,
         out: F,
@@ -319,20 +331,24 @@ impl<S> Cursor<'_, S> {
         requires { IsCallableOnTrees F.pre (λ f p g. CalledAt F.FnMut f p.1 (Ok p.0) g) out }
         ensures same_reference { self.new.editor.ghost_name ≡ self.old.editor.ghost_name }
         ensures prefix { self.new.editor.now.prefix ≡ self.old.editor.now.prefix }
-        ensures written { IfOk result (λ it. (last : F) × IsWrittenBelow (λ f p g. CalledAt F.FnMut f p.1 (Ok p.0) g) out self.old.editor.now self.old.editor.now.prefix it.id it.trees.items self.new.editor.now last) }
-        ensures stopped { IfErr result (λ error. (last : F) × Stopped (λ f p g. CalledAt F.FnMut f p.1 (Ok p.0) g) (λ f t e g. CalledAt F.FnMut f t (Err e) g) (HandsOut (in_path self.old.editor.now.prefix (open_dirs self.old.editor.now))) out last error) }
+        ensures written { IfOk result (λ it. (last : F) × IsWrittenBelow (λ f p g. CalledAt F.FnMut f p.1 (Ok p.0) g) out self.old.editor.now self.old.editor.now.prefix it self.new.editor.now last) }
+        ensures stopped { IfErr result (λ error. (last : F) × Stopped (λ f p g. CalledAt F.FnMut f p.1 (Ok p.0) g) (λ f t e g. CalledAt F.FnMut f t (Err e) g) (HandsOutSome (in_path self.old.editor.now.prefix (open_dirs self.old.editor.now)) (in_path self.old.editor.now.prefix (open_bases self.old.editor.now))) out last error) }
         ensures unchanged { OnErr result (self.new.editor.now ≡ self.old.editor.now) }
     {
         let mut out = out;
         self.try_write(&mut out)
     }
 
-    /// As [`Editor::try_write`], of the directory at the prefix: it hands out what is open in it and then its own
-    /// tree, also where that is empty. Then the directory is open, with the tree that was handed out for it, and
-    /// nothing in it is; all else is open as it was.
+    /// As [`Editor::try_write`], of the directory at the prefix: it hands out the open directories
+    /// below it that were changed, and last its own tree, also where that is empty or as it was.
+    /// Then the directory is open, with the tree that was handed out for it, and nothing in it is;
+    /// all else is open as it was.
     ///
-    /// `Out` where `out` refused a tree, `OutOfMemory` where memory was wanting; the editor is as it was, and
-    /// what `out` was asked so far stands.
+    /// What the directory was opened with stays, since its entry above has its old id still: where
+    /// it is a changed one then, the next write of the root hands it out once more.
+    ///
+    /// `Out` where `out` refused a tree, `OutOfMemory` where memory was wanting; the editor is as
+    /// it was, and what `out` was asked so far stands.
     pub fn try_write<E, F: FnMut(&Tree) -> Result<ObjectId, E>>(
         &mut self,
         out: &mut F,
@@ -340,8 +356,8 @@ impl<S> Cursor<'_, S> {
         requires { IsCallableOnTrees F.pre (λ f p g. CalledAt F.FnMut f p.1 (Ok p.0) g) out.old }
         ensures same_reference { self.new.editor.ghost_name ≡ self.old.editor.ghost_name }
         ensures prefix { self.new.editor.now.prefix ≡ self.old.editor.now.prefix }
-        ensures written { IfOk result (λ it. IsWrittenBelow (λ f p g. CalledAt F.FnMut f p.1 (Ok p.0) g) out.old self.old.editor.now self.old.editor.now.prefix it.id it.trees.items self.new.editor.now out.new) }
-        ensures stopped { IfErr result (Stopped (λ f p g. CalledAt F.FnMut f p.1 (Ok p.0) g) (λ f t e g. CalledAt F.FnMut f t (Err e) g) (HandsOut (in_path self.old.editor.now.prefix (open_dirs self.old.editor.now))) out.old out.new) }
+        ensures written { IfOk result (λ it. IsWrittenBelow (λ f p g. CalledAt F.FnMut f p.1 (Ok p.0) g) out.old self.old.editor.now self.old.editor.now.prefix it self.new.editor.now out.new) }
+        ensures stopped { IfErr result (Stopped (λ f p g. CalledAt F.FnMut f p.1 (Ok p.0) g) (λ f t e g. CalledAt F.FnMut f t (Err e) g) (HandsOutSome (in_path self.old.editor.now.prefix (open_dirs self.old.editor.now)) (in_path self.old.editor.now.prefix (open_bases self.old.editor.now))) out.old out.new) }
         ensures unchanged { OnErr result (self.new.editor.now ≡ self.old.editor.now) }
     {
         self.editor.write_below(out)

@@ -1,18 +1,18 @@
 //! How a removal goes along its path.
-ghost use Rattle.std.specs.Prelude.{◌≡◌, ◌⊎◌, ◌≤◌, ◌∷◌, [], true, false, IfErr, IfOk, List, None, OnErr, OnOk, Some, length};
+ghost use Rattle.std.specs.Prelude.{◌≡◌, ◌⊎◌, ◌∷◌, [], true, false, IfErr, IfOk, List, None, OnErr, OnOk, Some};
 ghost use Rattle.bstr.specs.Owned.{bstring_bytes, joined};
 ghost use Rattle.gixobj_files.specs.Edits.{Opens, counted, entry_at};
 ghost use Rattle.gixobj_files.specs.Files.{Path, Trees};
 ghost use Rattle.gixobj_files.specs.Opening.{IsOpened};
-ghost use Rattle.gixobj_files.specs.Unopened.{unopened_count};
 ghost use Rattle.gixobj_directories.specs.Calls.{AreNames, names_of};
-ghost use Rattle.gixobj_directories.specs.Nested.{dirs_of};
+ghost use Rattle.gixobj_directories.specs.Nested.{bases_of, dirs_of};
+ghost use Rattle.gixobj_files.specs.Bases.{opened_bases};
 ghost use Rattle.gixobj_directories.specs.Openings.{AreTreesOf, EndsBefore};
 ghost use Rattle.gixobj_ids.specs.declared.hash.object_id.ObjectId.{ObjectId};
 ghost use Rattle.gixobj_texts.specs.Bytes.{slash};
 ghost use Rattle.gixobj_trees.specs.Entries.{EntryView, IsEntryName};
 ghost use Rattle.gixobj_trees.specs.Mode.{is_tree_mode};
-ghost use Rattle.gixobj_editor.specs.Upserts.{RefusesNames, directory_of};
+ghost use Rattle.gixobj_editor.specs.Upserts.{IsOpenedInPart, RefusesNames, directory_of};
 ghost use Rattle.gixobj_editor.specs.Removals.{Judges, RefusesDirectoryAt, RefusesRemoval};
 
 use crate::editor::error::Error;
@@ -35,9 +35,10 @@ pub(crate) fn open_for_removal<S: Find>(
         → (asked : List ObjectId) × Opens (EndsBefore unasked) trees (directory_of (names_of path.now)) (dirs_of root.old) (dirs_of root.new) asked × (lookups.new ≡ counted lookups.old asked)
         × ((name : List _) → Judges (EndsBefore unasked) trees (dirs_of root.old) (names_of path.now) name → IsEntryName name)) }
     ensures refused { IfErr result (λ error. (trees : Trees) → AreTreesOf (S.objects store.now) trees
-        → (front : Path) × (answered asked : List ObjectId) × Opens (EndsBefore unasked) trees front (dirs_of root.old) (dirs_of root.new) answered × (lookups.new ≡ counted lookups.old asked)
-        × (length asked ≤ unopened_count trees (dirs_of root.old) (names_of path.now)) × RefusesRemoval (EndsBefore unasked) (S.objects store.now) (S.may_fail store.now) trees (dirs_of root.old) (names_of path.now) error) }
+        → IsOpenedInPart (EndsBefore unasked) trees (names_of path.now) (dirs_of root.old) (dirs_of root.new) lookups.old lookups.new
+        × RefusesRemoval (EndsBefore unasked) (S.objects store.now) (S.may_fail store.now) trees (dirs_of root.old) (names_of path.now) error) }
     ensures still_opened { IsOpened (dirs_of root.old) → IsOpened (dirs_of root.new) }
+    ensures bases { (at : Path) → bases_of root.new at ≡ opened_bases (dirs_of root.old) (dirs_of root.new) (bases_of root.old) at }
 {
     let alloc = root.alloc();
     let (directory, refused) = judged(path);

@@ -24,6 +24,9 @@ pub(crate) enum Ample {
 
 const ROOT: Ample = Ample::Wrote("3c4e9cd789d88d8d89c1073707c3585e41b0e614", 2);
 
+/// The directory is as it was when it was opened.
+const ROOT_ALONE: Ample = Ample::Wrote("3c4e9cd789d88d8d89c1073707c3585e41b0e614", 1);
+
 const BAK: Ample = Ample::Wrote("d8329fc1cc938780ffdd9f94e0d364e0ea74f579", 1);
 
 const LAST: Ample = Ample::Wrote("0155eb4229851634a0f03eb265b69f5a2d56f341", 1);
@@ -35,7 +38,7 @@ pub(crate) const AMPLE: [Ample; 10] = [
     Ample::Done,
     ROOT,
     Ample::Done,
-    ROOT,
+    ROOT_ALONE,
     BAK,
     Ample::Done,
     LAST,

@@ -58,7 +58,7 @@ ok
 refused out
 refused out
 ok
-wrote d3768f26137cee49678da775c7c7e79a9ce14150 2
+wrote d3768f26137cee49678da775c7c7e79a9ce14150 1
 lookups 1
 ";
 
@@ -78,7 +78,7 @@ fn told_of_refused_trees(rt: HostRuntime) {
     let mut editor = editor_over(alloc, &[], &[]);
     assert!(rt; tells(alloc, &mut editor));
     assert!(rt; editor.store_mut().lookups() == 1);
-    assert!(rt; editor.store_mut().keeps() == 4);
+    assert!(rt; editor.store_mut().keeps() == 3);
 }
 
 /// Whether the third reply to the script gives the refusal.

@@ -14,7 +14,7 @@ ok
 ok
 wrote 3c4e9cd789d88d8d89c1073707c3585e41b0e614 2
 ok
-wrote 3c4e9cd789d88d8d89c1073707c3585e41b0e614 2
+wrote 3c4e9cd789d88d8d89c1073707c3585e41b0e614 1
 wrote d8329fc1cc938780ffdd9f94e0d364e0ea74f579 1
 ok
 wrote 0155eb4229851634a0f03eb265b69f5a2d56f341 1
@@ -30,7 +30,7 @@ fn told_and_counted(rt: HostRuntime) -> Result<(), Fail> {
     assert!(rt; tells(alloc, &mut editor, TEN_LINES, TOLD));
     assert!(rt; editor.lookups() == 2);
     assert!(rt; editor.store_mut().lookups() == 2);
-    assert!(rt; editor.store_mut().keeps() == 6);
+    assert!(rt; editor.store_mut().keeps() == 5);
     Ok(())
 }
 
@@ -47,7 +47,7 @@ const HANDED_OUT: &[&[&[u8]]] = &[
     &[],
     &[BAK, ROOT],
     &[],
-    &[BAK, ROOT],
+    &[ROOT],
     &[BAK],
     &[],
     &[LAST_ROOT],

@@ -13,7 +13,7 @@ use std::alloc::{AllocError, Global};
 use std::test::Fail;
 
 /// The calls of `keep` in a run of the script.
-static KEEPS: [u64; 6] = [1, 2, 3, 4, 5, 6];
+static KEEPS: [u64; 5] = [1, 2, 3, 4, 5];
 
 /// What a command came to, whether or not the trees were kept.
 #[derive(Clone, Copy, Debug, PartialEq, Eq)]

@@ -45,5 +45,5 @@ entry_code = code_by (ℕ × (List ℕ × ObjectId)) (coded× coded_ℕ (coded×
 
 abbrev pub state_code : {S : Type 0} → Coded S → Coded (State S)
 state_code {S} store_code =
-    code_by (DirMap × (S × (ℕ × (Kind × Path)))) (coded× (map.code (coded_list (coded_list coded_ℕ)) (coded_list entry_code)) (coded× store_code (coded× coded_ℕ (coded× hash_code (coded_list (coded_list coded_ℕ))))))
-    (λ s. (s.dirs, (s.store, (s.lookups, (s.object_hash, s.prefix))))) (λ p. record { dirs = p.0; store = p.1.0; lookups = p.1.1.0; object_hash = p.1.1.1.0; prefix = p.1.1.1.1 }) (λ _. refl)
+    code_by (DirMap × (DirMap × (S × (ℕ × (Kind × Path))))) (coded× (map.code (coded_list (coded_list coded_ℕ)) (coded_list entry_code)) (coded× (map.code (coded_list (coded_list coded_ℕ)) (coded_list entry_code)) (coded× store_code (coded× coded_ℕ (coded× hash_code (coded_list (coded_list coded_ℕ)))))))
+    (λ s. (s.dirs, (s.bases, (s.store, (s.lookups, (s.object_hash, s.prefix)))))) (λ p. record { dirs = p.0; bases = p.1.0; store = p.1.1.0; lookups = p.1.1.1.0; object_hash = p.1.1.1.1.0; prefix = p.1.1.1.1.1 }) (λ _. refl)

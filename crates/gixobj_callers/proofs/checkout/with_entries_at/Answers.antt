@@ -6,31 +6,35 @@ use Rattle.gixobj_callers.proofs.PutIn.{checked_out_files}
 use Rattle.gixobj_callers.proofs.checkout.with_entries_at.Goals as goal
 use Rattle.gixobj_directories.specs.Calls.{names_of}
 use Rattle.gixobj_editor.specs.Cursors.{prefix_of}
-use Rattle.gixobj_files.specs.State.{State}
+use Rattle.gixobj_files.specs.Bases.{HasBases}
+use Rattle.gixobj_files.specs.Files.{Files, SameFiles}
+use Rattle.gixobj_files.specs.State.{EditorFiles, State, open_bases, open_dirs}
 use Rattle.gixobj_runs.specs.Replies.{Meaning}
 
 pub returns-in-Err-clause-refusal : goal.returns-in-Err-clause-refusal
 returns-in-Err-clause-refusal g c =
     let means : Meaning g.row.S.Denot = record { objects = g.S.Store.objects; may_fail = g.S.Store.may_fail } in
     let new = c.new-editor.ensures in
-    let begun = is_started c.new-editor.result c.args.store c.args.object_hash c.args.root new.dirs new.store new.lookups new.object_hash new.prefix in
+    let begun = is_started c.new-editor.result c.args.store c.args.object_hash c.args.root new.dirs new.bases new.store new.lookups new.object_hash new.prefix in
     subst (λ (state : State g.row.S.Denot). IsNotFilled means state (prefix_of (names_of c.args.prefix.now)) c.args.entries.now c.in-Err.error) begun (c.in-Err.ensures {u = tt}).refusal
 
 pub returns-in-Ok-clause-files : goal.returns-in-Ok-clause-files
 returns-in-Ok-clause-files g c = λ trees fits T n agrees pairs.
     let means : Meaning g.row.S.Denot = record { objects = g.S.Store.objects; may_fail = g.S.Store.may_fail } in
     let new = c.new-editor.ensures in
-    let begun = is_started c.new-editor.result c.args.store c.args.object_hash c.args.root new.dirs new.store new.lookups new.object_hash new.prefix in
+    let begun = is_started c.new-editor.result c.args.store c.args.object_hash c.args.root new.dirs new.bases new.store new.lookups new.object_hash new.prefix in
     let filled = subst (λ (state : State g.row.S.Denot). IsFilled means state (prefix_of (names_of c.args.prefix.now)) c.args.entries.now c.put_entries_at.new.editor) begun (c.in_default.ensures {u = tt}).filled in
     let (last, wrote) = (c.in-Ok.ensures {u = tt}).written in
-    checked_out_files means (prefix_of (names_of c.args.prefix.now)) trees T n agrees _ c.args.out c.args.store c.args.object_hash c.args.root c.args.entries.now c.in-Ok.written
+    let bases = subst (λ (state : State g.row.S.Denot). HasBases T (open_dirs state) (open_bases state)) begun (new.has_bases T) in
+    let files = subst (λ (state : State g.row.S.Denot). SameFiles (EditorFiles T n state) (Files T n c.args.root)) begun (new.files T n) in
+    checked_out_files means (prefix_of (names_of c.args.prefix.now)) trees T n agrees _ c.args.out c.args.store c.args.object_hash c.args.root c.args.entries.now c.in-Ok.written bases files
     (c.put_entries_at.new.editor, c.write.new.self, last, filled, wrote) fits pairs
 
 pub returns-in-Ok-clause-done : goal.returns-in-Ok-clause-done
 returns-in-Ok-clause-done g c =
     let means : Meaning g.row.S.Denot = record { objects = g.S.Store.objects; may_fail = g.S.Store.may_fail } in
     let new = c.new-editor.ensures in
-    let begun = is_started c.new-editor.result c.args.store c.args.object_hash c.args.root new.dirs new.store new.lookups new.object_hash new.prefix in
+    let begun = is_started c.new-editor.result c.args.store c.args.object_hash c.args.root new.dirs new.bases new.store new.lookups new.object_hash new.prefix in
     let filled = subst (λ (state : State g.row.S.Denot). IsFilled means state (prefix_of (names_of c.args.prefix.now)) c.args.entries.now c.put_entries_at.new.editor) begun (c.in_default.ensures {u = tt}).filled in
     let (last, wrote) = (c.in-Ok.ensures {u = tt}).written in
     (c.put_entries_at.new.editor, c.write.new.self, last, filled, wrote)
@@ -39,7 +43,7 @@ pub returns-clause-refusal : goal.returns-clause-refusal
 returns-clause-refusal g c =
     let means : Meaning g.row.S.Denot = record { objects = g.S.Store.objects; may_fail = g.S.Store.may_fail } in
     let new = c.new-editor.ensures in
-    let begun = is_started c.new-editor.result c.args.store c.args.object_hash c.args.root new.dirs new.store new.lookups new.object_hash new.prefix in
+    let begun = is_started c.new-editor.result c.args.store c.args.object_hash c.args.root new.dirs new.bases new.store new.lookups new.object_hash new.prefix in
     let filled = subst (λ (state : State g.row.S.Denot). IsFilled means state (prefix_of (names_of c.args.prefix.now)) c.args.entries.now c.put_entries_at.new.editor) begun (c.in_default.ensures {u = tt}).filled in
     let (last, stopped) = (c.in-Err-write.ensures {u = tt}).stopped in
     (c.put_entries_at.new.editor, last, filled, stopped)

@@ -11,23 +11,23 @@ pub returns-in-Err-try_upsert-clause-refusal : goal.returns-in-Err-try_upsert-cl
 returns-in-Err-try_upsert-clause-refusal g c =
     let means : Meaning g.row.S.Denot = record { objects = g.S.Store.objects; may_fail = g.S.Store.may_fail } in
     let new = c.new-editor.ensures in
-    let begun = is_started c.new-editor.result c.args.store (id_kind c.args.root) c.in-Ok.tree new.dirs new.store new.lookups (new.object_hash ∙ c.kind.ensures) new.prefix in
+    let begun = is_started c.new-editor.result c.args.store (id_kind c.args.root) c.in-Ok.tree new.dirs new.bases new.store new.lookups (new.object_hash ∙ c.kind.ensures) new.prefix in
     not_put_in_root means c.args.store c.args.root (names_of c.args.path.now) (mode_of_kind c.args.kind) c.args.id c.new-editor.result c.in-Ok.tree c.in-Err-try_upsert.error (c.in-Ok.ensures {u = tt}).found begun (c.in-Err-try_upsert.ensures {u = tt}).refusal
 
 pub returns-in-Ok-write-clause-files : goal.returns-in-Ok-write-clause-files
 returns-in-Ok-write-clause-files g c =
     let means : Meaning g.row.S.Denot = record { objects = g.S.Store.objects; may_fail = g.S.Store.may_fail } in
     let new = c.new-editor.ensures in
-    let begun = is_started c.new-editor.result c.args.store (id_kind c.args.root) c.in-Ok.tree new.dirs new.store new.lookups (new.object_hash ∙ c.kind.ensures) new.prefix in
-    let put = put_in_root means c.args.store c.args.root (names_of c.args.path.now) (mode_of_kind c.args.kind) c.args.id c.new-editor.result c.try_upsert.new.self c.in-Ok.tree (c.in-Ok.ensures {u = tt}).found begun (c.in_default.ensures {u = tt}).upserted in
+    let begun = is_started c.new-editor.result c.args.store (id_kind c.args.root) c.in-Ok.tree new.dirs new.bases new.store new.lookups (new.object_hash ∙ c.kind.ensures) new.prefix in
     let (last, wrote) = (c.in-Ok-write.ensures {u = tt}).written in
-    planned_files means c.args.store c.args.root (names_of c.args.path.now) (mode_of_kind c.args.kind) c.args.id _ c.args.out c.in-Ok-write.written (c.try_upsert.new.self, c.write.new.self, last, put, wrote)
+    planned_files means c.args.store c.args.root (names_of c.args.path.now) (mode_of_kind c.args.kind) c.args.id c.new-editor.result c.in-Ok.tree (c.in-Ok.ensures {u = tt}).found begun new.has_bases new.files
+    _ c.args.out last c.try_upsert.new.self c.write.new.self c.in-Ok-write.written (c.in_default.ensures {u = tt}).upserted wrote
 
 pub returns-in-Ok-write-clause-done : goal.returns-in-Ok-write-clause-done
 returns-in-Ok-write-clause-done g c =
     let means : Meaning g.row.S.Denot = record { objects = g.S.Store.objects; may_fail = g.S.Store.may_fail } in
     let new = c.new-editor.ensures in
-    let begun = is_started c.new-editor.result c.args.store (id_kind c.args.root) c.in-Ok.tree new.dirs new.store new.lookups (new.object_hash ∙ c.kind.ensures) new.prefix in
+    let begun = is_started c.new-editor.result c.args.store (id_kind c.args.root) c.in-Ok.tree new.dirs new.bases new.store new.lookups (new.object_hash ∙ c.kind.ensures) new.prefix in
     let put = put_in_root means c.args.store c.args.root (names_of c.args.path.now) (mode_of_kind c.args.kind) c.args.id c.new-editor.result c.try_upsert.new.self c.in-Ok.tree (c.in-Ok.ensures {u = tt}).found begun (c.in_default.ensures {u = tt}).upserted in
     let (last, wrote) = (c.in-Ok-write.ensures {u = tt}).written in
     (c.try_upsert.new.self, c.write.new.self, last, put, wrote)
@@ -36,7 +36,7 @@ pub returns-clause-refusal : goal.returns-clause-refusal
 returns-clause-refusal g c =
     let means : Meaning g.row.S.Denot = record { objects = g.S.Store.objects; may_fail = g.S.Store.may_fail } in
     let new = c.new-editor.ensures in
-    let begun = is_started c.new-editor.result c.args.store (id_kind c.args.root) c.in-Ok.tree new.dirs new.store new.lookups (new.object_hash ∙ c.kind.ensures) new.prefix in
+    let begun = is_started c.new-editor.result c.args.store (id_kind c.args.root) c.in-Ok.tree new.dirs new.bases new.store new.lookups (new.object_hash ∙ c.kind.ensures) new.prefix in
     let put = put_in_root means c.args.store c.args.root (names_of c.args.path.now) (mode_of_kind c.args.kind) c.args.id c.new-editor.result c.try_upsert.new.self c.in-Ok.tree (c.in-Ok.ensures {u = tt}).found begun (c.in_default.ensures {u = tt}).upserted in
     let (last, stopped) = (c.in-Err-write.ensures {u = tt}).stopped in
     (c.try_upsert.new.self, last, put, stopped)

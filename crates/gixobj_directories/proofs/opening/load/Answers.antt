@@ -11,8 +11,8 @@ returns-then-is_unasked-clause-found g c = λ trees fits. ([], (subst IsWellForm
 
 pub returns-clause-found : goal.returns-clause-found
 returns-clause-found g c =
-    IfOk-weaker c.find_directory.result _ _ (λ tree named trees fits.
-    (c.args.id ∷ [], (named.1, inr ((λ empty. true≢false (sym (c.is_unasked.ensures.1 empty) ∙ c.if-is_unasked.false)), (fits c.args.id tree).1 named, refl)), c.saturating_add.ensures)) c.find_directory.ensures.found
+    IfOk-weaker c.find_copied.result _ _ (λ it named trees fits.
+    (c.args.id ∷ [], (named.1, inr ((λ empty. true≢false (sym (c.is_unasked.ensures.1 empty) ∙ c.if-is_unasked.false)), (fits c.args.id it.0).1 named, refl)), c.saturating_add.ensures)) c.find_copied.ensures.found
 
 pub returns-clause-asked : goal.returns-clause-asked
-returns-clause-asked g c = on_err c.find_directory.result _ ((λ empty. true≢false (sym (c.is_unasked.ensures.1 empty) ∙ c.if-is_unasked.false)), c.saturating_add.ensures)
+returns-clause-asked g c = on_err c.find_copied.result _ ((λ empty. true≢false (sym (c.is_unasked.ensures.1 empty) ∙ c.if-is_unasked.false)), c.saturating_add.ensures)

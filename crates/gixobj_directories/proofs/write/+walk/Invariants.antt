@@ -1,17 +1,20 @@
-use Rattle.std.proofs.Common.{◌≡◌, ◌++◌, List, drop, Ok}
+use Rattle.std.proofs.Common.{◌≡◌, ◌+◌, ◌++◌, ℕ, List, drop, Ok}
 use Rattle.std.specs.Fn.{CalledAt}
 use Rattle.std.specs.List.{FoldsTo}
 use Rattle.gixobj_trees.specs.Entries.{EntryView}
+use Rattle.gixobj_files.specs.Edits.{raised}
 use Rattle.gixobj_files.specs.HandingOut.{Walks}
 use Rattle.gixobj_files.specs.Tables.{Pair}
 use Rattle.gixobj_directories.specs.Calls.{IsCallableOnTrees}
-use Rattle.gixobj_directories.specs.Nested.{dirs_of}
+use Rattle.gixobj_directories.specs.Nested.{bases_of, dirs_of}
+use Rattle.gixobj_directories.specs.OwnTrees.{IsBeside, so_far}
 use Rattle.gixobj_directories.proofs.write.+walk.Given as goal
 
 -- what went out so far, and whatever goes out for the entries to come, are together what goes out
 abbrev pub invariant-leaves-loop-entry : goal.invariant-leaves-loop-entry
 invariant-leaves-loop-entry g l = record {
-  told : (ps : List Pair) × (l.pairs.items ≡ l.fn.pairs.items ++ ps) × FoldsTo (λ f p h. CalledAt g.F.FnMut f p.1 (Ok p.0) h) l.fn.out ps l.out
-      × ((qs : List Pair) (own : List EntryView) → Walks (dirs_of l.fn.node) (drop l.entry-index l.entry-items) qs own → Walks (dirs_of l.fn.node) l.entry-items (ps ++ qs) (l.own.items ++ own));
+  told : (ps : List Pair) × (count : ℕ) × (l.pairs.items ≡ l.fn.pairs.items ++ ps) × (l.saved ≡ raised l.fn.saved count) × FoldsTo (λ f p h. CalledAt g.F.FnMut f p.1 (Ok p.0) h) l.fn.out ps l.out
+      × ((qs : List Pair) (own : List EntryView) (n : ℕ) → Walks (dirs_of l.fn.node) (bases_of l.fn.node) (drop l.entry-index l.entry-items) qs own n → Walks (dirs_of l.fn.node) (bases_of l.fn.node) l.entry-items (ps ++ qs) (so_far l.base l.own ++ own) (count + n));
   callable : IsCallableOnTrees (λ f tree. g.F.FnMut.pre f (tree, tt)) (λ f p h. CalledAt g.F.FnMut f p.1 (Ok p.0) h) l.out;
+  beside : IsBeside l.base l.own;
 }

@@ -4,14 +4,16 @@ use Rattle.std.proofs.lemmas.Result.{MatchResult-weaker}
 use Rattle.bstr.specs.Owned.{bstring_bytes}
 use Rattle.gixobj_files.specs.Edits.{only}
 use Rattle.gixobj_files.specs.Files.{Path}
-use Rattle.gixobj_files.specs.HandingOut.{Leaves}
+use Rattle.gixobj_files.specs.HandingOut.{Saves}
 use Rattle.gixobj_files.specs.Opening.{Dirs, in_path}
 use Rattle.gixobj_directories.specs.Calls.{names_of}
-use Rattle.gixobj_directories.specs.Nested.{Opened, dirs_of, in_part, parts}
-use Rattle.gixobj_directories.proofs.Handing.{stopped_same}
+use Rattle.gixobj_directories.specs.Nested.{Opened, bases_of, dirs_of, in_part, parts}
+use Rattle.gixobj_directories.proofs.Handing.{in_both, stopped_same}
 use Rattle.gixobj_directories.proofs.Levels.{found, level_set, set_becomes}
 use Rattle.gixobj_directories.proofs.OpeningSteps.{names_none, only_is}
-use Rattle.gixobj_directories.proofs.Steps.{path_down, place_down, place_shut, written_deeper}
+use Rattle.gixobj_directories.proofs.Steps.{path_based, path_down, place_down, place_shut, written_deeper}
+use Rattle.gixobj_files.specs.Bases.{base_edited}
+use Rattle.gixobj_directories.proofs.BaseSteps.{editing, set_moved}
 use Rattle.gixobj_directories.proofs.write.+write_at.Goals as goal
 
 pub returns-in_default-clause-ok : goal.returns-in_default-clause-ok
@@ -20,19 +22,19 @@ returns-in_default-clause-ok g t c = MatchResult-weaker c.write_all.result c.wri
     let dirs = dirs_of c.args.node.now in (
       ok.0,
       ok.1,
-      subst (λ (p : Path). Leaves (in_path p dirs) ok.0 ok.1) (sym none) ok.2,
+      subst (λ (p : Path). Saves (in_path p dirs) (in_path p (bases_of c.args.node.now)) ok.0 ok.1 it.saved) (sym none) ok.2,
       ok.3,
       ok.4,
       ok.5,
-      λ at. rw none (ap (λ (ds : Opened). dirs_of ds at) ok.6 ∙ ap (λ (d : Dirs). d at) (only_is ok.1)),
+      λ at. rw none (ap (λ (ds : Opened). dirs_of ds at) ok.6.1 ∙ ap (λ (d : Dirs). d at) (only_is ok.1)),
     )) (λ _ u. u)
 
 pub returns-in_default-clause-stopped : goal.returns-in_default-clause-stopped
 returns-in_default-clause-stopped g t c = MatchResult-weaker c.write_all.result c.write_all.ensures.stopped (λ _ u. u) (λ error stopped.
     let none = names_none c.args.path.now c.in_default.ensures.cases in
     let dirs = dirs_of c.args.node.now in
-    stopped_same (λ f p h. CalledAt g.F.FnMut f p.1 (Ok p.0) h) (λ f tree x h. CalledAt g.F.FnMut f tree (Err x) h) dirs (in_path (names_of c.args.path.now) dirs)
-    (sym (ap (λ (p : Path). in_path p dirs) none)) c.args.out.now c.write_all.new.out error stopped)
+    stopped_same (λ f p h. CalledAt g.F.FnMut f p.1 (Ok p.0) h) (λ f tree x h. CalledAt g.F.FnMut f tree (Err x) h) dirs (in_path (names_of c.args.path.now) dirs) (bases_of c.args.node.now) (in_path (names_of c.args.path.now) (bases_of c.args.node.now))
+    (sym (ap (λ (p : Path). in_path p dirs) none)) (sym (ap (λ (p : Path). in_path p (bases_of c.args.node.now)) none)) c.args.out.now c.write_all.new.out error stopped)
 
 pub invariant_of-node : goal.invariant_of-node
 invariant_of-node g t c = level_set c.node.inside.tree c.node.inside.children.items c.in-Some-child_at.place c.index_mut-child.result.now _ c.index_mut-child.ensures.value refl c.node.invariant
@@ -59,10 +61,12 @@ returns-clause-ok g t c = MatchResult-weaker c.write_at.result c.write_at.ensure
     let level = level_set c.node.inside.tree cs c.in-Some-child_at.place child (record { name = child.name; «open» = c.write_at.new.node }) c.index_mut-child.ensures.value refl c.node.invariant in
     let was : in_part name (parts cs) ≡ dirs_of child.open = λ i at. found name cs c.deref.result.now c.in-Some-child_at.place child c.deref.ensures.value here c.index_mut-child.ensures.value at i in
     let same : in_path (names_of c.args.path.now) (dirs_of c.args.node.now) ≡ in_path rest (dirs_of child.open) =
-    λ i at. path_down c.args.node.now c.node.inside.tree cs c.deref.result.now c.node.view_is c.node.invariant.apart (names_of c.args.path.now) name rest path c.deref.ensures.value c.in-Some-child_at.place child here c.index_mut-child.ensures.value at i in (
+    λ i at. path_down c.args.node.now c.node.inside.tree cs c.deref.result.now c.node.view_is c.node.invariant.apart (names_of c.args.path.now) name rest path c.deref.ensures.value c.in-Some-child_at.place child here c.index_mut-child.ensures.value at i in
+    let same_bases : in_path (names_of c.args.path.now) (bases_of c.args.node.now) ≡ in_path rest (bases_of child.open) =
+    λ i at. path_based c.args.node.now c.node.inside.tree cs c.deref.result.now c.node.view_is c.node.invariant.apart (names_of c.args.path.now) name rest path c.deref.ensures.value c.in-Some-child_at.place child here c.index_mut-child.ensures.value at i in (
       ok.0,
       ok.1,
-      subst (λ (d : Dirs). Leaves d ok.0 ok.1) (sym same) ok.2,
+      (ok.2.0, in_both _ _ _ _ (sym same) (sym same_bases) ok.0 ok.1 ok.2.0 ok.2.1, ok.2.2),
       ok.3,
       ok.4,
       ok.5,
@@ -79,5 +83,17 @@ returns-clause-stopped g t c = MatchResult-weaker c.write_at.result c.write_at.e
     let same : in_path rest (dirs_of child.open) ≡ in_path (names_of c.args.path.now) (dirs_of c.args.node.now) =
     λ i at. sym (path_down c.args.node.now c.node.inside.tree c.node.inside.children.items c.deref.result.now c.node.view_is c.node.invariant.apart (names_of c.args.path.now) (bstring_bytes c.in-Some.name.now) rest (ap names_of c.in-Some.ensures.cases.0) c.deref.ensures.value
     c.in-Some-child_at.place child (c.in-Some-child_at.ensures {u = tt}) c.index_mut-child.ensures.value at) i in
+    let same_bases : in_path rest (bases_of child.open) ≡ in_path (names_of c.args.path.now) (bases_of c.args.node.now) =
+    λ i at. sym (path_based c.args.node.now c.node.inside.tree c.node.inside.children.items c.deref.result.now c.node.view_is c.node.invariant.apart (names_of c.args.path.now) (bstring_bytes c.in-Some.name.now) rest (ap names_of c.in-Some.ensures.cases.0) c.deref.ensures.value
+    c.in-Some-child_at.place child (c.in-Some-child_at.ensures {u = tt}) c.index_mut-child.ensures.value at) i in
     stopped_same (λ f p h. CalledAt g.F.FnMut f p.1 (Ok p.0) h) (λ f tree x h. CalledAt g.F.FnMut f tree (Err x) h) (in_path rest (dirs_of child.open)) (in_path (names_of c.args.path.now) (dirs_of c.args.node.now))
-    same c.args.out.now c.write_at.new.out error stopped)
+    (in_path rest (bases_of child.open)) (in_path (names_of c.args.path.now) (bases_of c.args.node.now)) same same_bases c.args.out.now c.write_at.new.out error stopped)
+
+pub returns-clause-bases : goal.returns-clause-bases
+returns-clause-bases g t c = MatchResult-weaker c.write_at.result c.write_at.ensures.bases (λ _ bases.
+    let name = bstring_bytes c.in-Some.name.now in
+    let cs = c.node.inside.children.items in
+    let child = c.index_mut-child.result.now in
+    let here = c.in-Some-child_at.ensures {u = tt} in
+    let level = level_set c.node.inside.tree cs c.in-Some-child_at.place child (record { name = child.name; «open» = c.write_at.new.node }) c.index_mut-child.ensures.value refl c.node.invariant in
+    set_moved base_edited editing c.args.node.now c.node.inside.tree cs c.deref.result.now c.node.view_is c.node.invariant.apart name c.in-Some-child_at.place child _ level.apart c.deref.ensures.value here c.index_mut-child.ensures.value refl bases) (λ _ u. u)

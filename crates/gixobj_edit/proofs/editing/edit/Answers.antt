@@ -11,6 +11,7 @@ pub returns-clause-told : goal.returns-clause-told
 returns-clause-told c =
     let begun : IsNew c.args.hash c.new-editor.result = record {
       root = c.new-editor.ensures.dirs ∙ ap root_alone c.empty.ensures;
+      bases = c.new-editor.ensures.bases;
       nothing = ap memory_objects c.new-editor.ensures.store ∙ c.new.ensures;
       lookups = c.new-editor.ensures.lookups;
       object_hash = c.new-editor.ensures.object_hash;

@@ -4,6 +4,7 @@ use Rattle.gixobj_ids.specs.declared.hash.object_id.ObjectId.{ObjectId}
 use Rattle.gixobj_trees.specs.Entries.{EntryView}
 use Rattle.gixobj_runs.specs.Replies.{Meaning}
 use Rattle.gixobj_runs.proofs.Named.{names_history}
+use Rattle.gixobj_runs.proofs.OneId.{ids_tell_files}
 use Rattle.gixobj_runs.proofs.OneMore.{no_more, one_more}
 use Rattle.gixobj_runs.proofs.running.run.Goals as goal
 
@@ -28,4 +29,10 @@ pub returns-clause-headline : goal.returns-clause-headline
 returns-clause-headline g c =
     let means : Meaning g.row.S.Denot = record { objects = g.S.Store.objects; may_fail = g.S.Store.may_fail } in
     let answers = λ (tree : List EntryView) (answer : Result ObjectId g.row.E.Denot). FnReturnsAt g.F.Fn c.args.out tree answer in
-    λ T n agrees k written is. names_history means answers T n _ _ _ _ (no_more means answers _ _ _ _ _ (omega (arith, c.in-None.ensures.steps.0, c.loop-command.command-iterator.rest.ok.0)) c.loop-command.invariant.told) agrees k written is
+    λ T n k written is agrees pairs has. names_history means answers T n _ _ _ _ (no_more means answers _ _ _ _ _ (omega (arith, c.in-None.ensures.steps.0, c.loop-command.command-iterator.rest.ok.0)) c.loop-command.invariant.told) k written is agrees pairs has
+
+pub returns-clause-one_id : goal.returns-clause-one_id
+returns-clause-one_id g c =
+    let means : Meaning g.row.S.Denot = record { objects = g.S.Store.objects; may_fail = g.S.Store.may_fail } in
+    let answers = λ (tree : List EntryView) (answer : Result ObjectId g.row.E.Denot). FnReturnsAt g.F.Fn c.args.out tree answer in
+    λ T m plain. ids_tell_files means answers T _ _ _ _ (no_more means answers _ _ _ _ _ (omega (arith, c.in-None.ensures.steps.0, c.loop-command.command-iterator.rest.ok.0)) c.loop-command.invariant.told) m plain

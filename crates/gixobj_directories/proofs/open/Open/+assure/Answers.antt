@@ -10,6 +10,8 @@ use Rattle.gixobj_directories.specs.Nested.{dirs_of, in_part, parts}
 use Rattle.gixobj_directories.proofs.Levels.{child_above, found, level_added, level_set, none_named, not_found, push_becomes, set_becomes}
 use Rattle.gixobj_directories.proofs.OpeningSteps.{names_none, on_err}
 use Rattle.gixobj_directories.proofs.Steps.{assured_deeper, assured_fresh, assured_here, place_down, place_shut}
+use Rattle.gixobj_files.specs.Bases.{base_edited}
+use Rattle.gixobj_directories.proofs.BaseSteps.{editing, made_base, pushed_moved, set_moved, unmoved}
 use Rattle.gixobj_directories.proofs.open.Open.+assure.Goals as goal
 
 pub returns-in_default-clause-ok : goal.returns-in_default-clause-ok
@@ -71,3 +73,28 @@ pub returns-in_err-add_directory-clause-shut : goal.returns-in_err-add_directory
 returns-in_err-add_directory-clause-shut t c = on_err c.from_residual-in_err-add_directory.result _
     (place_shut c.args.self.now c.self.inside.tree c.self.inside.children.items c.deref.result.now c.self.view_is c.self.invariant.apart (names_of c.args.path.now) (bstring_bytes c.in-Some.name.now) (names_of c.in-Some.rest.now) (ap names_of c.in-Some.ensures.cases.0) c.deref.ensures.value
     (c.in_default-child_at.ensures {u = tt}))
+
+pub returns-in_default-clause-bases : goal.returns-in_default-clause-bases
+returns-in_default-clause-bases t c = λ at. unmoved base_edited editing c.args.self.now at
+
+pub returns-in_default-child_at-clause-bases : goal.returns-in_default-child_at-clause-bases
+returns-in_default-child_at-clause-bases t c =
+    let name = bstring_bytes c.in-Some.name.now in
+    let cs = c.self.inside.children.items in
+    let path : names_of c.args.path.now ≡ name ∷ names_of c.in-Some.rest.now = ap names_of c.in-Some.ensures.cases.0 in
+    let others = none_named name cs c.deref.result.now c.deref.ensures.value (c.in_default-child_at.ensures {u = tt}) in
+    let level = level_added name c.args.null c.assure.new.self c.self.inside.tree (parts cs) (subst (AllByRecursion IsEntryName) path c.requires).0 others c.self.invariant in
+    let inner = c.in_ok-assure.ensures.bases in
+    rw (c.in_ok-add_directory.ensures.ok.0, c.in_ok-add_directory.ensures.ok.1)
+    (pushed_moved base_edited editing c.args.self.now c.self.inside.tree (with_directory name c.args.null c.self.inside.tree) (parts cs) c.self.view_is c.self.invariant.apart name c.assure.new.self level.apart others
+    (not_found name cs c.deref.result.now c.deref.ensures.value (c.in_default-child_at.ensures {u = tt}))
+    (λ path. (rw (c.new-inner.ensures, c.empty.ensures) at inner) path ∙ made_base path (dirs_of c.assure.new.self path) None))
+
+pub returns-clause-bases : goal.returns-clause-bases
+returns-clause-bases t c = MatchResult-weaker c.assure-2.result c.assure-2.ensures.bases (λ _ bases.
+    let name = bstring_bytes c.in-Some.name.now in
+    let cs = c.self.inside.children.items in
+    let child = c.index_mut-child.result.now in
+    let here = c.in-Some-child_at.ensures {u = tt} in
+    let level = level_set c.self.inside.tree cs c.in-Some-child_at.place child (record { name = child.name; «open» = c.assure-2.new.self }) c.index_mut-child.ensures.value refl c.self.invariant in
+    set_moved base_edited editing c.args.self.now c.self.inside.tree cs c.deref.result.now c.self.view_is c.self.invariant.apart name c.in-Some-child_at.place child _ level.apart c.deref.ensures.value here c.index_mut-child.ensures.value refl bases) (λ _ u. u)

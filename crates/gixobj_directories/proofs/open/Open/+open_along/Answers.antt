@@ -8,12 +8,15 @@ use Rattle.gixobj_files.specs.Halting.{Halts}
 use Rattle.gixobj_files.specs.Opening.{IsOpened}
 use Rattle.gixobj_files.specs.Tables.{IsEmptyId}
 use Rattle.gixobj_directories.specs.Calls.{names_of}
-use Rattle.gixobj_directories.specs.Nested.{Opened, dirs_of, opened, parts}
+use Rattle.gixobj_directories.specs.Nested.{Opened, bases_of, dirs_of, opened, parts}
 use Rattle.gixobj_directories.specs.Openings.{EndsBefore, RefusesDirectory}
 use Rattle.gixobj_directories.specs.declared.open.Child.{Child}
 use Rattle.gixobj_directories.proofs.Handing.{err_weaker}
 use Rattle.gixobj_directories.proofs.Levels.{level_root, level_set, none_named, not_found}
 use Rattle.gixobj_directories.proofs.OpeningSteps.{HaltsAt, IsFormedList, OpensAs, StaysOpened, counted_more, down_in, found_in, halts_down, halts_in, halted_here, level_new, names_none, no_memory, none_found, opens_down, opens_in, stays_down, stays_in, still_opened, stop_in}
+use Rattle.gixobj_trees.specs.Entries.{EntryView}
+use Rattle.gixobj_files.specs.Bases.{base_opened}
+use Rattle.gixobj_directories.proofs.BaseSteps.{found_base, opened_moved, opening, set_moved, unmoved, unmoved_as}
 use Rattle.gixobj_directories.proofs.open.Open.+open_along.Goals as goal
 
 pub returns-in_default-clause-opened : goal.returns-in_default-clause-opened
@@ -79,7 +82,7 @@ returns-in_err-tree-clause-halted g t c = err_weaker c.from_residual-in_err-tree
     let asked = (c.in_err-tree.ensures {u = tt}).asked in (
       c.in-Some-next_id.id ∷ [],
       Some c.in-Some-next_id.id,
-      subst (λ (id : ObjectId). Halts Ends trees (names_of c.args.path.now) (dirs_of c.args.self.now) (dirs_of (opened c.self.inside.tree (parts c.room_for.new.children.items))) (id ∷ []) (Some id)) there.4
+      subst (λ (id : ObjectId). Halts Ends trees (names_of c.args.path.now) (dirs_of c.args.self.now) (dirs_of (opened c.self.inside.tree c.self.inside.base (parts c.room_for.new.children.items))) (id ∷ []) (Some id)) there.4
           (halted_here Ends trees (names_of c.args.path.now) name (names_of c.in-Some.rest.now) c.self.inside.tree c.args.self.now cs c.room_for.new.children.items (ap names_of c.in-Some.ensures.cases.0) c.self.view_is c.room_for.ensures.items (there.0.id ∷ []) (Some there.0.id)
           (none_found Ends trees name (names_of c.in-Some.rest.now) c.self.inside.tree cs c.self.invariant (not_found name cs c.deref.result.now c.deref.ensures.value (c.in_default-child_at.ensures {u = tt})) there.0 there.1 there.2 there.3
           (subst (λ (id : ObjectId). IsEmptyId id → ⊥) (sym there.4) asked.0))),
@@ -109,7 +112,7 @@ returns-clause-opened g t c = MatchResult-weaker c.open_along-opened.result c.op
       found_in (OpensAs (EndsBefore c.args.unasked) trees) (Opens (EndsBefore c.args.unasked) trees) (opens_down (EndsBefore c.args.unasked) trees) (opens_in (EndsBefore c.args.unasked) trees) c.self.inside.tree c.args.self.now (names_of c.args.path.now) name (names_of c.in-Some.rest.now) (ap names_of c.in-Some.ensures.cases.0)
           cs c.self.view_is c.self.invariant (none_named name cs c.deref.result.now c.deref.ensures.value (c.in_default-child_at.ensures {u = tt})) (not_found name cs c.deref.result.now c.deref.ensures.value (c.in_default-child_at.ensures {u = tt}))
           there.0 there.1 there.2 c.in_ok-tree.tree finds.0 below.0 (there.3, subst (λ id. Finds trees id c.in_ok-tree.tree finds.0) (sym there.4) finds.1) inner (c.in_ok-own_name.ensures {u = tt}).ok.0 c.push_child.new.children.items same
-          (subst (λ (d : Opened). Opens (EndsBefore c.args.unasked) trees (names_of c.in-Some.rest.now) (dirs_of d) (dirs_of c.open_along-opened.new.self) below.0) c.new-inner.ensures below.1),
+          (subst (λ (d : Opened). Opens (EndsBefore c.args.unasked) trees (names_of c.in-Some.rest.now) (dirs_of d) (dirs_of c.open_along-opened.new.self) below.0) c.with_base-inner.ensures below.1),
       below.2 ∙ ap (λ n. counted n below.0) finds.2 ∙ counted_more c.args.lookups.now finds.0 below.0,
     )) (λ _ u. u)
 
@@ -127,7 +130,7 @@ returns-clause-halted g t c = MatchResult-weaker c.open_along-opened.result c.op
       found_in (OpensAs (EndsBefore c.args.unasked) trees) (HaltsAt (EndsBefore c.args.unasked) trees below.1) (halts_down (EndsBefore c.args.unasked) trees below.1) (halts_in (EndsBefore c.args.unasked) trees below.1) c.self.inside.tree c.args.self.now (names_of c.args.path.now) name (names_of c.in-Some.rest.now) (ap names_of c.in-Some.ensures.cases.0)
           cs c.self.view_is c.self.invariant (none_named name cs c.deref.result.now c.deref.ensures.value (c.in_default-child_at.ensures {u = tt})) (not_found name cs c.deref.result.now c.deref.ensures.value (c.in_default-child_at.ensures {u = tt}))
           there.0 there.1 there.2 c.in_ok-tree.tree finds.0 below.0 (there.3, subst (λ id. Finds trees id c.in_ok-tree.tree finds.0) (sym there.4) finds.1) inner (c.in_ok-own_name.ensures {u = tt}).ok.0 c.push_child.new.children.items same
-          (subst (λ (d : Opened). Halts (EndsBefore c.args.unasked) trees (names_of c.in-Some.rest.now) (dirs_of d) (dirs_of c.open_along-opened.new.self) below.0 below.1) c.new-inner.ensures below.2),
+          (subst (λ (d : Opened). Halts (EndsBefore c.args.unasked) trees (names_of c.in-Some.rest.now) (dirs_of d) (dirs_of c.open_along-opened.new.self) below.0 below.1) c.with_base-inner.ensures below.2),
       below.3 ∙ ap (λ n. counted n below.0) finds.2 ∙ counted_more c.args.lookups.now finds.0 below.0,
       below.4,
     ))
@@ -155,7 +158,7 @@ returns-clause-still_opened g t c =
     found_in IsFormedList StaysOpened stays_down stays_in c.self.inside.tree c.args.self.now (names_of c.args.path.now) name (names_of c.in-Some.rest.now) (ap names_of c.in-Some.ensures.cases.0)
     cs c.self.view_is c.self.invariant (none_named name cs c.deref.result.now c.deref.ensures.value (c.in_default-child_at.ensures {u = tt})) (not_found name cs c.deref.result.now c.deref.ensures.value (c.in_default-child_at.ensures {u = tt}))
     there.0 there.1 there.2 c.in_ok-tree.tree [] [] (c.in_ok-tree.ensures {u = tt}).well_formed inner (c.in_ok-own_name.ensures {u = tt}).ok.0 c.push_child.new.children.items same
-    (subst (λ (d : Opened). IsOpened (dirs_of d) → IsOpened (dirs_of c.open_along-opened.new.self)) c.new-inner.ensures c.open_along-opened.ensures.still_opened)
+    (subst (λ (d : Opened). IsOpened (dirs_of d) → IsOpened (dirs_of c.open_along-opened.new.self)) c.with_base-inner.ensures c.open_along-opened.ensures.still_opened)
 
 pub returns-in_default-clause-root : goal.returns-in_default-clause-root
 returns-in_default-clause-root g t c = (c.self.inside.tree, level_root c.args.self.now c.self.inside.tree (parts c.self.inside.children.items) c.self.view_is)
@@ -174,3 +177,41 @@ returns-in_err-own_name-clause-root g t c = (c.self.inside.tree, level_root c.ar
 
 pub returns-clause-root : goal.returns-clause-root
 returns-clause-root g t c = (c.self.inside.tree, level_root c.args.self.now c.self.inside.tree (parts c.self.inside.children.items) c.self.view_is)
+
+pub returns-in_default-clause-bases : goal.returns-in_default-clause-bases
+returns-in_default-clause-bases g t c = λ at. unmoved base_opened opening c.args.self.now at
+
+pub returns-in_default-next_id-clause-bases : goal.returns-in_default-next_id-clause-bases
+returns-in_default-next_id-clause-bases g t c = λ at. unmoved base_opened opening c.args.self.now at
+
+pub returns-in_err-own_name-clause-bases : goal.returns-in_err-own_name-clause-bases
+returns-in_err-own_name-clause-bases g t c =
+    unmoved_as base_opened opening c.args.self.now (opened c.self.inside.tree c.self.inside.base (parts c.room_for.new.children.items)) (ap (λ (l : List Child). opened c.self.inside.tree c.self.inside.base (parts l)) c.room_for.ensures.items ∙ c.self.view_is)
+
+pub returns-in_err-tree-clause-bases : goal.returns-in_err-tree-clause-bases
+returns-in_err-tree-clause-bases g t c =
+    unmoved_as base_opened opening c.args.self.now (opened c.self.inside.tree c.self.inside.base (parts c.room_for.new.children.items)) (ap (λ (l : List Child). opened c.self.inside.tree c.self.inside.base (parts l)) c.room_for.ensures.items ∙ c.self.view_is)
+
+pub returns-in-Some-child_at-clause-bases : goal.returns-in-Some-child_at-clause-bases
+returns-in-Some-child_at-clause-bases g t c =
+    let name = bstring_bytes c.in-Some.name.now in
+    let cs = c.self.inside.children.items in
+    let child = c.index_mut-child.result.now in
+    let here = c.in-Some-child_at.ensures {u = tt} in
+    let level = level_set c.self.inside.tree cs c.in-Some-child_at.place child (record { name = child.name; «open» = c.open_along.new.self }) c.index_mut-child.ensures.value refl c.self.invariant in
+    set_moved base_opened opening c.args.self.now c.self.inside.tree cs c.deref.result.now c.self.view_is c.self.invariant.apart name c.in-Some-child_at.place child _ level.apart c.deref.ensures.value here c.index_mut-child.ensures.value refl c.open_along.ensures.bases
+
+pub returns-clause-bases : goal.returns-clause-bases
+returns-clause-bases g t c =
+    let name = bstring_bytes c.in-Some.name.now in
+    let cs = c.self.inside.children.items in
+    let new = c.open_along-opened.new.self in
+    let inner : Child = record { name = c.in_ok-own_name.own_name; «open» = new } in
+    let same : c.push_child.new.children.items ≡ cs ++ inner ∷ [] = c.push_child.ensures ∙ ap (λ (l : List Child). l ++ inner ∷ []) c.room_for.ensures.items in
+    let there = (c.in-Some-next_id.ensures {u = tt}).some in
+    let tree = c.in_ok-tree.tree in
+    let inner_is : _ ≡ opened tree tree [] = c.with_base-inner.ensures ∙ ap (λ (b : List EntryView). opened tree b []) (c.in_ok-tree.ensures {u = tt}).copied in
+    opened_moved c.args.self.now c.self.inside.tree cs c.push_child.new.children.items c.self.view_is c.self.invariant name (none_named name cs c.deref.result.now c.deref.ensures.value (c.in_default-child_at.ensures {u = tt})) (not_found name cs c.deref.result.now c.deref.ensures.value (c.in_default-child_at.ensures {u = tt}))
+    there.0 there.1 there.2 inner (c.in_ok-own_name.ensures {u = tt}).ok.0 same
+    (λ path. subst (λ (d : Opened). bases_of new path ≡ base_opened (dirs_of d path) (dirs_of new path) (bases_of d path)) inner_is (c.open_along-opened.ensures.bases path)
+    ∙ found_base tree path (dirs_of new) (c.open_along-opened.ensures.same_root ∙ ap (λ (d : Opened). dirs_of d []) inner_is))

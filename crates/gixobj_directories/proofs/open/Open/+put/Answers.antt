@@ -10,6 +10,8 @@ use Rattle.std.proofs.lemmas.Result.{MatchResult-weaker}
 use Rattle.gixobj_files.proofs.HasTrees.{directory_same}
 use Rattle.gixobj_directories.proofs.Levels.{child_above, found, level_put, level_set, level_added, none_named, not_found, others_becomes, push_becomes, set_becomes}
 use Rattle.gixobj_directories.proofs.Steps.{fresh, more_left, one_left, put_deeper, put_last}
+use Rattle.gixobj_files.specs.Bases.{base_edited}
+use Rattle.gixobj_directories.proofs.BaseSteps.{dropped_moved, editing, made_base, pushed_moved, set_moved, unmoved}
 use Rattle.gixobj_directories.proofs.open.Open.+put.Goals as goal
 
 pub invariant_of-self-then-is_empty : goal.invariant_of-self-then-is_empty
@@ -68,3 +70,37 @@ returns-clause-ok t c = MatchResult-weaker c.put-2.result c.put-2.ensures.ok (λ
     (set_becomes name cs c.deref.result.now c.in-Some-child_at.place child _ c.deref.ensures.value here c.index_mut-child.ensures.value refl)
     m.next m.after (mode_bits c.args.mode) c.args.id c.args.null (sym (directory_same name c.args.null c.self.inside.tree (child_above c.self.inside.tree name cs c.deref.result.now c.in-Some-child_at.place c.deref.ensures.value here c.self.invariant.above)))
     (λ path. rw was (ok path ∙ ap (λ p. upserted_dirs p (mode_bits c.args.mode) c.args.id c.args.null (dirs_of child.open) path) m.rest_is)))) (λ _ u. u)
+
+pub returns-in_default-clause-bases : goal.returns-in_default-clause-bases
+returns-in_default-clause-bases t c = λ at. unmoved base_edited editing c.args.self.now at
+
+pub returns-then-is_empty-clause-bases : goal.returns-then-is_empty-clause-bases
+returns-then-is_empty-clause-bases t c =
+    let name = bstring_bytes c.in-Some.name.now in
+    let x : EntryView = record { mode = mode_bits c.args.mode; name = name; id = c.args.id } in
+    let ps = parts c.self.inside.children.items in
+    let path = one_left c.args.path.now c.in-Some.name.now c.in-Some.rest.now c.in-Some.ensures.cases.0 (c.if-is_empty.ensures {u = tt}) in
+    let level = level_put x c.self.inside.tree ps (subst (AllByRecursion IsEntryName) path c.requires).0 c.self.invariant in
+    rw (c.in_ok-put_entry.ensures.ok, c.drop_child.ensures) (dropped_moved c.args.self.now c.self.inside.tree (with_entry x c.self.inside.tree) ps c.self.view_is c.self.invariant.apart name level.apart)
+
+pub returns-in_default-child_at-clause-bases : goal.returns-in_default-child_at-clause-bases
+returns-in_default-child_at-clause-bases t c =
+    let name = bstring_bytes c.in-Some.name.now in
+    let cs = c.self.inside.children.items in
+    let m = more_left c.args.path.now c.in-Some.name.now c.in-Some.rest.now c.in-Some.ensures.cases.0 (c.if-is_empty.ensures {u = tt}) in
+    let others = none_named name cs c.deref.result.now c.deref.ensures.value (c.in_default-child_at.ensures {u = tt}) in
+    let level = level_added name c.args.null c.put.new.self c.self.inside.tree (parts cs) (subst (AllByRecursion IsEntryName) m.path_is c.requires).0 others c.self.invariant in
+    let inner = c.in_ok-put.ensures.bases in
+    rw (c.in_ok-add_directory.ensures.ok.0, c.in_ok-add_directory.ensures.ok.1)
+    (pushed_moved base_edited editing c.args.self.now c.self.inside.tree (with_directory name c.args.null c.self.inside.tree) (parts cs) c.self.view_is c.self.invariant.apart name c.put.new.self level.apart others
+    (not_found name cs c.deref.result.now c.deref.ensures.value (c.in_default-child_at.ensures {u = tt}))
+    (λ path. (rw (c.new-inner.ensures, c.empty.ensures) at inner) path ∙ made_base path (dirs_of c.put.new.self path) None))
+
+pub returns-clause-bases : goal.returns-clause-bases
+returns-clause-bases t c = MatchResult-weaker c.put-2.result c.put-2.ensures.bases (λ _ bases.
+    let name = bstring_bytes c.in-Some.name.now in
+    let cs = c.self.inside.children.items in
+    let child = c.index_mut-child.result.now in
+    let here = c.in-Some-child_at.ensures {u = tt} in
+    let level = level_set c.self.inside.tree cs c.in-Some-child_at.place child (record { name = child.name; «open» = c.put-2.new.self }) c.index_mut-child.ensures.value refl c.self.invariant in
+    set_moved base_edited editing c.args.self.now c.self.inside.tree cs c.deref.result.now c.self.view_is c.self.invariant.apart name c.in-Some-child_at.place child _ level.apart c.deref.ensures.value here c.index_mut-child.ensures.value refl bases) (λ _ u. u)

@@ -3,7 +3,6 @@ use Rattle.std.proofs.Common.{◌≡◌, ◌∙◌, [], refl, sym, ap, subst}
 use Rattle.std.proofs.lemmas.List.Elements.{recursion_from_All}
 use Rattle.gixobj_trees.specs.Entries.{IsEntryName}
 use Rattle.gixobj_files.specs.Edits.{IsNoTree, Opens, assured_dirs}
-use Rattle.gixobj_files.specs.Opening.{IsOpened}
 use Rattle.gixobj_files.specs.State.{State, open_dirs}
 use Rattle.gixobj_files.specs.Unopened.{inside}
 use Rattle.gixobj_directories.specs.Calls.{names_of}
@@ -12,8 +11,11 @@ use Rattle.gixobj_directories.specs.Openings.{AreTreesOf, RefusesAt}
 use Rattle.gixobj_directories.proofs.Handing.{err_weaker}
 use Rattle.gixobj_directories.proofs.OpeningSteps.{on_err}
 use Rattle.gixobj_editor.specs.Cursors.{RefusesCursor}
-use Rattle.gixobj_editor.proofs.AssuredAt.{assured_at, assured_open, name_refused_at, refuses_at, some_names, still_assured}
-use Rattle.gixobj_editor.proofs.Edited.{at_files, halted_so, opened_so, unchanged_at}
+use Rattle.gixobj_editor.proofs.AssuredAt.{assured_at, assured_open, name_refused_at, refuses_at, some_names}
+use Rattle.gixobj_editor.proofs.Edited.{OpenedOn, OpenedSo, halted_so, opened_so, unchanged_at}
+use Rattle.gixobj_directories.proofs.NamedTrees.{trees_of}
+use Rattle.gixobj_directories.specs.declared.opening.Unasked.TheVariants as unasked
+use Rattle.gixobj_editor.proofs.StillOn.{assured_on, halted_on, opened_on}
 use Rattle.gixobj_editor.proofs.editor.Editor.assure.Goals as goal
 
 pub returns-in_err-check_names-clause-refusal : goal.returns-in_err-check_names-clause-refusal
@@ -32,7 +34,7 @@ returns-in_err-open_along-clause-refused g c =
     let path = names_of c.args.path.now in
     let stored = ap (λ (o : State _). o.store) c.self.view_is in
     let bad = (c.in_err-open_along.ensures {u = tt}).halted trees (subst (λ o. AreTreesOf (g.S.Store.objects o) trees) (sym stored) fits) in
-    halted_so s.store s.object_hash (names_of s.prefix.items) trees s.root c.open_along.new.self s.lookups c.open_along.new.lookups c.args.self.now c.self.view_is (inside path) path [] refl bad.0 bad.1 bad.2 bad.3 (c.open_along.ensures.still_opened c.self.invariant))
+    halted_so s.store s.object_hash (names_of s.prefix.items) trees s.root c.open_along.new.self s.lookups c.open_along.new.lookups c.args.self.now c.self.view_is (inside path) path [] refl bad.0 bad.1 bad.2 bad.3 c.self.invariant c.open_along.ensures.bases)
 
 pub returns-in_err-open_along-clause-refusal : goal.returns-in_err-open_along-clause-refusal
 returns-in_err-open_along-clause-refusal g c =
@@ -42,7 +44,7 @@ returns-in_err-open_along-clause-refusal g c =
     let stored = ap (λ (o : State _). o.store) c.self.view_is in
     let bad = (c.in_err-open_along.ensures {u = tt}).halted trees (subst (λ o. AreTreesOf (g.S.Store.objects o) trees) (sym stored) fits) in
     subst (RefusesCursor (g.S.Store.objects c.args.self.now.store) (g.S.Store.may_fail c.args.self.now.store) trees (open_dirs c.args.self.now) path) (sym gives)
-    (refuses_at s.store s.object_hash (names_of s.prefix.items) trees (g.S.Store.objects c.args.self.now.store) (g.S.Store.may_fail c.args.self.now.store) s.root c.open_along.new.self s.lookups c.args.self.now c.self.view_is path (c.in_ok-check_names.ensures {u = tt}).accepted c.self.invariant
+    (refuses_at s.store s.object_hash (names_of s.prefix.items) trees (g.S.Store.objects c.args.self.now.store) (g.S.Store.may_fail c.args.self.now.store) s.root c.open_along.new.self s.lookups c.args.self.now c.self.view_is path (c.in_ok-check_names.ensures {u = tt}).accepted c.self.invariant.opened
     bad.0 bad.1 bad.2 c.in_err-open_along.field-0.0 (subst (λ o. RefusesAt (g.S.Store.objects o) (g.S.Store.may_fail o) bad.1 c.in_err-open_along.field-0.0) stored bad.4)))
 
 -- no memory for the names
@@ -53,7 +55,7 @@ returns-in_err-prefix-clause-refused g c =
     let path = names_of c.args.path.now in
     let stored = ap (λ (o : State _). o.store) c.self.view_is in
     let ok = (c.in_ok-open_along.ensures {u = tt}).opened trees (subst (λ o. AreTreesOf (g.S.Store.objects o) trees) (sym stored) fits) in
-    opened_so s.store s.object_hash (names_of s.prefix.items) trees at_files s.root c.open_along.new.self s.lookups c.open_along.new.lookups c.args.self.now c.self.view_is (inside path) path [] refl ok.0 ok.1 ok.2 (c.open_along.ensures.still_opened c.self.invariant))
+    opened_so s.store s.object_hash (names_of s.prefix.items) trees unasked.Opened s.root c.open_along.new.self s.lookups c.open_along.new.lookups c.args.self.now c.self.view_is (inside path) path [] refl ok.0 ok.1 ok.2 c.self.invariant c.open_along.ensures.bases)
 
 pub returns-in_err-prefix-clause-refusal : goal.returns-in_err-prefix-clause-refusal
 returns-in_err-prefix-clause-refusal g c =
@@ -72,20 +74,47 @@ returns-in_err-assure-clause-refused g c =
     let stored = ap (λ (o : State _). o.store) c.self.view_is in
     let ok = (c.in_ok-open_along.ensures {u = tt}).opened trees (subst (λ o. AreTreesOf (g.S.Store.objects o) trees) (sym stored) fits) in
     let same : c.assure.new.self ≡ c.open_along.new.self = (c.in_err-assure.ensures {u = tt}).unchanged in
-    opened_so s.store s.object_hash (names_of s.prefix.items) trees at_files s.root c.assure.new.self s.lookups c.open_along.new.lookups c.args.self.now c.self.view_is (inside path) path [] refl ok.0
-    (subst (λ (ds : Opened). Opens IsNoTree trees path (dirs_of s.root) (dirs_of ds) ok.0) (sym same) ok.1) ok.2 (subst (λ (ds : Opened). IsOpened (dirs_of ds)) (sym same) (c.open_along.ensures.still_opened c.self.invariant)))
+    opened_so s.store s.object_hash (names_of s.prefix.items) trees unasked.Opened s.root c.assure.new.self s.lookups c.open_along.new.lookups c.args.self.now c.self.view_is (inside path) path [] refl ok.0
+    (subst (λ (ds : Opened). Opens IsNoTree trees path (dirs_of s.root) (dirs_of ds) ok.0) (sym same) ok.1) ok.2 c.self.invariant (subst (λ (ds : Opened). OpenedSo s.root ds) (sym same) c.open_along.ensures.bases))
 
 pub returns-in_err-assure-clause-refusal : goal.returns-in_err-assure-clause-refusal
 returns-in_err-assure-clause-refusal g c =
     err_weaker c.from_residual-in_err-assure.result _ _ c.from_residual-in_err-assure.ensures.1 (λ error gives trees fits.
     let path = names_of c.args.path.now in
     subst (RefusesCursor (g.S.Store.objects c.args.self.now.store) (g.S.Store.may_fail c.args.self.now.store) trees (open_dirs c.args.self.now) path) (sym gives)
-    ((c.in_ok-check_names.ensures {u = tt}).accepted, some_names path (dirs_of c.open_along.new.self) (c.open_along.ensures.still_opened c.self.invariant) (c.in_err-assure.ensures {u = tt}).shut))
+    ((c.in_ok-check_names.ensures {u = tt}).accepted, some_names path (dirs_of c.open_along.new.self) (c.open_along.ensures.still_opened c.self.invariant.opened) (c.in_err-assure.ensures {u = tt}).shut))
+
+pub invariant_of-self : goal.invariant_of-self
+invariant_of-self g c =
+    let s = c.self.inside in
+    let named = trees_of (g.S.Store.objects s.store) in
+    let bad = (c.in_err-open_along.ensures {u = tt}).halted named.0 named.1 in
+    halted_on named.0 s.root c.open_along.new.self c.open_along.ensures.bases c.self.invariant (names_of c.args.path.now) bad.0 bad.1 bad.2
+
+pub invariant_of-self-in_err-prefix : goal.invariant_of-self-in_err-prefix
+invariant_of-self-in_err-prefix g c =
+    let s = c.self.inside in
+    let named = trees_of (g.S.Store.objects s.store) in
+    let ok = (c.in_ok-open_along.ensures {u = tt}).opened named.0 named.1 in
+    opened_on named.0 s.root c.open_along.new.self c.open_along.ensures.bases c.self.invariant (names_of c.args.path.now) ok.0 ok.1
+
+pub invariant_of-self-in_err-assure : goal.invariant_of-self-in_err-assure
+invariant_of-self-in_err-assure g c =
+    let s = c.self.inside in
+    let named = trees_of (g.S.Store.objects s.store) in
+    let ok = (c.in_ok-open_along.ensures {u = tt}).opened named.0 named.1 in
+    let same : c.assure.new.self ≡ c.open_along.new.self = (c.in_err-assure.ensures {u = tt}).unchanged in
+    subst OpenedOn (sym same) (opened_on named.0 s.root c.open_along.new.self c.open_along.ensures.bases c.self.invariant (names_of c.args.path.now) ok.0 ok.1)
 
 pub invariant_of-self-2 : goal.invariant_of-self-2
 invariant_of-self-2 g c =
-    still_assured (names_of c.args.path.now) c.null-null.result c.open_along.new.self c.assure.new.self (recursion_from_All IsEntryName (names_of c.args.path.now) (c.in_ok-check_names.ensures {u = tt}).accepted)
-    (c.open_along.ensures.still_opened c.self.invariant) (c.in_ok-assure.ensures {u = tt}).ok
+    let s = c.self.inside in
+    let path = names_of c.args.path.now in
+    let named = trees_of (g.S.Store.objects s.store) in
+    let ok = (c.in_ok-open_along.ensures {u = tt}).opened named.0 named.1 in
+    assured_on named.0 s.root c.open_along.new.self c.open_along.ensures.bases c.self.invariant c.assure.new.self (c.in_ok-assure.ensures {u = tt}).bases
+    s.object_hash path (c.in_ok-check_names.ensures {u = tt}).accepted ok.0 ok.1
+    (λ at. (c.in_ok-assure.ensures {u = tt}).ok at ∙ ap (λ null. assured_dirs path null (dirs_of c.open_along.new.self) at) c.null-null.ensures.value)
 
 pub returns-clause-is_open : goal.returns-clause-is_open
 returns-clause-is_open g c = assured_open (names_of c.args.path.now) c.null-null.result c.open_along.new.self c.assure.new.self (c.in_ok-assure.ensures {u = tt}).ok (names_of c.in_ok-prefix.prefix.items) (c.in_ok-prefix.ensures {u = tt}).copied
@@ -97,5 +126,5 @@ returns-clause-assured g c = λ trees fits.
     let stored = ap (λ (o : State _). o.store) c.self.view_is in
     let ok = (c.in_ok-open_along.ensures {u = tt}).opened trees (subst (λ o. AreTreesOf (g.S.Store.objects o) trees) (sym stored) fits) in
     assured_at s.store s.object_hash (names_of s.prefix.items) trees s.root c.open_along.new.self c.assure.new.self s.lookups c.open_along.new.lookups c.args.self.now c.self.view_is path ok.0 (c.in_ok-check_names.ensures {u = tt}).accepted ok.1
-    (λ at. (c.in_ok-assure.ensures {u = tt}).ok at ∙ ap (λ null. assured_dirs path null (dirs_of c.open_along.new.self) at) c.null-null.ensures.value) ok.2
-    (still_assured path c.null-null.result c.open_along.new.self c.assure.new.self (recursion_from_All IsEntryName path (c.in_ok-check_names.ensures {u = tt}).accepted) (c.open_along.ensures.still_opened c.self.invariant) (c.in_ok-assure.ensures {u = tt}).ok) (names_of c.in_ok-prefix.prefix.items) (c.in_ok-prefix.ensures {u = tt}).copied
+    (λ at. (c.in_ok-assure.ensures {u = tt}).ok at ∙ ap (λ null. assured_dirs path null (dirs_of c.open_along.new.self) at) c.null-null.ensures.value) ok.2 c.self.invariant
+    c.open_along.ensures.bases (c.in_ok-assure.ensures {u = tt}).bases (names_of c.in_ok-prefix.prefix.items) (c.in_ok-prefix.ensures {u = tt}).copied

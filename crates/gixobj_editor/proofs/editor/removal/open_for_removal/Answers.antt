@@ -14,16 +14,14 @@ returns-in_err-open_along-clause-refused g c = err_weaker c.from_residual.result
     let Ends = EndsBefore c.args.unasked in
     let bad = (c.in_err-open_along.ensures {u = tt}).halted trees fits in
     let so = halted_removal (ends_idle c.args.unasked) (g.S.Store.objects c.args.store.now) (g.S.Store.may_fail c.args.store.now) trees (names_of c.args.path.now) (names_of c.judged.result.0.now) (names_of c.judged.result.1.now) c.judged.ensures
-    (dirs_of c.args.root.now) (dirs_of c.open_along.new.self) bad.0 bad.1 bad.2 c.in_err-open_along.field-0.0 bad.4 in
-    let told = subst (λ e. IsRefusedSo Ends (g.S.Store.objects c.args.store.now) (g.S.Store.may_fail c.args.store.now) trees (names_of c.args.path.now) (dirs_of c.args.root.now) (dirs_of c.open_along.new.self) bad.0 e) (sym is) so in
-    (told.0, told.1, bad.0, told.2, bad.3, told.3, told.4))
+    (dirs_of c.args.root.now) (dirs_of c.open_along.new.self) bad.0 bad.1 bad.2 c.in_err-open_along.field-0.0 bad.4 c.args.lookups.now c.open_along.new.lookups bad.3 in
+    subst (λ e. IsRefusedSo Ends (g.S.Store.objects c.args.store.now) (g.S.Store.may_fail c.args.store.now) trees (names_of c.args.path.now) (dirs_of c.args.root.now) (dirs_of c.open_along.new.self) c.args.lookups.now c.open_along.new.lookups e) (sym is) so)
 
 pub returns-clause-refused : goal.returns-clause-refused
 returns-clause-refused g c = MatchResult-weaker c.check_reached.result c.check_reached.ensures.refusal (λ _ u. u) (λ error bad trees fits.
     let ok = (c.in_ok-open_along.ensures {u = tt}).opened trees fits in
-    let so = name_refused_so (ends_idle c.args.unasked) (g.S.Store.objects c.args.store.now) (g.S.Store.may_fail c.args.store.now) trees (names_of c.args.path.now) (names_of c.judged.result.0.now) (names_of c.judged.result.1.now) c.judged.ensures
-    (dirs_of c.args.root.now) (dirs_of c.open_along.new.self) ok.0 ok.1 bad.0 bad.1 error bad.2 in
-    (so.0, so.1, ok.0, so.2, ok.2, so.3, so.4))
+    name_refused_so (ends_idle c.args.unasked) (g.S.Store.objects c.args.store.now) (g.S.Store.may_fail c.args.store.now) trees (names_of c.args.path.now) (names_of c.judged.result.0.now) (names_of c.judged.result.1.now) c.judged.ensures
+    (dirs_of c.args.root.now) (dirs_of c.open_along.new.self) ok.0 ok.1 bad.0 bad.1 error bad.2 c.args.lookups.now c.open_along.new.lookups ok.2)
 
 pub returns-clause-opened : goal.returns-clause-opened
 returns-clause-opened g c = MatchResult-weaker c.check_reached.result c.check_reached.ensures.accepted (λ _ came trees fits.

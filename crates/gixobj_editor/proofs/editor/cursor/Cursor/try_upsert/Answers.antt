@@ -10,7 +10,7 @@ use Rattle.gixobj_editor.proofs.CursorStays.{Stays, either_way, nothing_done, re
 use Rattle.gixobj_editor.proofs.editor.cursor.Cursor.try_upsert.Goals as goal
 
 pub returns-in_err-path-clause-refused : goal.returns-in_err-path-clause-refused
-returns-in_err-path-clause-refused g c = on_err c.from_residual.result _ (λ trees fits. nothing_done trees c.args.self.now.editor.now (from_root c.args.self.now.editor.now.prefix (names_of c.args.path.now)) c.path_from_root.ensures.is_opened)
+returns-in_err-path-clause-refused g c = on_err c.from_residual.result _ (λ trees fits. nothing_done trees c.args.self.now.editor.now (from_root c.args.self.now.editor.now.prefix (names_of c.args.path.now)) c.path_from_root.ensures.is_opened c.path_from_root.ensures.idle)
 
 pub invariant_of-self-2 : goal.invariant_of-self-2
 invariant_of-self-2 g c =

@@ -1,0 +1,29 @@
+-- The files of a root that is open alone.
+use Rattle.std.proofs.Common.{◌≡◌, ◌∙◌, ℕ, zero, suc, List, [], ◌∷◌, None, Some, subst, sym}
+use Rattle.std.specs.Cmp.Lexicographic.{lists_total, nat_list_cmp_total, slice_cmp}
+use Rattle.std.specs.FinMap as map
+use Rattle.std.specs.Ordering.{nat_cmp}
+use Rattle.std.specs.Prelude.{MatchOption, Option}
+use Rattle.gixobj_base.specs.Entries.{EntryView}
+use Rattle.gixobj_files.specs.Files.{Below, Files, Path, SameFiles, Table}
+use Rattle.gixobj_files.specs.Opening.{Dirs, HasAt, OpenFiles, in_dir}
+use Rattle.gixobj_files.specs.State.{root_alone}
+
+root_open : (entries : List EntryView) → map.get (root_alone entries) [] ≡ Some entries
+root_open entries = map.get-insert (lists_total nat_list_cmp_total) map.empty [] entries []
+
+root_shut : (entries : List EntryView) (name : List ℕ) (path : Path) → map.get (root_alone entries) (name ∷ path) ≡ None
+root_shut entries name path = map.get-insert (lists_total nat_list_cmp_total) map.empty [] entries (name ∷ path) ∙ map.get-empty (slice_cmp (slice_cmp nat_cmp)) (name ∷ path)
+
+alone : (T : Table) (n : ℕ) (dirs : Dirs) (entries : List EntryView) → dirs [] ≡ Some entries → ((name : List ℕ) → dirs (name ∷ []) ≡ None) → SameFiles (OpenFiles T n dirs) (Files T n entries)
+alone T zero dirs entries root shut path mode id = ((λ h. absurd h), λ h. absurd h)
+alone T (suc n) dirs entries root shut [] mode id = ((λ h. absurd h), λ h. absurd h)
+alone T (suc n) dirs entries root shut (name ∷ path) mode id =
+    let At : EntryView → Option (List EntryView) → Type 0 = λ e o. MatchOption o (Below T (Files T n) e.mode e.id path mode id) (λ _. OpenFiles T n (in_dir name dirs) path mode id) in (
+      (λ h. (h.0, subst (λ o. HasAt o h.0) root h.1, h.2, subst (At h.0) (shut name) h.3)),
+      λ h. (h.0, subst (λ o. HasAt o h.0) (sym root) h.1, h.2, subst (At h.0) (sym (shut name)) h.3),
+    )
+
+-- they are those of its tree
+pub root_files : (T : Table) (n : ℕ) (entries : List EntryView) → SameFiles (OpenFiles T n (λ path. map.get (root_alone entries) path)) (Files T n entries)
+root_files T n entries = alone T n (λ path. map.get (root_alone entries) path) entries (root_open entries) (λ name. root_shut entries name [])

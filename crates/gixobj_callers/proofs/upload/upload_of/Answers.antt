@@ -1,0 +1,17 @@
+-- What the write behind an upload tells of it.
+use Rattle.gixobj_callers.proofs.Uploaded.{divided}
+use Rattle.gixobj_callers.proofs.upload.upload_of.Goals as goal
+use Rattle.gixobj_files.specs.State.{open_bases, open_dirs}
+
+pub returns-clause-divided : goal.returns-clause-divided
+returns-clause-divided g c =
+    let wrote = (c.in_ok-written.ensures {u = tt}).written in
+    divided (open_dirs c.args.editor.now) (open_bases c.args.editor.now) c.in_ok-written.written.trees.items wrote.below c.in_ok-written.written.saved c.in_ok-written.written.id wrote.own wrote.handed_out wrote.last
+
+pub returns-clause-files : goal.returns-clause-files
+returns-clause-files g c = λ T n has. let wrote = (c.in_ok-written.ensures {u = tt}).written in wrote.files T n has.pairs has.bases
+
+pub returns-clause-enough : goal.returns-clause-enough
+returns-clause-enough g c = λ T n has lacks path mode id there.
+    let wrote = (c.in_ok-written.ensures {u = tt}).written in
+    lacks path mode id ((wrote.files T n has.pairs has.bases path mode id).0 there)

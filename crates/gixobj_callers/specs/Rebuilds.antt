@@ -1,0 +1,56 @@
+-- Scripts that are run on no files, and two of their writes that are compared.
+use Rattle.std.specs.Prelude.{◌≡◌, ◌≢◌, ◌⊎◌, ◌↔◌, ℕ, suc, Bool, IsTrue, List, [], None, Option, Some, max, take, ⊤}
+use Rattle.gixobj_base.specs.ids.hash.kind.Kind as hash
+use Rattle.gixobj_base.specs.ids.hash.object_id.ObjectId.{ObjectId}
+use Rattle.gixobj_callers.specs.Plans.{started}
+use Rattle.gixobj_callers.specs.declared.rebuilder.CompareError.{CompareError}
+use Rattle.gixobj_callers.specs.declared.rebuilder.CompareError.TheVariants as compare
+use Rattle.gixobj_commands.specs.declared.command.Command.{Command}
+use Rattle.gixobj_data.specs.Stores.{Objects}
+use Rattle.gixobj_directories.specs.declared.write.Written.{Written}
+use Rattle.gixobj_files.specs.Files.{SameFiles, Table}
+use Rattle.gixobj_files.specs.State.{State}
+use Rattle.gixobj_runs.specs.Commands.{written_at}
+use Rattle.gixobj_runs.specs.OneId.{IsPlainRun, files_before}
+use Rattle.gixobj_runs.specs.Replies.{Answers, IsRun, Meaning}
+use Rattle.gixobj_runs.specs.declared.reply.Reply.{Reply}
+
+-- the id that a write names
+abbrev pub id_named : Option Written → Option ObjectId
+id_named None = None
+id_named (Some written) = Some written.id
+
+-- a write of the root that the reply at this place tells of names this id
+abbrev pub Names : {E : Type 0} → List (Reply E) → ℕ → ObjectId → Type 0
+Names replies place id = (written : Written) × (written_at replies place ≡ Some written) × (written.id ≡ id)
+
+-- how many commands there are up to the later of two places
+abbrev pub up_to : ℕ → ℕ → ℕ
+up_to place other = suc (max place other)
+
+module _ {S E : Type 0} (means : Meaning S) (answers : Answers E) (store : S) (object_hash : hash.Kind) (commands : List Command) where
+  -- a new editor of the empty root replies so
+  abbrev pub AreReplies : List (Reply E) → Type 0
+  AreReplies replies = (left : State S) × IsRun means answers (started store object_hash []) commands replies left
+
+  -- at both places a write of the root came through, and it is told whether they name one id; where the run is plain up to the later
+  -- of them, so it is told whether their files are equal
+  pub record IsCompared (place other : ℕ) (same : Bool) : Type 0 where
+    pub replies : List (Reply E)
+    pub run : AreReplies replies
+    pub first : Written
+    pub second : Written
+    pub first_at : written_at replies place ≡ Some first
+    pub second_at : written_at replies other ≡ Some second
+    pub ids : IsTrue same ↔ (first.id ≡ second.id)
+    pub files : (T : Table) → IsPlainRun T (means.objects store) (started store object_hash []) (take (up_to place other) commands) (take (up_to place other) replies)
+        → IsTrue same ↔ SameFiles (files_before place commands replies) (files_before other commands replies)
+
+  -- the first of two places at which no write of the root came through
+  abbrev pub IsNoWrite : List (Reply E) → ℕ → ℕ → ℕ → Type 0
+  IsNoWrite replies place other at = (written_at replies at ≡ None) × ((at ≡ place) ⊎ ((at ≡ other) × (written_at replies place ≢ None)))
+
+  -- why two writes aren't compared: one of them isn't there, or there was no memory for the replies
+  abbrev pub RefusesComparison : ℕ → ℕ → CompareError → Type 0
+  RefusesComparison place other (compare.NoWrite at) = (replies : List (Reply E)) × AreReplies replies × IsNoWrite replies place other at
+  RefusesComparison place other compare.OutOfMemory = ⊤

@@ -1,0 +1,56 @@
+//! A planner of uploads, which tells what an editor's files need that isn't there yet.
+ghost use Rattle.std.specs.Prelude.{◌≡◌, Err, IfErr, IfOk, Ok, OnErr};
+ghost use Rattle.std.specs.Fn.{CalledAt};
+ghost use Rattle.gixobj_directories.specs.Calls.{IsCallableOnTrees};
+ghost use Rattle.gixobj_directories.specs.Handing.{Stopped};
+ghost use Rattle.gixobj_editor.specs.Writes.{IsWritten};
+ghost use Rattle.gixobj_files.specs.HandingOut.{HandsOutSome};
+ghost use Rattle.gixobj_files.specs.State.{open_bases, open_dirs};
+ghost use Rattle.gixobj_callers.specs.Uploads.{Divides, IsEnough, NamesItsFiles};
+
+use gixobj_base::Tree;
+use gixobj_base::hash::ObjectId;
+use gixobj_editor::editor::{Editor, WriteError};
+
+/// What has to be uploaded, for the files of an editor, to a store that has what the editor opened.
+#[derive(Debug, Drop)]
+pub struct Upload {
+    /// The id of the root.
+    pub id: ObjectId,
+    /// The trees, each with its id: those in a directory before the directory, and the root's own last.
+    pub trees: Vec<(ObjectId, Tree)>,
+    /// How many open directories below the root have entries and needn't be uploaded, since their trees are as they
+    /// were when they were opened. It stays at the greatest `usize`.
+    pub unchanged: usize,
+}
+
+/// What has to be uploaded for the files of an editor. `out` answers the id of each tree that goes out. The editor goes on
+/// with these files, and its root alone is open then.
+///
+/// `Out` where `out` refused a tree, `OutOfMemory` where memory was wanting, which is taken for what goes out. A refusal
+/// leaves the editor as it was, and what `out` was asked so far stands.
+pub fn upload_of<S, E, F: FnMut(&Tree) -> Result<ObjectId, E>>(
+    editor: &mut Editor<S>,
+    out: &mut F,
+) -> Result<Upload, WriteError<E>>
+    requires callable { IsCallableOnTrees F.pre
+        (λ f p g. CalledAt F.FnMut f p.1 (Ok p.0) g) out.old }
+    ensures divided { IfOk result (Divides editor.old) }
+    ensures files { IfOk result (NamesItsFiles editor.old) }
+    ensures enough { IfOk result (IsEnough editor.old) }
+    ensures done { IfOk result (λ it. IsWritten
+        (λ f p g. CalledAt F.FnMut f p.1 (Ok p.0) g) out.old
+        editor.old (record { id = it.id; trees = it.trees; saved = it.unchanged })
+        editor.new out.new) }
+    ensures refusal { IfErr result (Stopped (λ f p g. CalledAt F.FnMut f p.1 (Ok p.0) g)
+        (λ f t e g. CalledAt F.FnMut f t (Err e) g)
+        (HandsOutSome (open_dirs editor.old) (open_bases editor.old)) out.old out.new) }
+    ensures unchanged { OnErr result (editor.new ≡ editor.old) }
+{
+    let written = editor.try_write(out)?;
+    Ok(Upload {
+        id: written.id,
+        trees: written.trees,
+        unchanged: written.saved,
+    })
+}
