@@ -10,7 +10,6 @@ use Rattle.gixobj_callers.proofs.Histories.{history_append, same_history, same_r
 use Rattle.gixobj_commands.specs.declared.command.Edit.{Edit}
 use Rattle.gixobj_commands.specs.declared.command.Edit.TheVariants as edit
 use Rattle.gixobj_data.specs.Stores.{Objects}
-use Rattle.gixobj_directories.proofs.NamedTrees.{trees_of}
 use Rattle.gixobj_directories.specs.Openings.{AreTreesOf}
 use Rattle.gixobj_directories.specs.declared.write.Written.{Written}
 use Rattle.gixobj_files.specs.Bases.{HasBases}
@@ -36,7 +35,8 @@ pairs_last T pairs below pair is agrees =
     let Known : Pair → Type 0 = λ p. T.tree_at p.0 ≡ Some p.1 in
     All-contains Known (below ++ pair ∷ []) pair (subst (λ (ps : List Pair). AgreesWithPairs T ps) is agrees) (Contains-push below pair)
 
-module _ {S E : Type 0} (means : Meaning S) (answers : Answers E) where
+-- with the law that every store names trees
+module _ {S E : Type 0} (means : Meaning S) (answers : Answers E) (trees_of : (objects : Objects) → (trees : Trees) × AreTreesOf objects trees) where
   edit_stays : (old new : State S) (it : Edit) → IsEditReply means answers at_root old it edit_reply.Done new → new.store ≡ old.store
   edit_stays old new (edit.Upsert path kind id) done = let trees = trees_of (means.objects old.store) in ap (λ (s : State S). s.store) (done trees.0 trees.1).rest
   edit_stays old new (edit.Remove path) done = let trees = trees_of (means.objects old.store) in ap (λ (s : State S). s.store) (done trees.0 trees.1).rest

@@ -1,12 +1,10 @@
 -- A stored root, an editor of it, and the files of what is named once an entry was put in.
 use Rattle.std.proofs.Common.{◌≡◌, ◌≢◌, ◌⊎◌, ◌∙◌, ℕ, true, false, List, [], Some, ⊎_elim, ap, inl, inr, refl, subst, sym}
 use Rattle.std.specs.Prelude.{IsFalse, MatchOption, Option}
-use Rattle.std.specs.Cmp.Lexicographic.{bytes_decides}
 use Rattle.gixobj_base.specs.Entries.{EntryView}
 use Rattle.gixobj_base.specs.Hash.{id_kind, id_of}
 use Rattle.gixobj_base.specs.ids.hash.kind.Kind.{Kind}
 use Rattle.gixobj_base.specs.ids.hash.object_id.ObjectId.{ObjectId}
-use Rattle.gixobj_base.specs.ids.hash.object_id.ObjectId.TheVariants as id
 use Rattle.gixobj_base.specs.ids.kind.Kind.TheVariants.{Tree}
 use Rattle.gixobj_callers.proofs.Histories.{same_trans, same_upserted}
 use Rattle.gixobj_callers.specs.Plans.{IsNotPutIn, IsPutIn, IsRoot, started}
@@ -17,7 +15,6 @@ use Rattle.gixobj_editor.specs.Upserts.{IsUpserted, RefusesUpsert}
 use Rattle.gixobj_editor.specs.Writes.{IsWritten}
 use Rattle.gixobj_editor.specs.declared.editor.error.Error.{Error}
 use Rattle.gixobj_files.specs.Bases.{HasBases}
-use Rattle.gixobj_files.specs.Editing.{same_name}
 use Rattle.gixobj_files.specs.Files.{Files, NamedFiles, Path, SameFiles, Table, Trees, Upserted, is_null}
 use Rattle.gixobj_files.specs.State.{EditorFiles, State, open_bases, open_dirs, root_alone}
 use Rattle.gixobj_files.specs.Tables.{AgreesWithPairs, AgreesWithStore, Pair}
@@ -25,26 +22,13 @@ use Rattle.gixobj_lookups.specs.Existing.{IsEmptyId}
 use Rattle.gixobj_runs.specs.Replies.{Meaning}
 use Rattle.gixobj_runs.specs.RunTables.{OfTrees}
 
--- two ids are the same, or not
-same_bytes : (xs ys : List ℕ) → (xs ≡ ys) ⊎ (xs ≢ ys)
-same_bytes xs ys = elim (same_name xs ys) as (λ b. same_name xs ys ≡ b → (xs ≡ ys) ⊎ (xs ≢ ys)) [
-  | true ↦ λ passes. inl ((bytes_decides xs ys).0 passes)
-  | false ↦ λ fails. inr (λ same. cc ((bytes_decides xs ys).1 same, fails))
-] refl
-
-same_ids : (x y : ObjectId) → (x ≡ y) ⊎ (x ≢ y)
-same_ids (id.Sha1 xs) (id.Sha1 ys) = ⊎_elim (λ same. inl (ap id.Sha1 same)) (λ other. inr (λ same. other (cc same))) (same_bytes xs ys)
-same_ids (id.Sha1 xs) (id.Sha256 ys) = inr (λ same. cc same)
-same_ids (id.Sha256 xs) (id.Sha1 ys) = inr (λ same. cc same)
-same_ids (id.Sha256 xs) (id.Sha256 ys) = ⊎_elim (λ same. inl (ap id.Sha256 same)) (λ other. inr (λ same. other (cc same))) (same_bytes xs ys)
-
 -- an editor with these parts is a new one
 pub is_started : {S : Type 0} (state : State S) (store : S) (object_hash : Kind) (entries : List EntryView) → state.dirs ≡ root_alone entries → state.bases ≡ root_alone [] → state.store ≡ store → state.lookups ≡ 0
     → state.object_hash ≡ object_hash → state.prefix ≡ [] → state ≡ started store object_hash entries
 is_started state store object_hash entries root bare same_store none same_kind no_prefix i = record { dirs = root i; bases = bare i; store = same_store i; lookups = none i; object_hash = same_kind i; prefix = no_prefix i }
 
--- a table that agrees with the store has the root by its id, where that isn't null
-module _ (T : Table) (objects : Objects) (trees : Trees) (it : ObjectId) (entries : List EntryView) (filled : IsFalse (is_null it)) (fits : AreTreesOf objects trees) (agrees : AgreesWithStore T trees) (is : IsRoot objects it entries) where
+-- by the law that ids are the same or not, a table that agrees with the store has the root by its id, where that isn't null
+module _ (same_or_not : (x y : ObjectId) → (x ≡ y) ⊎ (x ≢ y)) (T : Table) (objects : Objects) (trees : Trees) (it : ObjectId) (entries : List EntryView) (filled : IsFalse (is_null it)) (fits : AreTreesOf objects trees) (agrees : AgreesWithStore T trees) (is : IsRoot objects it entries) where
   empty_root : IsEmptyId Tree it → T.tree_at it ≡ Some entries
   empty_root same = ap T.tree_at same ∙ T.none_in_empty (id_kind it) ∙ ap Some (sym (is.empty same))
 
@@ -52,7 +36,7 @@ module _ (T : Table) (objects : Objects) (trees : Trees) (it : ObjectId) (entrie
   stored_root other = agrees it entries (⊎_elim (λ null. cc (null, filled)) other) ((fits it entries).1 (is.stored other))
 
   root_there : T.tree_at it ≡ Some entries
-  root_there = ⊎_elim empty_root stored_root (same_ids it (id_of (id_kind it) Tree []))
+  root_there = ⊎_elim empty_root stored_root (same_or_not it (id_of (id_kind it) Tree []))
 
   root_named : (n : ℕ) → SameFiles (Files T n entries) (NamedFiles T n it)
   root_named n path mode id =
@@ -81,12 +65,12 @@ module _ {S : Type 0} (means : Meaning S) (store : S) (root_id : ObjectId) (path
   -- the tree that is named has the files that the edit makes of the root's
   module _ (editor : State S) (entries : List EntryView) (is_root : IsRoot (means.objects store) root_id entries) (new : editor ≡ started store (id_kind root_id) entries)
       (bases : (T : Table) → HasBases T (open_dirs editor) (open_bases editor)) (begun : (T : Table) (n : ℕ) → SameFiles (EditorFiles T n editor) (Files T n entries)) where
-    pub planned_files : {F : Type 0} (gave : F → Pair → F → Type 0) (out last : F) (edited left : State S) (written : Written) → OfTrees (means.objects editor.store) (λ trees. IsUpserted trees editor path mode id edited)
+    pub planned_files : ((x y : ObjectId) → (x ≡ y) ⊎ (x ≢ y)) → {F : Type 0} (gave : F → Pair → F → Type 0) (out last : F) (edited left : State S) (written : Written) → OfTrees (means.objects editor.store) (λ trees. IsUpserted trees editor path mode id edited)
         → IsWritten gave out edited written left last
         → IsFalse (is_null root_id) → (trees : Trees) → AreTreesOf (means.objects store) trees → (T : Table) (n : ℕ) → AgreesWithStore T trees → AgreesWithPairs T written.trees.items
         → SameFiles (NamedFiles T n written.id) (Upserted T n path mode id (NamedFiles T n root_id))
-    planned_files gave out last edited left written put wrote filled trees fits T n agrees pairs =
+    planned_files same_or_not gave out last edited left written put wrote filled trees fits T n agrees pairs =
         let done = put trees (subst (λ (it : S). AreTreesOf (means.objects it) trees) (sym (ap (λ (state : State S). state.store) new)) fits) in
-        let root : SameFiles (EditorFiles T n editor) (NamedFiles T n root_id) = same_trans _ _ _ (begun T n) (root_named T (means.objects store) trees root_id entries filled fits agrees is_root n) in
+        let root : SameFiles (EditorFiles T n editor) (NamedFiles T n root_id) = same_trans _ _ _ (begun T n) (root_named same_or_not T (means.objects store) trees root_id entries filled fits agrees is_root n) in
         same_trans _ _ _ (wrote.files T n pairs (done.has_bases T agrees (bases T)))
         (same_trans _ _ _ (done.files T n agrees) (same_upserted T n path mode id (EditorFiles T n editor) (NamedFiles T n root_id) root))

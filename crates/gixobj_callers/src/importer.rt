@@ -20,6 +20,7 @@ use gixobj_base::hash::{Kind, ObjectId};
 use gixobj_base::{OutOfMemory, Tree, WriteTo};
 use gixobj_codec::CommitRef;
 use gixobj_codec::laws::{commit_has_one_reading, owned_forms_have_the_parts};
+use gixobj_directories::laws::every_store_names_trees;
 use gixobj_editor::editor::{Editor, Error, WriteError, Written};
 use gixobj_keeping::{Keep, KeepError};
 use gixobj_runs::{Command, Edit, EditReply, Reply, run};
@@ -93,6 +94,7 @@ pub fn import_files<S: Keep, E: Drop, F: Fn(&Tree) -> Result<ObjectId, E> + Drop
     ensures fails { IfErr result (λ error. FailsImport (record { objects = S.objects; may_fail = S.may_fail }) (λ tree answer. FnReturnsAt F.Fn out tree answer) editor.old edits.items error editor.new) }
     ensures holds_write { (result ≡ Err ImportError.HoldsWrite) ↔ Contains edits.items Edit.Write }
 {
+    every_store_names_trees();
     if hold_a_write(&edits) {
         return Err(ImportError::HoldsWrite);
     }

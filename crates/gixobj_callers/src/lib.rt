@@ -1,6 +1,6 @@
-//! Callers of the public calls, each proved on their contracts alone: what a store of objects, a walker
-//! of commits, a planner of checkouts, an auditor and a publisher of releases, a verifier of tags, a reader and an
-//! importer of history, and who writes a store of objects, can rely on.
+//! Callers of the public calls, each proved on their contracts and laws alone: what a store of objects, a walker of
+//! commits, a planner of checkouts and of uploads, an auditor and a publisher of releases, a verifier of tags, a reader
+//! and an importer of history, a rebuilder of trees, and who writes a store of objects, can rely on.
 #![tactic(auto)]
 
 pub mod auditor;

@@ -19,8 +19,8 @@ use gixobj_base::laws::writers_fail_as_their_sinks;
 use gixobj_base::tree::EntryKind;
 use gixobj_base::{Tree, WriteTo};
 use gixobj_codec::laws::{
-    entries_are_passed, tree_has_one_reading, tree_readers_read_one_language, tree_reads_back,
-    tree_writes_back,
+    entries_are_passed, ids_are_the_same_or_not, tree_has_one_reading,
+    tree_readers_read_one_language, tree_reads_back, tree_writes_back,
 };
 use gixobj_codec::{TreeRef, TreeRefIter};
 use gixobj_data::Find;
@@ -140,6 +140,7 @@ pub fn with_entry_in_stored<S: Find + Drop, E: Drop, F: FnMut(&Tree) -> Result<O
     ensures done { IfOk result (IsPlanned (record { objects = S.objects; may_fail = S.may_fail }) store root (names_of path.now) (mode_of_kind kind) id (λ f p g. CalledAt F.FnMut f p.1 (Ok p.0) g) out) }
     ensures refusal { IfErr result (RefusesPlan (record { objects = S.objects; may_fail = S.may_fail }) store root (names_of path.now) (mode_of_kind kind) id (λ f p g. CalledAt F.FnMut f p.1 (Ok p.0) g) (λ f t e g. CalledAt F.FnMut f t (Err e) g) out) }
 {
+    ids_are_the_same_or_not();
     let tree = match root_in(alloc, &store, root) {
         Ok(tree) => tree,
         Err(error) => return Err(PlanError::Root(error)),

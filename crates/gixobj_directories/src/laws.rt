@@ -10,11 +10,10 @@ ghost use Rattle.gixobj_ids.specs.declared.hash.kind.Kind.{Kind};
 ghost use Rattle.gixobj_tree_readers.specs.TreeReading.{IsTreeText};
 ghost use Rattle.gixobj_trees.specs.Entries.{EntryView};
 
-use gixobj_data::Find;
-
-/// Every store has the trees that it names, so what is said for all trees that are the store's is said of some.
-pub fn every_store_names_trees<S: Find>(store: &S)
-    ensures { (trees : Trees) × AreTreesOf (S.objects store.now) trees }
+/// Whatever a store means, it has the trees that it names: so what is said for all trees that are the store's is said
+/// of some.
+pub fn every_store_names_trees()
+    ensures { (objects : Objects) → (trees : Trees) × AreTreesOf objects trees }
 {}
 
 /// What a lookup by a path comes to through directories of the store, where it is a file, is a file of the tree that it

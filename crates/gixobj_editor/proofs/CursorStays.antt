@@ -79,6 +79,7 @@ nothing_done trees old path all idle = record {
   stays = λ at entries is. is;
   vain = [];
   one = omega arith;
+  next = λ it is. absurd (cc is);
   few = omega arith;
   lookups = refl;
   rest = refl;

@@ -12,7 +12,7 @@ use Rattle.gixobj_ids.specs.declared.hash.object_id.ObjectId.{ObjectId}
 use Rattle.gixobj_data.specs.Stores.{Objects}
 use Rattle.gixobj_files.specs.Edits.{IsNoTree, Opens, arrived, counted, upserted_dirs, raised}
 use Rattle.gixobj_files.specs.Files.{Path, SameFiles, Trees, Upserted}
-use Rattle.gixobj_files.specs.Halting.{Halts, IsUnopenedAbove}
+use Rattle.gixobj_files.specs.Halting.{Halts, IsNextUnopened, IsUnopenedAbove}
 use Rattle.gixobj_files.specs.Opening.{Dirs, IsOpened, OpenFiles}
 use Rattle.gixobj_files.specs.State.{DirMap, EditorFiles, State, open_bases, open_dirs}
 use Rattle.gixobj_files.specs.Unopened.{is_unopened, told_entry, unopened_count}
@@ -237,6 +237,7 @@ module _ {S : Type 0} (store : S) (hash : Kind) (prefix : Path) (trees : Trees) 
         stays = opening_keeps trees so.front (map_dirs ds) (map_dirs ds') so.asked opened;
         vain = so.vain;
         one = so.one;
+        next = λ it is. subst (λ (d : Dirs). IsNextUnopened trees d so.front so.more it) (sym (same_dirs ds)) (so.next it is);
         lookups = so.lookups ∙ counted_raised n (so.asked ++ so.vain);
         few = subst (λ (d : Dirs). length (so.asked ++ so.vain) ≤ unopened_count trees d path) (sym (same_dirs ds)) so.few;
         rest = refl;

@@ -4,12 +4,16 @@ use Rattle.gixobj_trees.specs.Entries.{EntryView}
 use Rattle.gixobj_ids.specs.declared.hash.object_id.ObjectId.{ObjectId}
 use Rattle.gixobj_files.specs.Edits.{Opens, arrived, counted}
 use Rattle.gixobj_files.specs.Files.{Path, Trees}
-use Rattle.gixobj_files.specs.Halting.{Halts}
+use Rattle.gixobj_files.specs.Halting.{Halts, IsNextUnopened}
 use Rattle.gixobj_files.specs.Opening.{Dirs}
 use Rattle.gixobj_files.specs.Unopened.{unopened_count}
 use Rattle.gixobj_files.proofs.Halted.{halted_count, halts_opens}
 use Rattle.gixobj_files.proofs.UnopenedCounts.{opens_at_most}
 use Rattle.gixobj_editor.specs.Upserts.{IsOpenedInPart}
+
+-- what is next on the way is next on each path that goes on
+next_behind : (trees : Trees) (dirs : Dirs) (front more behind : Path) (it : ObjectId) → IsNextUnopened trees dirs front more it → IsNextUnopened trees dirs front (more ++ behind) it
+next_behind trees dirs front more behind it (name, rest, e, is, unopened, told, named) = (name, rest ++ behind, e, ap (λ p. p ++ behind) is, unopened, told, named)
 
 module _ {Ends : EntryView → Type 0} (trees : Trees) where
   -- nothing was opened
@@ -22,6 +26,7 @@ module _ {Ends : EntryView → Type 0} (trees : Trees) where
     opens = arrived dirs;
     vain = [];
     one = omega arith;
+    next = λ it is. absurd (cc is);
     lookups = refl;
     few = omega arith;
   }
@@ -37,6 +42,7 @@ module _ {Ends : EntryView → Type 0} (trees : Trees) where
     opens = opens;
     vain = [];
     one = omega arith;
+    next = λ it is. absurd (cc is);
     lookups = count ∙ ap (counted n) (sym (append-nil asked));
     few = subst (λ ids. length ids ≤ unopened_count trees old path) (sym (append-nil asked)) few;
   }
@@ -60,6 +66,7 @@ module _ {Ends : EntryView → Type 0} (trees : Trees) where
         opens = came.5;
         vain = came.3;
         one = came.7;
+        next = λ it is. next_behind trees old came.0 came.1 (last ∷ behind) it (came.8 it is);
         lookups = count ∙ ap (counted n) came.6;
         few = subst (λ ids. length ids ≤ unopened_count trees old path) came.6
             (subst (λ p. length asked ≤ unopened_count trees old p) (sym is) (halted_count trees front last behind old new asked vain halts));

@@ -9,7 +9,7 @@ use Rattle.gixobj_directories.specs.declared.opening.Error as directory
 use Rattle.gixobj_directories.specs.declared.opening.Error.TheVariants as opening
 use Rattle.gixobj_files.specs.Edits.{IsNoTree, Opens, counted, raised, upserted_dirs}
 use Rattle.gixobj_files.specs.Files.{Path, SameFiles, Table, Trees, Upserted}
-use Rattle.gixobj_files.specs.Halting.{IsUnopenedAbove}
+use Rattle.gixobj_files.specs.Halting.{IsNextUnopened, IsUnopenedAbove}
 use Rattle.gixobj_files.specs.Opening.{Dirs, IsOpened}
 use Rattle.gixobj_files.specs.State.{EditorFiles, State, open_bases, open_dirs}
 use Rattle.gixobj_files.specs.Tables.{AgreesWithStore}
@@ -97,7 +97,8 @@ pub record IsUpserted {S : Type 0} (trees : Trees) (old : State S) (path : Path)
   -- the bases are as they are named by their ids, in every table in which they were
   pub has_bases : (T : Table) → AgreesWithStore T trees → HasBases T (open_dirs old) (open_bases old) → HasBases T (open_dirs new) (open_bases new)
 
--- the directories on a path were opened in part: those on a front of it, and no other; one more at most was asked for, in vain
+-- the directories on a path were opened in part: those on a front of it, and no other; the next one at most was
+-- asked for, in vain
 pub record IsOpenedInPart (Ends : EntryView → Type 0) (trees : Trees) (path : Path) (old new : Dirs) (before after : ℕ) : Type 0 where
   pub front : Path
   pub more : Path
@@ -106,10 +107,11 @@ pub record IsOpenedInPart (Ends : EntryView → Type 0) (trees : Trees) (path : 
   pub opens : Opens Ends trees front old new asked
   pub vain : List ObjectId
   pub one : length vain ≤ 1
+  pub next : (it : ObjectId) → vain ≡ it ∷ [] → IsNextUnopened trees old front more it
   pub lookups : after ≡ counted before (asked ++ vain)
   pub few : length (asked ++ vain) ≤ unopened_count trees old path
 
--- a refused edit: the directories on a front of the path were opened, and no other; one more at most was asked for, in vain. What was
+-- a refused edit: the directories on a front of the path were opened, and no other; the next one at most was asked for, in vain. What was
 -- open stays open, with its list. Each question is counted, and there are no more than unopened directories above the path. The files
 -- and all else stay
 pub record IsRefused {S : Type 0} (trees : Trees) (old : State S) (path : Path) (new : State S) : Type 0 where
@@ -123,6 +125,7 @@ pub record IsRefused {S : Type 0} (trees : Trees) (old : State S) (path : Path) 
   pub stays : (at : Path) (entries : List EntryView) → open_dirs old at ≡ Some entries → open_dirs new at ≡ Some entries
   pub vain : List ObjectId
   pub one : length vain ≤ 1
+  pub next : (it : ObjectId) → vain ≡ it ∷ [] → IsNextUnopened trees (open_dirs old) front more it
   pub lookups : new.lookups ≡ raised old.lookups (length (asked ++ vain))
   pub few : length (asked ++ vain) ≤ unopened_count trees (open_dirs old) path
   pub rest : new ≡ record old { dirs = new.dirs; bases = new.bases; lookups = new.lookups }

@@ -6,24 +6,85 @@ use Rattle.gixobj_trees.specs.Mode.{is_tree_mode}
 use Rattle.gixobj_ids.specs.declared.hash.object_id.ObjectId.{ObjectId}
 use Rattle.gixobj_files.specs.Edits.{Finds, IsEntryOf, Opens, arrived, down, entry_of, found, only, stops}
 use Rattle.gixobj_files.specs.Files.{Path, Trees}
-use Rattle.gixobj_files.specs.Halting.{Halts, IsAbove, IsShutAbove, IsUnopenedAbove, at_once, in_vain}
+use Rattle.gixobj_files.specs.Halting.{Halts, IsAbove, IsNextUnopened, IsShutAbove, IsUnopenedAbove, at_once, in_vain}
 use Rattle.gixobj_files.specs.Halting as halting
 use Rattle.gixobj_files.specs.Opening.{Dirs, in_dir}
 use Rattle.gixobj_files.specs.Unopened.{is_shut, is_sought, is_sought_tree, is_unopened, told_entry, unopened_count}
 use Rattle.gixobj_files.proofs.UnopenedCounts.{IsIdle, count_found, count_open, count_vain, found_below, sought, the_entry, told_open, unopened_found, unopened_here, unopened_nowhere, unopened_open, unsought}
 
 module _ (trees : Trees) where
-  -- up to the halt the directories of a front of the path were opened
+  -- a name is left behind each directory on the way
+  one_more : (rest : Path) (last : List ℕ) (behind : Path) → (next : List ℕ) × (more : Path) × (rest ++ last ∷ behind ≡ next ∷ more)
+  one_more [] last behind = (last, behind, refl)
+  one_more (next ∷ rest) last behind = (next, rest ++ last ∷ behind, refl)
+
+  -- what is next in an open directory, or in one that is opened, is next behind its name
+  next_open : (name : List ℕ) (d : Dirs) (entries : List EntryView) → d (name ∷ []) ≡ Some entries → (front more : Path) (id : ObjectId)
+      → IsNextUnopened trees (in_dir name d) front more id → IsNextUnopened trees d (name ∷ front) more id
+  next_open name d entries there front more id (next, rest, e, is, unopened, told, named) =
+      let left = one_more front next [] in (
+        next,
+        rest,
+        e,
+        is,
+        subst (λ q. is_unopened trees d (name ∷ q) ≡ true) (sym left.2) (unopened_open trees name left.0 left.1 d entries there ∙ subst (λ q. is_unopened trees (in_dir name d) q ≡ true) left.2 unopened),
+        subst (λ q. told_entry trees (name ∷ q) d ≡ Some e) (sym left.2) (told_open trees name left.0 left.1 d entries there ∙ subst (λ q. told_entry trees q (in_dir name d) ≡ Some e) left.2 told),
+        named,
+      )
+
+  next_found : (name : List ℕ) (d : Dirs) (e : EntryView) (entries : List EntryView) (asks : List ObjectId) → IsEntryOf name (d []) e → is_tree_mode e.mode ≡ true → ((path : Path) → d (name ∷ path) ≡ None) → Finds trees e.id entries asks
+      → (front more : Path) (id : ObjectId) → IsNextUnopened trees (only entries) front more id → IsNextUnopened trees d (name ∷ front) more id
+  next_found name d e entries asks entry tree none finds front more id (next, rest, it, is, unopened, told, named) =
+      let left = one_more front next [] in (
+        next,
+        rest,
+        it,
+        is,
+        subst (λ q. is_unopened trees d (name ∷ q) ≡ true) (sym left.2) (unopened_found trees name left.0 left.1 d e entries asks entry tree none finds ∙ subst (λ q. is_unopened trees (only entries) q ≡ true) left.2 unopened),
+        subst (λ q. told_entry trees (name ∷ q) d ≡ Some it) (sym left.2) (found_below trees name left.0 left.1 d e entries asks entry tree (none []) finds ∙ subst (λ q. told_entry trees q (only entries) ≡ Some it) left.2 told),
+        named,
+      )
+
+  -- up to the halt the directories of a front of the path were opened; what was asked for in vain is the next one
   pub halts_opens : {Ends : EntryView → Type 0} (path : Path) (old new : Dirs) (asked : List ObjectId) (vain : Option ObjectId) → Halts Ends trees path old new asked vain
       → (front back : Path) × (answered tried : List ObjectId) × (path ≡ front ++ back) × Opens Ends trees front old new answered × (asked ≡ answered ++ tried) × (length tried ≤ 1)
-  halts_opens path old new asked vain (at_once name rest d e entry tree free none) = ([], name ∷ rest, [], [], refl, arrived d, refl, omega arith)
-  halts_opens path old new asked vain (in_vain name rest d e entry tree free none filled) = ([], name ∷ rest, [], e.id ∷ [], refl, arrived d, refl, omega arith)
+      × ((it : ObjectId) → tried ≡ it ∷ [] → IsNextUnopened trees old front back it)
+  halts_opens path old new asked vain (at_once name rest d e entry tree free none) = ([], name ∷ rest, [], [], refl, arrived d, refl, omega arith, λ it is. absurd (cc is))
+  halts_opens path old new asked vain (in_vain name rest d e entry tree free none filled) = (
+    [],
+    name ∷ rest,
+    [],
+    e.id ∷ [],
+    refl,
+    arrived d,
+    refl,
+    omega arith,
+    λ it is. (name, rest, e, refl, unopened_here trees name d e entry tree (none []) ∙ sought e.id filled, the_entry name (d []) e entry, cc is),
+  )
   halts_opens path old new asked vain (halting.down name rest d inner e entries more v has named is halts) =
-      let r = halts_opens rest (in_dir name d) inner more v halts in
-      (name ∷ r.0, r.1, r.2, r.3, ap (λ p. name ∷ p) r.4, down name r.0 d inner e entries r.2 has named is r.5, r.6, r.7)
+      let r = halts_opens rest (in_dir name d) inner more v halts in (
+        name ∷ r.0,
+        r.1,
+        r.2,
+        r.3,
+        ap (λ p. name ∷ p) r.4,
+        down name r.0 d inner e entries r.2 has named is r.5,
+        r.6,
+        r.7,
+        λ it tried. next_open name d entries is r.0 r.1 it (r.8 it tried),
+      )
   halts_opens path old new asked vain (halting.found name rest d inner e entries first more v entry tree free none finds halts) =
-      let r = halts_opens rest (only entries) inner more v halts in
-      (name ∷ r.0, r.1, first ++ r.2, r.3, ap (λ p. name ∷ p) r.4, found name r.0 d inner e entries first r.2 entry tree free none finds r.5, ap (λ ids. first ++ ids) r.6 ∙ sym (append_assoc first r.2 r.3), r.7)
+      let r = halts_opens rest (only entries) inner more v halts in (
+        name ∷ r.0,
+        r.1,
+        first ++ r.2,
+        r.3,
+        ap (λ p. name ∷ p) r.4,
+        found name r.0 d inner e entries first r.2 entry tree free none finds r.5,
+        ap (λ ids. first ++ ids) r.6 ∙ sym (append_assoc first r.2 r.3),
+        r.7,
+        λ it tried. next_found name d e entries first entry tree none finds r.0 r.1 it (r.8 it tried),
+      )
 
   -- no more ids were asked for than directories are unopened
   pub halted_count : {Ends : EntryView → Type 0} (path : Path) (last : List ℕ) (behind : Path) (old new : Dirs) (asked : List ObjectId) (vain : Option ObjectId) → Halts Ends trees path old new asked vain → length asked ≤ unopened_count trees old (path ++ last ∷ behind)
@@ -33,11 +94,6 @@ module _ (trees : Trees) where
       omega (arith, count_open trees name rest last behind d entries is, halted_count rest last behind (in_dir name d) inner more v halts)
   halted_count path last behind old new asked vain (halting.found name rest d inner e entries first more v entry tree free none finds halts) =
       omega (arith, length-append first more, count_found trees name rest last behind d e entries first entry tree none finds, halted_count rest last behind (only entries) inner more v halts)
-
-  -- a name is left behind each directory on the way
-  one_more : (rest : Path) (last : List ℕ) (behind : Path) → (next : List ℕ) × (more : Path) × (rest ++ last ∷ behind ≡ next ∷ more)
-  one_more [] last behind = (last, behind, refl)
-  one_more (next ∷ rest) last behind = (next, rest ++ last ∷ behind, refl)
 
   above_more : (name : List ℕ) (place path : Path) → IsAbove place path → IsAbove (name ∷ place) (name ∷ path)
   above_more name place path (first, more, next, rest, is, joined) = (name, place, next, rest, refl, ap (λ p. name ∷ p) joined)

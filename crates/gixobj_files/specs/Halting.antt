@@ -33,6 +33,12 @@ pub record IsUnopenedAbove (trees : Trees) (dirs : Dirs) (path : Path) (id : Obj
   pub told : told_entry trees place dirs ≡ Some entry
   pub named : entry.id ≡ id
 
+-- the next directory on a path, behind this front, isn't open, and its entry has the id
+abbrev pub IsNextUnopened : Trees → Dirs → Path → Path → ObjectId → Type 0
+IsNextUnopened trees dirs front more id =
+    (name : List ℕ) × (rest : Path) × (e : EntryView) × (more ≡ name ∷ rest) × (is_unopened trees dirs (front ++ name ∷ []) ≡ true)
+    × (told_entry trees (front ++ name ∷ []) dirs ≡ Some e) × (e.id ≡ id)
+
 -- the opening of a path comes to the directory at this place: the root, an open one, or one whose entry the opening doesn't end before
 -- and whose tree is known
 abbrev pub ComesTo : (EntryView → Type 0) → Trees → Dirs → Path → Type 0

@@ -21,7 +21,7 @@ returns-in-Ok-write-clause-files g c =
     let begun = is_started c.new-editor.result c.args.store (id_kind c.args.root) c.in-Ok.tree new.dirs new.bases new.store new.lookups (new.object_hash ∙ c.kind.ensures) new.prefix in
     let (last, wrote) = (c.in-Ok-write.ensures {u = tt}).written in
     planned_files means c.args.store c.args.root (names_of c.args.path.now) (mode_of_kind c.args.kind) c.args.id c.new-editor.result c.in-Ok.tree (c.in-Ok.ensures {u = tt}).found begun new.has_bases new.files
-    _ c.args.out last c.try_upsert.new.self c.write.new.self c.in-Ok-write.written (c.in_default.ensures {u = tt}).upserted wrote
+    c.ids_are_the_same_or_not.ensures _ c.args.out last c.try_upsert.new.self c.write.new.self c.in-Ok-write.written (c.in_default.ensures {u = tt}).upserted wrote
 
 pub returns-in-Ok-write-clause-done : goal.returns-in-Ok-write-clause-done
 returns-in-Ok-write-clause-done g c =

@@ -2,4 +2,4 @@ use Rattle.gixobj_directories.proofs.NamedTrees.{trees_of}
 use Rattle.gixobj_directories.proofs.laws.every_store_names_trees.Goals as goal
 
 pub returns : goal.returns
-returns g c = trees_of (g.S.Store.objects c.args.store.now)
+returns c = trees_of
