@@ -6,8 +6,8 @@ use gixobj_actors::actor::Signature;
 use gixobj_actors::date::Time;
 use gixobj_actors::encode::{size_with_signature, trusted_header_signature};
 use gixobj_fields::encode::{
-    Error, header_field, header_field_multi_line, size_with_field, size_with_id,
-    size_with_multi_line, trusted_header_field, trusted_header_id,
+    Error, header_field, header_field_multi_line, size_with_field, size_with_hex, size_with_id,
+    size_with_multi_line, trusted_header_field, trusted_header_hex, trusted_header_id,
 };
 use gixobj_fields::streams::put_parts;
 use gixobj_ids::hash::{Kind, ObjectId};
@@ -35,6 +35,16 @@ fn fields_of_ids(rt: HostRuntime) -> Result<(), Fail> {
     trusted_header_id(b"tree", &id, &mut out)?;
     assert!(rt; out.as_slice() == b"tree 4b825dc642cb6eb9a060e54bf8d69288fbee4904\n".as_slice());
     assert!(rt; size_with_id(0, b"tree", &id) == Some(46));
+    Ok(())
+}
+
+#[test]
+fn fields_of_hex_texts(rt: HostRuntime) -> Result<(), Fail> {
+    let mut out = Vec::new(rt.alloc());
+    let hex = b"4B825DC642cb6eb9a060e54bf8d69288FBEE4904";
+    trusted_header_hex(b"tree", hex, &mut out)?;
+    assert!(rt; out.as_slice() == b"tree 4b825dc642cb6eb9a060e54bf8d69288fbee4904\n".as_slice());
+    assert!(rt; size_with_hex(0, b"tree", hex) == Some(46));
     Ok(())
 }
 

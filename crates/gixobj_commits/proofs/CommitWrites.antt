@@ -22,7 +22,7 @@ use Rattle.gixobj_fields.proofs.Steps.{IsInParts, in_parts}
 use Rattle.gixobj_lines.specs.Commit.{before_encoding, encoding_text, ids_text, parent_text}
 use Rattle.gixobj_commits.specs.CommitViews.{commit_lines, owned_lines}
 use Rattle.gixobj_texts.specs.Optional.{bytes_if_some, owned_bytes_if_some}
-use Rattle.gixobj_commits.specs.CommitWriting.{RefusesEncoding, RefusesLines, RefusesOwned, commit_text, in_lower_case, RefusesEncodingLine}
+use Rattle.gixobj_commits.specs.CommitWriting.{RefusesEncoding, RefusesLines, RefusesOwned, commit_text, hex_parent, in_lower_case, RefusesEncodingLine}
 use Rattle.gixobj_fields.specs.FieldWriting.{header_text}
 use Rattle.gixobj_commits.specs.declared.commit.Commit.{Commit}
 use Rattle.gixobj_commits.specs.declared.commit.CommitRef.{CommitRef}
@@ -39,10 +39,6 @@ ids_put tree text parents = field_text (codes "tree") (hex_text tree) ++ flat_ma
 -- what stands behind the committer, as it is put
 abbrev pub rest_put : {X : Type 0} → Option BStr → (X → List ℕ) → List X → List ℕ → List ℕ
 rest_put encoding text headers message = encoding_text (bytes_if_some encoding) ++ flat_map text headers ++ 10 ∷ message
-
--- a parent by the hex text of its id, as it is put
-abbrev pub hex_parent : BStr → List ℕ
-hex_parent hex = parent_text (str_to_ascii_lowercase (bstr_bytes hex))
 
 abbrev pub owned_parent : ObjectId → List ℕ
 owned_parent id = parent_text (hex_text id)

@@ -1,3 +1,4 @@
 mod CommitWrites
+mod HexFields
 mod WritingBack
 mod WrittenBack

@@ -2,12 +2,15 @@
 use Rattle.std.specs.Prelude.{◌≡◌, ◌⊎◌, ℕ, List, [], ◌∷◌, ◌++◌, All, Option, Some, None, codes, map}
 use Rattle.std.specs.List.{flat_map}
 use Rattle.std.specs.Str.{str_to_ascii_lowercase}
+use Rattle.bstr.specs.BStr.{bstr_bytes}
+use Rattle.bstr.specs.declared.bstr.BStr.{BStr}
 use Rattle.gixobj_actors.specs.ActorWriting.{IsLegal}
-use Rattle.gixobj_ids.specs.Hash.{IsHexOfAnId}
+use Rattle.gixobj_ids.specs.Hash.{IsHexOfAnId, hex_text}
+use Rattle.gixobj_ids.specs.Hash.Hex.{spelled_id}
 use Rattle.gixobj_fields.specs.FieldWriting.{RefusesValue, header_text}
 use Rattle.gixobj_fields.specs.HeaderText.{field_text}
 use Rattle.gixobj_fields.specs.Writing.{Refused, illegal_actor}
-use Rattle.gixobj_lines.specs.Commit.{CommitLines, before_encoding, encoding_text, ids_text}
+use Rattle.gixobj_lines.specs.Commit.{CommitLines, before_encoding, encoding_text, ids_text, parent_text}
 use Rattle.gixobj_commits.specs.CommitViews.{owned_lines}
 use Rattle.gixobj_commits.specs.declared.commit.Commit.{Commit}
 use Rattle.gixobj_texts.specs.Bytes.{newline, space}
@@ -23,6 +26,17 @@ in_lower_case commit = record {
   extra_headers = commit.extra_headers;
   message = commit.message;
 }
+
+-- the line of the tree, and that of a parent, by the hex text of its id
+abbrev pub hex_tree : BStr → List ℕ
+hex_tree hex = field_text (codes "tree") (hex_text (spelled_id (bstr_bytes hex)))
+
+abbrev pub hex_parent : BStr → List ℕ
+hex_parent hex = parent_text (str_to_ascii_lowercase (bstr_bytes hex))
+
+-- both, as they are put of a borrowed commit
+abbrev pub hex_lines : BStr → List BStr → List ℕ
+hex_lines tree parents = hex_tree tree ++ flat_map hex_parent parents
 
 -- what is written before the author's bytes
 abbrev pub before_author : CommitLines → List ℕ

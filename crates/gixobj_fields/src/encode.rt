@@ -1,7 +1,8 @@
 //! What is refused of objects that are written, and header fields, written (gitdatamodel, "commits";
 //! gitformat-signature, "Commit signatures").
-ghost use Rattle.std.specs.Prelude.{◌≡◌, ◌<◌, ◌+◌, ◌^◌, ◌++◌, ◌∷◌, [], length, IfErr, MatchOption, OnOk};
+ghost use Rattle.std.specs.Prelude.{◌≡◌, ◌<◌, ◌≤◌, ◌+◌, ◌^◌, ◌++◌, ◌∷◌, [], length, IfErr, MatchOption, OnOk};
 ghost use Rattle.std.specs.Option.{SomeIff};
+ghost use Rattle.std.specs.Str.{str_to_ascii_lowercase};
 ghost use Rattle.gixobj_ids.specs.Hash.{hex_text};
 ghost use Rattle.gixobj_fields.specs.FieldWriting.{IsLastLine, RefusesField, folded};
 ghost use Rattle.gixobj_fields.specs.HeaderText.{field_text};
@@ -109,6 +110,7 @@ impl From<AllocError> for Error {
 ///
 /// It looks at neither, so the caller has to know that they have no newline. The error is the sink's.
 /// It takes no memory.
+#[inline(always)]
 pub fn trusted_header_field<S: Sink>(name: &[u8], value: &[u8], sink: &mut S) -> io::Result<()>
     ensures put { PutsOrFails result (S.view sink.old) (S.view sink.new) (field_text name.now value.now) }
     ensures same_loan { S.loan sink.new ≡ S.loan sink.old }
@@ -118,12 +120,28 @@ pub fn trusted_header_field<S: Sink>(name: &[u8], value: &[u8], sink: &mut S) ->
 
 /// Puts the field of an id: its value is the id's 40 or 64 hex digits, in lower case (gitdatamodel,
 /// "commits"). The error is the sink's. It takes no memory.
+#[inline(always)]
 pub fn trusted_header_id<S: Sink>(name: &[u8], id: &ObjectId, sink: &mut S) -> io::Result<()>
     ensures put { PutsOrFails result (S.view sink.old) (S.view sink.new) (field_text name.now (hex_text id.now)) }
     ensures same_loan { S.loan sink.new ≡ S.loan sink.old }
 {
     let mut buffer = [0; 64];
     trusted_header_field(name, id.hex_to_buf(&mut buffer).as_bytes(), sink)
+}
+
+/// Puts the field of an id by its hex text, 64 digits at most: its value is the text in lower case
+/// (gitdatamodel, "commits"). The error is the sink's. It takes no memory.
+#[inline(always)]
+pub fn trusted_header_hex<S: Sink>(name: &[u8], hex: &[u8], sink: &mut S) -> io::Result<()>
+    requires { length hex.now ≤ 64 }
+    ensures put { PutsOrFails result (S.view sink.old) (S.view sink.new) (field_text name.now (str_to_ascii_lowercase hex.now)) }
+    ensures same_loan { S.loan sink.new ≡ S.loan sink.old }
+{
+    let mut buffer = [0; 64];
+    let text = &mut buffer[..hex.len()];
+    text.copy_from_slice(hex);
+    text.make_ascii_lowercase();
+    trusted_header_field(name, text, sink)
 }
 
 /// Puts a field of one line: the name, a space, the value and a newline (gitdatamodel, "commits").
@@ -224,11 +242,20 @@ fn first_line(value: &[u8]) -> Option<(&[u8], &[u8])>
 
 /// The size in bytes with that of what [`trusted_header_field`] puts, or none past 64 bits. It takes no
 /// memory.
+#[inline(always)]
 pub fn size_with_field(size: u64, name: &[u8], value: &[u8]) -> Option<u64>
     ensures { AddsSize result size (field_text name.now value.now) }
 {
     let with_name = size.checked_add(name.len() as u64)?.checked_add(2)?;
     with_name.checked_add(value.len() as u64)
+}
+
+/// The size in bytes with that of what [`trusted_header_hex`] puts, or none past 64 bits. It takes no
+/// memory.
+pub fn size_with_hex(size: u64, name: &[u8], hex: &[u8]) -> Option<u64>
+    ensures { AddsSize result size (field_text name.now (str_to_ascii_lowercase hex.now)) }
+{
+    size_with_field(size, name, hex)
 }
 
 /// The size in bytes with that of what [`trusted_header_id`] puts, or none past 64 bits. It takes no

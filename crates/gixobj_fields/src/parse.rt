@@ -19,6 +19,7 @@ use std::borrow::CowSlice;
 
 /// The value of the header field of this name, and what follows its line, or none where the input does
 /// not begin with the name, a space and a line that ends in a newline.
+#[inline(always)]
 #[tactic(auto, using(crate::proofs::HeaderFields::field_of_parts, crate::proofs::HeaderFields::no_field_without_name))]
 pub fn header_field<'a>(input: &'a [u8], name: &[u8]) -> Option<(&'a [u8], &'a [u8])>
     ensures found { IfSome result (λ it. HasField name.now input.now it.0.now it.1.now) }
@@ -35,6 +36,7 @@ pub fn header_field<'a>(input: &'a [u8], name: &[u8]) -> Option<(&'a [u8], &'a [
 
 /// The hex text of an id of this kind that the header field of this name has, and what follows its
 /// line, or none where the input does not begin with such a field.
+#[inline(always)]
 pub fn header_id<'a>(input: &'a [u8], name: &[u8], kind: Kind) -> Option<(BStr<'a>, &'a [u8])>
     ensures found { IfSome result (λ it. HasId name.now kind input.now (bstr_bytes it.0) it.1.now) }
     ensures none { IfNone result (HasNoId name.now kind input.now) }
@@ -89,6 +91,7 @@ fn is_word(word: &[u8], kind: ObjectKind) -> bool
 }
 
 /// What stands after the name and a space at the front of the input.
+#[inline(always)]
 pub fn after_name<'a>(input: &'a [u8], name: &[u8]) -> Option<&'a [u8]>
     ensures found { IfSome result (λ rest. input.now ≡ name.now ++ space ∷ rest.now) }
     ensures none { IfNone result (LacksName name.now input.now) }
@@ -103,6 +106,7 @@ pub fn after_name<'a>(input: &'a [u8], name: &[u8]) -> Option<&'a [u8]>
 }
 
 /// What stands behind a newline at the front of the input. It takes no memory.
+#[inline(always)]
 pub fn after_newline(input: &[u8]) -> Option<&[u8]>
     ensures { MatchOption result ((rest : List ℕ) → input.now ≢ newline ∷ rest) (λ rest. input.now ≡ newline ∷ rest.now) }
 {
@@ -165,6 +169,7 @@ fn unfolded<'a>(alloc: Global, first: &[u8], input: &'a [u8]) -> Result<(Vec<u8>
 }
 
 /// What stands after this front.
+#[inline(always)]
 #[tactic(auto, using(crate::proofs::HeaderFields::front_is))]
 fn after_front<'a>(input: &'a [u8], front: &[u8]) -> Option<&'a [u8]>
     ensures { MatchOption result ((rest : List ℕ) → input.now ≢ front.now ++ rest) (λ rest. input.now ≡ front.now ++ rest.now) }
@@ -173,6 +178,7 @@ fn after_front<'a>(input: &'a [u8], front: &[u8]) -> Option<&'a [u8]>
 }
 
 /// What stands after one space at the front.
+#[inline(always)]
 pub fn after_space(input: &[u8]) -> Option<&[u8]>
     ensures { MatchOption result (EndsHeader input.now) (λ rest. input.now ≡ space ∷ rest.now) }
 {

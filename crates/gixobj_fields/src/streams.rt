@@ -92,6 +92,7 @@ impl Sink for Vec<u8> {
 
     ghost loan = { λ _. 0 };
 
+    #[inline(always)]
     fn put(&mut self, bytes: &[u8]) -> io::Result<()> {
         self.extend_from_slice(bytes)?;
         Ok(())
@@ -107,6 +108,7 @@ impl<W: Write> Sink for ToWrite<'_, W> {
 
     ghost loan = { λ s. s.0.ghost_name };
 
+    #[inline(always)]
     fn put(&mut self, bytes: &[u8]) -> io::Result<()> {
         let mut rest = bytes;
         while !rest.is_empty() {
@@ -122,6 +124,7 @@ impl<W: Write> Sink for ToWrite<'_, W> {
 
 impl<W: Write> ToWrite<'_, W> {
     /// Writes some of the bytes, and answers how many.
+    #[inline(always)]
     fn write_some(&mut self, bytes: &[u8]) -> io::Result<usize>
         ensures bound { WritesAtMost result bytes.now }
         ensures bytes { WriteAppends (W.contents self.old.0.now) (W.contents self.new.0.now) result bytes.now }
@@ -139,6 +142,7 @@ impl<W: Write> ToWrite<'_, W> {
 
 /// Puts texts at the end of a sink, one after the other. Where it fails, there was no room for them all,
 /// and a front of them, but not all, has been put. It takes no memory.
+#[inline(always)]
 pub fn put_parts<S: Sink>(parts: &[&[u8]], sink: &mut S) -> io::Result<()>
     ensures put { PutsOrFails result (S.view sink.old) (S.view sink.new) (flat_map (λ part. part.now) parts.now) }
     ensures same_loan { S.loan sink.new ≡ S.loan sink.old }

@@ -57,6 +57,7 @@ pub enum Line<'a> {
 ///
 /// `Malformed` where the input begins with no line that may come here. A header of several lines takes
 /// memory, and `OutOfMemory` comes for no other line.
+#[inline(always)]
 pub fn read_line(
     alloc: Global,
     before: State,
@@ -78,6 +79,7 @@ pub fn read_line(
 }
 
 /// The tree, at the front of the input.
+#[inline(always)]
 #[tactic(auto, using(crate::specs::Lines::tree_comes))]
 fn read_tree(kind: Kind, input: &[u8]) -> Result<(Line<'_>, State, &[u8]), Error>
     ensures found { IfOk result (λ it. HasLine kind state.Tree input.now (line_view it.0) it.1 it.2.now) }
@@ -91,6 +93,7 @@ fn read_tree(kind: Kind, input: &[u8]) -> Result<(Line<'_>, State, &[u8]), Error
 }
 
 /// A parent or, where none comes, the author.
+#[inline(always)]
 #[tactic(auto, using(crate::specs::Lines::parent_comes, crate::specs::Lines::author_comes))]
 fn read_parent_or_author(kind: Kind, input: &[u8]) -> Result<(Line<'_>, State, &[u8]), Error>
     ensures found { IfOk result (λ it. HasLine kind state.Parents input.now (line_view it.0) it.1 it.2.now) }
@@ -107,6 +110,7 @@ fn read_parent_or_author(kind: Kind, input: &[u8]) -> Result<(Line<'_>, State, &
 }
 
 /// The committer.
+#[inline(always)]
 #[tactic(auto, using(crate::specs::Lines::committer_comes))]
 fn read_committer(input: &[u8]) -> Result<(Line<'_>, State, &[u8]), Error>
     ensures found { (kind : Kind) → IfOk result (λ it. HasLine kind state.Committer input.now (line_view it.0) it.1 it.2.now) }
@@ -120,6 +124,7 @@ fn read_committer(input: &[u8]) -> Result<(Line<'_>, State, &[u8]), Error>
 }
 
 /// The encoding or, where its name doesn't come, a header or the message.
+#[inline(always)]
 #[tactic(auto, using(crate::specs::Lines::encoding_comes))]
 fn read_encoding_or_header(alloc: Global, input: &[u8]) -> Result<(Line<'_>, State, &[u8]), Error>
     ensures found { (kind : Kind) → IfOk result (λ it. HasLine kind state.Encoding input.now (line_view it.0) it.1 it.2.now) }
@@ -140,6 +145,7 @@ fn read_encoding_or_header(alloc: Global, input: &[u8]) -> Result<(Line<'_>, Sta
 }
 
 /// A header or, behind an empty line, the message.
+#[inline(always)]
 #[tactic(auto, using(crate::specs::Lines::header_comes, crate::specs::Lines::message_comes, crate::proofs::LineRefusals::refuses_header))]
 fn read_header_or_message(alloc: Global, input: &[u8]) -> Result<(Line<'_>, State, &[u8]), Error>
     ensures found { (kind : Kind) → IfOk result (λ it. HasLine kind state.ExtraHeaders input.now (line_view it.0) it.1 it.2.now) }
@@ -154,6 +160,7 @@ fn read_header_or_message(alloc: Global, input: &[u8]) -> Result<(Line<'_>, Stat
 }
 
 /// The line of the actor in the field of this name at the front, the actor, and what follows it.
+#[inline(always)]
 fn actor_line<'a>(input: &'a [u8], name: &[u8]) -> Option<(BStr<'a>, SignatureRef<'a>, &'a [u8])>
     ensures found { IfSome result (λ it. HasActor name.now input.now (bstr_bytes it.0) it.2.now) }
     ensures parsed { IfSome result (λ it. IsActor (bstr_bytes it.0) (bstr_bytes it.1.name) (bstr_bytes it.1.email) (bstr_bytes it.1.time)) }

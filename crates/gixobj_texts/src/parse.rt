@@ -7,6 +7,7 @@ ghost use Rattle.gixobj_texts.specs.Parse.{IsFree, SplitsAt, SplitsAtLast};
 use bstr::ByteSlice;
 
 /// What stands before and after the first such byte, or none without one.
+#[inline(always)]
 pub fn split_at_byte(input: &[u8], byte: u8) -> Option<(&[u8], &[u8])>
     ensures found { IfSome result (λ parts. SplitsAt byte input.now parts.0.now parts.1.now) }
     ensures none { IfNone result (IsFree byte input.now) }

@@ -2,13 +2,14 @@
 ghost use Rattle.std.specs.Prelude.{◌≡◌, ◌<◌, ◌+◌, ◌^◌, ◌++◌, ◌∷◌, All, codes, length, IfErr, OnOk};
 ghost use Rattle.std.specs.List.{flat_map};
 ghost use Rattle.std.specs.Option.{SomeIff};
-ghost use Rattle.gixobj_ids.specs.Hash.{hex_text};
+ghost use Rattle.bstr.specs.BStr.{bstr_bytes};
+ghost use Rattle.gixobj_ids.specs.Hash.{IsHexOfAnId, hex_text};
 ghost use Rattle.gixobj_fields.specs.HeaderText.{field_text};
 ghost use Rattle.gixobj_fields.specs.Streams.{Puts, PutsOrFails};
 ghost use Rattle.gixobj_fields.specs.Writing.{AddsSize, IsSize, RefusesNothing, SaysWhy};
 ghost use Rattle.gixobj_lines.specs.Commit.{encoding_text};
 ghost use Rattle.gixobj_texts.specs.Optional.{bytes_if_some};
-ghost use Rattle.gixobj_commits.specs.CommitWriting.{RefusesEncodingLine};
+ghost use Rattle.gixobj_commits.specs.CommitWriting.{RefusesEncodingLine, hex_lines, hex_tree};
 ghost use Rattle.gixobj_texts.specs.Bytes.{newline};
 
 mod owned;
@@ -17,13 +18,12 @@ use super::CommitRef;
 use bstr::{BStr, BString};
 use gixobj_fields::WriteTo;
 use gixobj_fields::encode::{
-    Error, header_field, header_field_multi_line, size_with_field, size_with_id,
-    size_with_multi_line, trusted_header_field, trusted_header_id,
+    Error, header_field, header_field_multi_line, size_with_field, size_with_hex, size_with_id,
+    size_with_multi_line, trusted_header_field, trusted_header_hex, trusted_header_id,
 };
 use gixobj_fields::streams::{Sink, put_parts};
 use gixobj_ids::Kind;
 use gixobj_ids::hash::ObjectId;
-use gixobj_ids::parse::id_of_hex;
 use std::alloc::Global;
 use std::borrow::CowSlice;
 use std::io;
@@ -46,10 +46,10 @@ impl WriteTo for CommitRef<'_> {
     ghost refuses = { λ commit. RefusesLines (in_lower_case (commit_lines commit)) };
 
     fn write_into<S: Sink>(&self, alloc: Global, sink: &mut S) -> Result<(), Error> {
-        let (tree, parents) = (id_of_hex(self.tree), self.parents.as_slice());
+        let parents = self.parents.as_slice();
         let (author, committer) = (self.author.as_bytes(), self.committer.as_bytes());
         let (headers, message) = (self.extra_headers.as_slice(), self.message.as_bytes());
-        put_ids(&tree, parents, sink)?;
+        put_hex_ids(self.tree, parents, sink)?;
         trusted_header_field(b"author", author, sink)?;
         trusted_header_field(b"committer", committer, sink)?;
         put_rest(alloc, self.encoding, headers, message, sink)?;
@@ -61,10 +61,10 @@ impl WriteTo for CommitRef<'_> {
     }
 
     fn size(&self) -> Option<u64> {
-        let (tree, parents) = (id_of_hex(self.tree), self.parents.as_slice());
+        let parents = self.parents.as_slice();
         let (author, committer) = (self.author.as_bytes(), self.committer.as_bytes());
         let (headers, message) = (self.extra_headers.as_slice(), self.message.as_bytes());
-        let ids = ids_size(&tree, parents)?;
+        let ids = hex_ids_size(self.tree, parents)?;
         let with_author = size_with_field(ids, b"author", author)?;
         let lines = size_with_field(with_author, b"committer", committer)?;
         let all = size_with_rest(lines, self.encoding, headers, message)?;
@@ -80,6 +80,44 @@ fn put_ids<T: Field, S: Sink>(tree: &ObjectId, parents: &[T], sink: &mut S) -> i
 {
     trusted_header_id(b"tree", tree, sink)?;
     put_all(parents, sink)
+}
+
+/// Puts the lines of the tree and of the parents, by the hex texts of their ids.
+fn put_hex_ids<S: Sink>(tree: BStr<'_>, parents: &[BStr<'_>], sink: &mut S) -> io::Result<()>
+    requires tree { IsHexOfAnId (bstr_bytes tree) }
+    requires parents { All (λ hex. IsHexOfAnId (bstr_bytes hex)) parents.now }
+    ensures put { PutsOrFails result (S.view sink.old) (S.view sink.new) (hex_lines tree.entry parents.now) }
+    ensures same_loan { S.loan sink.new ≡ S.loan sink.old }
+{
+    put_hex_tree(tree, sink)?;
+    put_all(parents, sink)
+}
+
+/// Puts the line of the tree, by the hex text of its id.
+#[tactic(auto, using(crate::proofs::HexFields::spelled_in_lower_case, crate::proofs::HexFields::short))]
+fn put_hex_tree<S: Sink>(tree: BStr<'_>, sink: &mut S) -> io::Result<()>
+    requires { IsHexOfAnId (bstr_bytes tree) }
+    ensures put { PutsOrFails result (S.view sink.old) (S.view sink.new) (hex_tree tree.entry) }
+    ensures same_loan { S.loan sink.new ≡ S.loan sink.old }
+{
+    trusted_header_hex(b"tree", tree.as_bytes(), sink)
+}
+
+/// How many bytes [`put_hex_ids`] puts, or none past 64 bits. It reads no id.
+fn hex_ids_size(tree: BStr<'_>, parents: &[BStr<'_>]) -> Option<u64>
+    requires { IsHexOfAnId (bstr_bytes tree) }
+    ensures { IsSize result (hex_lines tree.entry parents.now) }
+{
+    size_with_all(hex_tree_size(tree)?, parents)
+}
+
+/// How many bytes the line of the tree takes, by the hex text of its id.
+#[tactic(auto, using(crate::proofs::HexFields::spelled_in_lower_case))]
+fn hex_tree_size(tree: BStr<'_>) -> Option<u64>
+    requires { IsHexOfAnId (bstr_bytes tree) }
+    ensures { AddsSize result 0 (hex_tree tree.entry) }
+{
+    size_with_hex(0, b"tree", tree.as_bytes())
 }
 
 /// How many bytes the lines of the tree and of the parents take, or none past 64 bits.
@@ -112,18 +150,17 @@ trait Field {
 
 /// A parent, by the hex text of its id.
 impl Field for BStr<'_> {
-    ghost use Rattle.std.specs.Str.{str_to_ascii_lowercase};
     ghost use Rattle.bstr.specs.BStr.{bstr_bytes};
     ghost use Rattle.gixobj_ids.specs.Hash.{IsHexOfAnId};
-    ghost use Rattle.gixobj_lines.specs.Commit.{parent_text};
+    ghost use Rattle.gixobj_commits.specs.CommitWriting.{hex_parent};
 
     ghost can_put = { λ hex. IsHexOfAnId (bstr_bytes hex) };
 
-    ghost written = { λ hex. parent_text (str_to_ascii_lowercase (bstr_bytes hex)) };
+    ghost written = { λ hex. hex_parent hex };
 
-    #[tactic(auto, using(gixobj_ids::proofs::HexCase::hex_in_lower_case))]
+    #[tactic(auto, using(crate::proofs::HexFields::short))]
     fn put<S: Sink>(&self, sink: &mut S) -> io::Result<()> {
-        trusted_header_id(b"parent", &id_of_hex(*self), sink)
+        trusted_header_hex(b"parent", self.as_bytes(), sink)
     }
 
     fn size_with(&self, size: u64) -> Option<u64> {

@@ -1,7 +1,7 @@
 //! Object ids that are owned.
-ghost use Rattle.std.specs.Prelude.{◌≡◌, ◌↔◌, ◌≤◌, ◌*◌, [], length, IsSome, IfSome, IsTrue, IsOk, IfErr, OnOk, refl};
+ghost use Rattle.std.specs.Prelude.{◌≡◌, ◌↔◌, ◌<◌, ◌≤◌, Some, true, ◌*◌, [], length, IsSome, IfSome, IsTrue, IsOk, IfErr, OnOk, refl};
 ghost use Rattle.std.specs.List.{AllPass};
-ghost use Rattle.hex.specs.Hex.{decode_of, is_hex_digit};
+ghost use Rattle.hex.specs.Hex.{decode_of, hex_digit_value, is_hex_digit};
 ghost use Rattle.std.specs.Io.KnownBytes.{Appends};
 ghost use Rattle.std.proofs.Common.{rules};
 ghost use Rattle.gixobj_ids.specs.Hash.{IsHexOfAnId, IsNull, Spells, hash_len, hex_text, id_bytes, id_kind, id_of, null_id};
@@ -11,7 +11,7 @@ ghost use Rattle.gixobj_ids.specs.Hash.OrderLaws.{id_alike, id_cmp_total, id_par
 ghost use Rattle.gixobj_ids.specs.declared.kind.Kind.TheVariants.{Blob, Tree};
 
 use super::{Kind, oid, verify};
-use hex::FromHex;
+use crate::parse::are_hex;
 use std::cmp::Ordering;
 use std::hash::{Hash, Hasher};
 use std::io::Write;
@@ -226,7 +226,32 @@ fn bytes_from_hex<const N: usize>(hex: &[u8]) -> Option<[u8; N]>
     ensures accepts { IsSome result ↔ ((length hex.now ≡ 2 * N) × AllPass is_hex_digit hex.now) }
     ensures value { IfSome result (λ bytes. decode_of hex.now ≡ Ok bytes) }
 {
-    <[u8; N] as FromHex>::from_hex(hex).ok()
+    if hex.len() % 2 != 0 || hex.len() / 2 != N {
+        return None;
+    }
+    if !are_hex(hex) {
+        return None;
+    }
+    let mut bytes = [0u8; N];
+    'bytes: for i in 0..N {
+        bytes[i] = 16 * value_of(hex[2 * i]) + value_of(hex[2 * i + 1]);
+    }
+    Some(bytes)
+}
+
+/// The value of a hex digit, in either case.
+fn value_of(digit: u8) -> u8
+    requires { is_hex_digit digit ≡ true }
+    ensures value { hex_digit_value digit ≡ Some result }
+    ensures small { result < 16 }
+{
+    if digit <= b'9' {
+        digit - b'0'
+    } else if digit <= b'F' {
+        digit - (b'A' - 10)
+    } else {
+        digit - (b'a' - 10)
+    }
 }
 
 const EMPTY_TREE_SHA1: [u8; 20] = [

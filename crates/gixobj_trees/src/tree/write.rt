@@ -66,6 +66,7 @@ fn put_owned<S: Sink>(alloc: Global, entry: &Entry, sink: &mut S) -> Result<(), 
 /// Puts the entry of this mode, name and id.
 ///
 /// A name with a zero byte is refused as `NullbyteInFilename`, after the mode and a space.
+#[inline(always)]
 #[tactic(auto, using(crate::proofs::TreeWrites::mode_front, crate::proofs::TreeWrites::mode_put, crate::proofs::TreeWrites::name_front, crate::proofs::TreeWrites::no_copy))]
 pub fn put_entry<S: Sink>(
     alloc: Global,

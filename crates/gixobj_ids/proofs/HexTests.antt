@@ -1,0 +1,20 @@
+-- A test of all bytes, as a truth value; a byte of two digits.
+use Rattle.std.proofs.Common.{◌≡◌, ◌+◌, ◌*◌, ℕ, List, Ok, Some, ap, arith, refl, true}
+use Rattle.std.proofs.lemmas.List.Sums.{AllPass-from_list_all, list_all-from_AllPass}
+use Rattle.std.specs.List.{AllPass, list_all}
+use Rattle.hex.specs.Hex.{digit_or_error, hex_digit_value, is_hex_digit, pair_value, value_at}
+
+pub passed : (text : List ℕ) → list_all is_hex_digit text ≡ true → AllPass is_hex_digit text
+passed text all = AllPass-from_list_all is_hex_digit text all
+
+pub told : (text : List ℕ) → AllPass is_hex_digit text → list_all is_hex_digit text ≡ true
+told text all = list_all-from_AllPass is_hex_digit text all
+
+-- two digits are a byte
+pub pair_read : (high low place first second : ℕ) → hex_digit_value high ≡ Some first → hex_digit_value low ≡ Some second
+    → pair_value high low place ≡ Ok (16 * first + second)
+pair_read high low place first second one two =
+    let read : value_at high place ≡ Ok first = ap (digit_or_error high place) one in
+    let also : value_at low (place + 1) ≡ Ok second = ap (digit_or_error low (place + 1)) two in
+    let turned : 16 * first + second ≡ first * 16 + second = omega arith in
+    rw (read, also, turned) refl
