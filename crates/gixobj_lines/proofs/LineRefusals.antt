@@ -3,10 +3,9 @@ use Rattle.std.proofs.Common.{◌≡◌, ◌≢◌, ℕ, List, ◌∷◌, ◌++�
 use Rattle.std.specs.Prelude.{codes}
 use Rattle.gixobj_actors.specs.Actor.{IsActor, IsNoActor}
 use Rattle.gixobj_fields.proofs.HeaderFields.{first_bytes, one_field}
-use Rattle.gixobj_fields.specs.HeaderReading.{HasNoId, RefusesHeaderField}
+use Rattle.gixobj_fields.specs.HeaderReading.{RefusesHeaderField}
 use Rattle.gixobj_fields.specs.HeaderText.{HasField, HasNoField, HasNoHeader}
 use Rattle.gixobj_fields.specs.Runs.{HasNoPiece}
-use Rattle.gixobj_ids.specs.Hash.Hex.{IsHexOf}
 use Rattle.gixobj_ids.specs.declared.decode.Error.{Error}
 use Rattle.gixobj_ids.specs.declared.decode.Error.TheVariants.{Malformed, OutOfMemory}
 use Rattle.gixobj_ids.specs.declared.hash.kind.Kind.{Kind}

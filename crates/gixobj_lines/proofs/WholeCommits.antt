@@ -13,7 +13,6 @@ use Rattle.gixobj_ids.specs.Hash.Hex.{IsHexOf}
 use Rattle.gixobj_ids.specs.declared.decode.Error.{Error}
 use Rattle.gixobj_ids.specs.declared.decode.Error.TheVariants.{Malformed, OutOfMemory}
 use Rattle.gixobj_ids.specs.declared.hash.kind.Kind.{Kind}
-use Rattle.gixobj_ids.specs.declared.hash.kind.Kind.TheVariants as hash
 use Rattle.gixobj_lines.proofs.CommitsRead.{Reads, encoding_more, first_named, put_header, reads_from_start, reads_line, some_header}
 use Rattle.gixobj_lines.proofs.LinesTold.{text_told}
 use Rattle.gixobj_lines.proofs.OneLine.{no_line_of_nothing, one_line}

@@ -1,5 +1,5 @@
 -- The lines of a commit, and which comes where (gitdatamodel, "commits").
-use Rattle.std.specs.Prelude.{◌≡◌, ◌≢◌, ℕ, List, [], ◌∷◌, ◌++◌, codes, ⊤}
+use Rattle.std.specs.Prelude.{◌≡◌, ◌≢◌, ℕ, List, [], ◌∷◌, codes, ⊤}
 use Rattle.bstr.specs.BStr.{bstr_bytes}
 use Rattle.gixobj_actors.specs.Actor.{IsActor, NamesActor}
 use Rattle.gixobj_fields.specs.HeaderReading.{BorrowsOneLine, HasId, header_of}
