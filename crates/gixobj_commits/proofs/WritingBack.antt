@@ -12,7 +12,6 @@ use Rattle.gixobj_fields.specs.HeaderText.{Header}
 use Rattle.gixobj_fields.specs.Streams.{SinkView}
 use Rattle.gixobj_fields.specs.Writing.{Refused, SaysWhy, bad_name, empty_header, header_with_newline, illegal_actor, name_with_dash, name_with_zero_byte}
 use Rattle.gixobj_ids.specs.declared.decode.Error.TheVariants.{Malformed}
-use Rattle.gixobj_actors.specs.declared.actor.Signature.{Signature}
 use Rattle.gixobj_fields.specs.declared.encode.Error.{Error}
 use Rattle.gixobj_fields.specs.declared.encode.Error.TheVariants as encode
 use Rattle.gixobj_ids.specs.declared.hash.kind.Kind.{Kind}

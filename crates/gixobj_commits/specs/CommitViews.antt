@@ -1,5 +1,5 @@
 -- Commits as their readers see them, wherever they lie.
-use Rattle.std.specs.Prelude.{ℕ, List, All, map}
+use Rattle.std.specs.Prelude.{All, map}
 use Rattle.bstr.specs.BStr.{bstr_bytes}
 use Rattle.bstr.specs.Owned.{bstring_bytes}
 use Rattle.gixobj_actors.specs.ActorWriting.{owned_text}
