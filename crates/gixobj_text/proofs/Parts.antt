@@ -3,13 +3,8 @@ use Rattle.std.proofs.Common.{◌≡◌, inl, inr, ◌++◌, ◌∷◌, ◌∙�
 use lib.ListN.{take-append-drop}
 use Rattle.std.specs.List.{concat}
 use Rattle.bstr.proofs.lemmas.RestLemmas.{concat-lines_of}
-use Rattle.gixobj_text.specs.Blocks.{AreBlocks, AreBlocksFrom, BlockView}
+use Rattle.gixobj_text.specs.Blocks.{AreBlocks, AreBlocksFrom, BlockView, joined_parts}
 use Rattle.gixobj_text.specs.Blocks.AreBlocks.{block, none}
-
--- the messages and their trailers, one after the other
-abbrev pub joined_parts : List BlockView → List ℕ
-joined_parts [] = []
-joined_parts (one ∷ blocks) = one.message ++ (one.trailers ++ joined_parts blocks)
 
 apart : (a b c : List ℕ) → (a ++ b) ++ c ≡ a ++ (b ++ c)
 apart [] b c = refl

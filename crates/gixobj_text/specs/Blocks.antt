@@ -39,3 +39,8 @@ AreBlocksFrom start text blocks =
     ((text ≡ []) × (blocks ≡ []))
     ⊎ ((text ≢ []) × (skipped taken rest : List (List ℕ)) × (later : List BlockView) × IsBlockOfLines (lines_of (drop start text)) skipped taken rest × AreBlocks rest later
     × (blocks ≡ (record { message = take start text ++ concat skipped; trailers = concat taken }) ∷ later))
+
+-- the messages and their trailers, one after the other
+abbrev pub joined_parts : List BlockView → List ℕ
+joined_parts [] = []
+joined_parts (one ∷ blocks) = one.message ++ (one.trailers ++ joined_parts blocks)

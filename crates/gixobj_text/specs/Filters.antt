@@ -1,5 +1,5 @@
 -- Which trailers filters keep.
-use Rattle.std.specs.Prelude.{◌≡◌, ◌++◌, ℕ, Bool, List, All, IsFalse, IsTrue, Option, Some, None, Result, Ok, Err, codes, ⊤}
+use Rattle.std.specs.Prelude.{◌≡◌, ◌++◌, ℕ, Bool, List, All, IsFalse, IsTrue, Option, Some, None, Result, Ok, Err, codes, filter as filtered, ⊤}
 use Rattle.std.specs.Iterator.{Count}
 use Rattle.gixobj_ids.specs.declared.memory.OutOfMemory.{OutOfMemory}
 use Rattle.gixobj_text.specs.GivingTrailers.{GivesTrailer, count_left, trailer_view, trailers_left}
@@ -26,6 +26,10 @@ all_of it = it.trailers
 -- which are kept
 abbrev pub filter_of : Filtered → Filter
 filter_of it = it.filter
+
+-- the trailers that are left and kept
+abbrev pub kept_left : Filtered → List TrailerView
+kept_left it = filtered (λ trailer. is_kept (filter_of it) trailer.token) (trailers_left (all_of it))
 
 -- the reader goes past trailers that the filter doesn't keep
 pub record PassesOthers (by : Filter) (before after : Trailers) : Type 0 where

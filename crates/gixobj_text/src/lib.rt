@@ -3,4 +3,5 @@
 #![tactic(auto)]
 
 pub mod commit;
+pub mod laws;
 pub mod signature;
