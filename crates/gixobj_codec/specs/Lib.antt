@@ -55,6 +55,20 @@ pub use Rattle.gixobj_tags.specs.TagText
 pub use Rattle.gixobj_tags.specs.TagViews
 pub use Rattle.gixobj_tags.specs.TagWriting
 pub use Rattle.gixobj_tags.specs.declared as tags
+pub use Rattle.gixobj_text.specs.Blocks
+pub use Rattle.gixobj_text.specs.Bodies
+pub use Rattle.gixobj_text.specs.BodyLines
+pub use Rattle.gixobj_text.specs.Filters
+pub use Rattle.gixobj_text.specs.GivingBlocks
+pub use Rattle.gixobj_text.specs.GivingTrailers
+pub use Rattle.gixobj_text.specs.MessageTrailers
+pub use Rattle.gixobj_text.specs.Summing
+pub use Rattle.gixobj_text.specs.Titles
+pub use Rattle.gixobj_text.specs.TrailerBlocks
+pub use Rattle.gixobj_text.specs.TrailerNames
+pub use Rattle.gixobj_text.specs.Trailers
+pub use Rattle.gixobj_text.specs.Unfolding
+pub use Rattle.gixobj_text.specs.declared as text
 pub use Rattle.gixobj_texts.specs.Bytes
 pub use Rattle.gixobj_texts.specs.Optional
 pub use Rattle.gixobj_texts.specs.Parse

@@ -15,6 +15,7 @@ ghost use Rattle.gixobj_extra_headers.specs.HeadersLeft.{headers_left, owned_hea
 ghost use Rattle.gixobj_ids.specs.Hash.Hex.{IsHexOf};
 
 mod decode;
+mod message;
 mod owned;
 mod write;
 

@@ -1,2 +1,21 @@
+pub mod Blocks
+pub mod Bodies
+pub mod BodyLines
+pub mod Breaks
+pub mod Counting
+pub mod Filters
+pub mod FirstLines
+pub mod GivingBlocks
+pub mod GivingTrailers
+pub mod MessageTrailers
+pub mod Scanned
+pub mod Scanning
+pub mod Steps
+pub mod Summing
+pub mod Titles
+pub mod TrailerBlocks
+pub mod TrailerNames
+pub mod Trailers
+pub mod Unfolding
 pub use Rattle.gixobj_signing.specs.Markers
 pub use Rattle.gixobj_signing.specs.declared as signing

@@ -1,0 +1,76 @@
+-- The rows of trailer blocks, of the definitions.
+use Rattle.std.proofs.Common.{◌≡◌, inl, inr, ◌∷◌, arith, refl, ℕ, List, [], codes, length, lit<, lit≤}
+use Rattle.std.proofs.lemmas.List.Elements.{All-cons, All-nil}
+use Rattle.std.specs.Prelude.{false, IsFalse, IsTrue}
+use Rattle.bstr.proofs.Computing.{computing}
+use Rattle.bstr.specs.Text.{lines_of}
+use Rattle.gixobj_text.specs.BodyLines.{is_blank}
+use Rattle.gixobj_text.specs.TrailerBlocks.{IsTrailerBlock, IsBlockStart, others, trailers_in}
+use Rattle.gixobj_text.proofs.LastRuns.{no_block, parts_of}
+
+abbrev F : List ℕ → Type 0
+F line = IsFalse (is_blank line)
+
+abbrev B : List ℕ → Type 0
+B line = IsTrue (is_blank line)
+
+abbrev two : List (List ℕ)
+two = codes "A: 1\n" ∷ codes "B: 2\n" ∷ []
+
+-- two trailers behind a line and a blank one
+two_trailers : IsBlockStart (codes "m\n\nA: 1\nB: 2\n") 1
+unfolding computing
+two_trailers = inl (record {
+  before = codes "m\n" ∷ codes "\n" ∷ [];
+  run = two;
+  after = [];
+  last = record {
+    joined = refl;
+    some = λ none. cc none;
+    none_blank = All-cons F (codes "A: 1\n") (codes "B: 2\n" ∷ []) refl (All-cons F (codes "B: 2\n") [] refl (All-nil F));
+    all_blank = All-nil B;
+    ends = inr (codes "m\n" ∷ [], codes "\n", refl, refl);
+  };
+  block = inl (lit< tt, refl);
+  starts = inr (inr ([], codes "m\n", codes "\n", refl, refl));
+})
+
+-- a sign-off makes a block of lines of which one is no trailer
+with_a_note : IsBlockStart (codes "Signed-off-by: A\nnote\nB: 2\n") 0
+unfolding computing
+with_a_note = inl (record {
+  before = [];
+  run = codes "Signed-off-by: A\n" ∷ codes "note\n" ∷ codes "B: 2\n" ∷ [];
+  after = [];
+  last = record {
+    joined = refl;
+    some = λ none. cc none;
+    none_blank = All-cons F (codes "Signed-off-by: A\n") (codes "note\n" ∷ codes "B: 2\n" ∷ []) refl (All-cons F (codes "note\n") (codes "B: 2\n" ∷ []) refl (All-cons F (codes "B: 2\n") [] refl (All-nil F)));
+    all_blank = All-nil B;
+    ends = inl refl;
+  };
+  block = inr (refl, lit≤ tt);
+  starts = inl (refl, refl);
+})
+
+abbrev long : List ℕ
+long = codes "text\n\nSigned-off-by: A <a@b>\nnot a trailer\nnot a trailer\nnot a trailer\nnot a trailer\n"
+
+-- one trailer, four others
+abbrev IsOneOfFive : List (List ℕ) → Type 0
+IsOneOfFive run = (trailers_in run ≡ 1) × (others false run ≡ 4)
+
+none_of_five : (run : List (List ℕ)) → IsOneOfFive run → ¬ IsTrailerBlock run
+none_of_five run five (inl (some, none)) = omega arith
+none_of_five run five (inr (known, few)) = omega arith
+
+-- with four others there is none
+five_lines : IsOneOfFive (parts_of (lines_of long)).run
+unfolding computing
+five_lines = (refl, refl)
+
+as_long : ◌≡◌ {A = ℕ} 85 (length long)
+as_long = refl
+
+too_many : IsBlockStart long 85
+too_many = inr (no_block (lines_of long) (none_of_five (parts_of (lines_of long)).run five_lines), as_long)

@@ -1,0 +1,85 @@
+-- A list of lines has one last run.
+use Rattle.std.proofs.Common.{◌≡◌, ◌≢◌, inl, inr, ◌++◌, ◌∷◌, ◌∙◌, ap, sym, subst, refl, ℕ, All, Bool, true, false, not, cond, List, []}
+use Rattle.std.proofs.lemmas.List.Elements.{All-head, All-tail}
+use Rattle.std.specs.Prelude.{IsFalse, IsTrue, ◌&&◌}
+use Rattle.gixobj_text.specs.BodyLines.{is_blank}
+use Rattle.gixobj_text.specs.TrailerBlocks.{EndsBlank, HasNoBlock, IsTrailerBlock, IsLastRun}
+
+abbrev Lines : Type 0
+Lines = List (List ℕ)
+
+-- what stands before the last run, the run, and what stands behind it
+pub record Parts : Type 0 where
+  pub before : Lines
+  pub run : Lines
+  pub after : Lines
+
+abbrev is_none : Lines → Bool
+is_none [] = true
+is_none (line ∷ lines) = false
+
+-- one line more in front, which is blank or not
+abbrev pub in_front : List ℕ → Bool → Parts → Parts
+in_front line blank it =
+    cond (is_none it.run)
+    (cond blank (record { before = []; run = []; after = line ∷ it.after }) (record { before = []; run = line ∷ []; after = it.after }))
+    (cond (is_none it.before && not blank) (record { before = []; run = line ∷ it.run; after = it.after }) (record { before = line ∷ it.before; run = it.run; after = it.after }))
+
+abbrev pub parts_of : Lines → Parts
+parts_of [] = record { before = []; run = []; after = [] }
+parts_of (line ∷ lines) = in_front line (is_blank line) (parts_of lines)
+
+abbrev Blank : List ℕ → Type 0
+Blank line = IsTrue (is_blank line)
+
+abbrev Filled : List ℕ → Type 0
+Filled line = IsFalse (is_blank line)
+
+in_so : (line : List ℕ) (b : Bool) (before run after lines : Lines) → is_blank line ≡ b → parts_of lines ≡ record { before = before; run = run; after = after }
+    → parts_of (line ∷ lines) ≡ in_front line b (record { before = before; run = run; after = after })
+in_so line b before run after lines blank is = ap (λ (it : Parts). in_front line (is_blank line) it) is ∙ ap (λ (c : Bool). in_front line c (record { before = before; run = run; after = after })) blank
+
+of_blank : (after : Lines) → All Blank after → parts_of after ≡ record { before = []; run = []; after = after }
+of_blank [] all = refl
+of_blank (line ∷ after) all = in_so line true [] [] after after (All-head Blank line after all) (of_blank after (All-tail Blank line after all))
+
+of_run : (run after : Lines) → run ≢ [] → All Filled run → All Blank after → parts_of (run ++ after) ≡ record { before = []; run = run; after = after }
+of_run [] after some filled blank = absurd (some refl)
+of_run (line ∷ []) after some filled blank = in_so line false [] [] after after (All-head Filled line [] filled) (of_blank after blank)
+of_run (line ∷ next ∷ run) after some filled blank =
+    in_so line false [] (next ∷ run) after ((next ∷ run) ++ after) (All-head Filled line (next ∷ run) filled)
+    (of_run (next ∷ run) after (λ none. cc none) (All-tail Filled line (next ∷ run) filled) blank)
+
+-- where lines end in a blank one, so do those behind the first
+ends_behind : (first next : List ℕ) (lines : Lines) → EndsBlank (first ∷ next ∷ lines) → EndsBlank (next ∷ lines)
+ends_behind first next lines (inl none) = cc none
+ends_behind first next lines (inr ([], last, is, blank)) = cc is
+ends_behind first next lines (inr (one ∷ front, last, is, blank)) = inr (front, last, cc is, blank)
+
+last_blank : (line : List ℕ) → EndsBlank (line ∷ []) → Blank line
+last_blank line (inl none) = cc none
+last_blank line (inr ([], last, is, blank)) = let same : last ≡ line = cc is in subst Blank same blank
+last_blank line (inr (one ∷ [], last, is, blank)) = cc is
+last_blank line (inr (one ∷ two ∷ front, last, is, blank)) = cc is
+
+of_all : (before run after : Lines) → EndsBlank before → run ≢ [] → All Filled run → All Blank after → parts_of (before ++ (run ++ after)) ≡ record { before = before; run = run; after = after }
+of_all [] run after ends some filled blank = of_run run after some filled blank
+of_all (line ∷ []) [] after ends some filled blank = absurd (some refl)
+of_all (line ∷ []) (first ∷ run) after ends some filled blank =
+    in_so line true [] (first ∷ run) after ((first ∷ run) ++ after) (last_blank line ends) (of_run (first ∷ run) after some filled blank)
+of_all (line ∷ next ∷ before) [] after ends some filled blank = absurd (some refl)
+of_all (line ∷ next ∷ before) (first ∷ run) after ends some filled blank =
+    in_so line (is_blank line) (next ∷ before) (first ∷ run) after ((next ∷ before) ++ ((first ∷ run) ++ after)) refl (of_all (next ∷ before) (first ∷ run) after (ends_behind line next before ends) some filled blank)
+
+append_apart : (a b c : Lines) → (a ++ b) ++ c ≡ a ++ (b ++ c)
+append_apart [] b c = refl
+append_apart (line ∷ a) b c = ap (λ (lines : Lines). line ∷ lines) (append_apart a b c)
+
+-- the parts of lines are those of their last run
+pub parts_are : (lines before run after : Lines) → IsLastRun lines before run after → parts_of lines ≡ record { before = before; run = run; after = after }
+parts_are lines before run after last =
+    ap parts_of (last.joined ∙ append_apart before run after) ∙ of_all before run after last.ends last.some last.none_blank last.all_blank
+
+pub no_block : (lines : Lines) → ¬ IsTrailerBlock (parts_of lines).run → HasNoBlock lines
+no_block lines other before run after last block =
+    other (subst IsTrailerBlock (sym (ap (λ (it : Parts). it.run) (parts_are lines before run after last))) block)

@@ -1,0 +1,199 @@
+-- A walk over lines to their last run: a line more, and its end.
+use Rattle.std.proofs.Common.{◌≡◌, ◌≢◌, ◌⊎◌, inl, inr, ◌++◌, ◌∷◌, ◌∙◌, ◌+◌, ◌≤◌, ◌<◌, ◌*◌, ap, arith, sym, subst, refl, ℕ, All, Bool, true, false, List, [], length, length-append}
+use Rattle.std.proofs.lemmas.List.Elements.{All-head, All-tail}
+use Rattle.std.proofs.lemmas.List.Folds.{concat-append}
+use Rattle.std.specs.Prelude.{IsFalse, IsTrue, ◌↔◌}
+use Rattle.std.specs.List.{concat}
+use Rattle.bstr.specs.Text.{lines_of}
+use Rattle.bstr.proofs.lemmas.LineLemmas.{lines-nil}
+use Rattle.gixobj_text.specs.Counting.{Counts}
+use Rattle.gixobj_text.specs.FirstLines.{IsFirstLine}
+use Rattle.gixobj_text.specs.BodyLines.{is_blank, text_of}
+use Rattle.gixobj_text.specs.Scanned.{EndsBehind, HasRun, IsWalked, Scanned}
+use Rattle.gixobj_text.specs.TrailerBlocks.{EndsBlank, IsTrailerBlock, IsBlockStart, IsLastRun, StartsBehind, others, trailers_in}
+use Rattle.gixobj_text.specs.declared.commit.message.body.run.Run.{Run}
+use Rattle.gixobj_text.specs.declared.commit.message.body.scan.Scan.{Scan}
+use Rattle.gixobj_text.proofs.LastRuns.{Parts, parts_are}
+use Rattle.gixobj_text.proofs.OneLine.{all_more, apart, blank_more, ends_blank, filled_first, filled_more, none_behind}
+
+abbrev Lines : Type 0
+Lines = List (List ℕ)
+
+abbrev Blank : List ℕ → Type 0
+Blank line = IsTrue (is_blank line)
+
+abbrev Filled : List ℕ → Type 0
+Filled line = IsFalse (is_blank line)
+
+-- ---- a line more
+
+place_more : (lines : Lines) (line : List ℕ) (place : ℕ) → place ≡ length (concat lines) → place + length line ≡ length (concat (lines ++ line ∷ []))
+place_more lines line place is =
+    let joined : length (concat (lines ++ line ∷ [])) ≡ length (concat lines ++ (line ++ [])) = ap length (concat-append lines (line ∷ [])) in
+    let first : length (concat lines ++ (line ++ [])) ≡ length (concat lines) + length (line ++ []) = length-append (concat lines) (line ++ []) in
+    let second : length (line ++ []) ≡ length line + 0 = length-append line [] in
+    omega arith
+
+-- a block behind a blank line starts behind the text before it
+starts_more : (lines : Lines) (blank : List ℕ) (end : ℕ) → EndsBehind lines end → StartsBehind (lines ++ blank ∷ []) end
+starts_more lines blank end (inl (none, is)) = inr (inl (blank, ap (λ (ls : Lines). ls ++ blank ∷ []) none, is))
+starts_more lines blank end (inr (front, line, joined, is)) =
+    inr (inr (front, line, blank, ap (λ (ls : Lines). ls ++ blank ∷ []) joined ∙ apart front (line ∷ []) (blank ∷ []), is))
+
+ends_more : (lines : Lines) (line : List ℕ) (place end : ℕ) → place ≡ length (concat lines) → end ≡ place + length (text_of line) → EndsBehind (lines ++ line ∷ []) end
+ends_more lines line place end at is = inr (lines, line, refl, is ∙ ap (λ (n : ℕ). n + length (text_of line)) at)
+
+run_behind_blank : (lines : Lines) (line : List ℕ) (old new : Scan) → Blank line → HasRun lines old → new.going ≡ false → new.start ≡ old.start → new.run ≡ old.run → HasRun (lines ++ line ∷ []) new
+run_behind_blank lines line old new blank it going start run = record {
+  before = it.before;
+  run = it.run;
+  after = it.after ++ line ∷ [];
+  last = blank_more lines it.before it.run it.after line blank it.last;
+  going = λ is. cc (going, is);
+  starts = subst (λ (n : ℕ). StartsBehind it.before n) (sym start) it.starts;
+  counts = subst (λ (r : Run). Counts it.run r) (sym run) it.counts;
+}
+
+pub scanned_blank : (lines : Lines) (line : List ℕ) (old new : Scan) → Scanned lines old → Blank line
+    → new.place ≡ old.place + length line → new.last ≡ old.place + length (text_of line) → new.next ≡ old.last → new.start ≡ old.start → new.going ≡ false → new.some ≡ old.some → new.run ≡ old.run
+    → Scanned (lines ++ line ∷ []) new
+scanned_blank lines line old new it blank place last next start going some run = record {
+  place = place ∙ place_more lines line old.place it.place;
+  last = ends_more lines line old.place new.last it.place last;
+  next = λ is. (subst (λ (n : ℕ). StartsBehind (lines ++ line ∷ []) n) (sym next) (starts_more lines line old.last it.last), ends_blank lines line blank);
+  none = λ is. (all_more Blank lines line (it.none (sym some ∙ is)).0 blank, going);
+  some = λ is. run_behind_blank lines line old new blank (it.some (sym some ∙ is)) going start run;
+}
+
+run_goes_on : (lines : Lines) (line : List ℕ) (old new : Scan) → Filled line → (it : HasRun lines old) → it.after ≡ [] → new.start ≡ old.start → Counts (it.run ++ line ∷ []) new.run → HasRun (lines ++ line ∷ []) new
+run_goes_on lines line old new filled it none start counts = record {
+  before = it.before;
+  run = it.run ++ line ∷ [];
+  after = [];
+  last = filled_more lines it.before it.run line filled (subst (λ (after : Lines). IsLastRun lines it.before it.run after) none it.last);
+  going = λ is. refl;
+  starts = subst (λ (n : ℕ). StartsBehind it.before n) (sym start) it.starts;
+  counts = counts;
+}
+
+is_some : (some going : Bool) → (some ≡ false → going ≡ false) → going ≡ true → some ≡ true
+is_some true going none is = refl
+is_some false going none is = cc (none refl, is)
+
+pub scanned_next : (lines : Lines) (line : List ℕ) (old new : Scan) → Scanned lines old → Filled line → old.going ≡ true
+    → new.place ≡ old.place + length line → new.last ≡ old.place + length (text_of line) → new.start ≡ old.start → new.going ≡ true → new.some ≡ true
+    → ((run : Lines) → Counts run old.run → Counts (run ++ line ∷ []) new.run)
+    → Scanned (lines ++ line ∷ []) new
+scanned_next lines line old new it filled goes place last start going some counts =
+    let was : HasRun lines old = it.some (is_some old.some old.going (λ none. (it.none none).1) goes) in
+    record {
+      place = place ∙ place_more lines line old.place it.place;
+      last = ends_more lines line old.place new.last it.place last;
+      next = λ is. cc (going, is);
+      none = λ is. cc (some, is);
+      some = λ is. run_goes_on lines line old new filled was (was.going goes) start (counts was.run was.counts);
+    }
+
+run_begins : (lines : Lines) (line : List ℕ) (old new : Scan) → Filled line → StartsBehind lines old.next → EndsBlank lines → new.start ≡ old.next → Counts (line ∷ []) new.run → HasRun (lines ++ line ∷ []) new
+run_begins lines line old new filled starts ends start counts = record {
+  before = lines;
+  run = line ∷ [];
+  after = [];
+  last = filled_first lines line filled ends;
+  going = λ is. refl;
+  starts = subst (λ (n : ℕ). StartsBehind lines n) (sym start) starts;
+  counts = counts;
+}
+
+pub scanned_first : (lines : Lines) (line : List ℕ) (old new : Scan) → Scanned lines old → Filled line → old.going ≡ false
+    → new.place ≡ old.place + length line → new.last ≡ old.place + length (text_of line) → new.start ≡ old.next → new.going ≡ true → new.some ≡ true
+    → Counts (line ∷ []) new.run
+    → Scanned (lines ++ line ∷ []) new
+scanned_first lines line old new it filled goes place last start going some counts = record {
+  place = place ∙ place_more lines line old.place it.place;
+  last = ends_more lines line old.place new.last it.place last;
+  next = λ is. cc (going, is);
+  none = λ is. cc (some, is);
+  some = λ is. run_begins lines line old new filled (it.next goes).0 (it.next goes).1 start counts;
+}
+
+-- ---- the walk
+
+pub walked_first : (body : List ℕ) (it : Scan) → Scanned [] it → it.place ≡ 0 → it.run.trailers ≤ 0 → it.run.others ≤ 0 → IsWalked body body it
+walked_first body it scanned place trailers other = record {
+  lines = [];
+  joined = refl;
+  scanned = scanned;
+  place = omega arith;
+  trailers = omega arith;
+  others = omega arith;
+}
+
+pub walked_more : (body text line rest : List ℕ) (old new : Scan) → IsWalked body text old → IsFirstLine text line rest
+    → ((lines : Lines) → Scanned lines old → Scanned (lines ++ line ∷ []) new)
+    → new.place ≡ old.place + length line → new.run.trailers ≤ new.place → new.run.others ≤ new.place
+    → IsWalked body rest new
+walked_more body text line rest old new it first step place trailers other =
+    let joined : length text ≡ length line + length rest = ap length first.joined ∙ length-append line rest in
+    let before : old.place + length text ≡ length body = it.place in
+    record {
+      lines = it.lines ++ line ∷ [];
+      joined = it.joined ∙ ap (λ (ls : Lines). it.lines ++ ls) first.lines ∙ sym (apart it.lines (line ∷ []) (lines_of rest));
+      scanned = step it.lines it.scanned;
+      place = omega arith;
+      trailers = trailers;
+      others = other;
+    }
+
+pub walked_all : (body rest : List ℕ) (it : Scan) → IsWalked body rest it → rest ≡ [] → Scanned (lines_of body) it
+walked_all body rest it walked none =
+    subst (λ (ls : Lines). Scanned ls it) (sym (walked.joined ∙ ap (λ (text : List ℕ). walked.lines ++ lines_of text) none ∙ ap (λ (ls : Lines). walked.lines ++ ls) lines-nil ∙ none_behind walked.lines)) walked.scanned
+
+-- ---- its end
+
+-- what the counts say of a run
+abbrev SaysBlock : Run → Type 0
+SaysBlock it = ((0 < it.trailers) × (it.others ≡ 0)) ⊎ (IsTrue it.recognised × (it.others ≤ 3 * it.trailers))
+
+to_block : (run : Lines) (it : Run) → Counts run it → SaysBlock it → IsTrailerBlock run
+to_block run it counts (inl (some, none)) = inl (subst (λ (n : ℕ). 0 < n) counts.trailers some, sym counts.others ∙ none)
+to_block run it counts (inr (is, few)) =
+    inr (sym counts.recognised ∙ is, subst (λ (n : ℕ). n ≤ 3 * trailers_in run) counts.others (subst (λ (n : ℕ). it.others ≤ 3 * n) counts.trailers few))
+
+from_block : (run : Lines) (it : Run) → Counts run it → IsTrailerBlock run → SaysBlock it
+from_block run it counts (inl (some, none)) = inl (subst (λ (n : ℕ). 0 < n) (sym counts.trailers) some, counts.others ∙ none)
+from_block run it counts (inr (is, few)) =
+    inr (counts.recognised ∙ is, subst (λ (n : ℕ). n ≤ 3 * it.trailers) (sym counts.others) (subst (λ (n : ℕ). others false run ≤ 3 * n) (sym counts.trailers) few))
+
+pub block_here : (body : List ℕ) (it : Scan) (is : Bool) → Scanned (lines_of body) it → it.some ≡ true → (IsTrue is ↔ SaysBlock it.run) → is ≡ true → IsBlockStart body it.start
+block_here body it is scanned some says so =
+    let has : HasRun (lines_of body) it = scanned.some some in
+    inl (record { before = has.before; run = has.run; after = has.after; last = has.last; block = to_block has.run it.run has.counts (says.0 so); starts = has.starts })
+
+-- no other last run
+same_run : (lines before run after before2 run2 after2 : Lines) → IsLastRun lines before run after → IsLastRun lines before2 run2 after2 → run2 ≡ run
+same_run lines before run after before2 run2 after2 one other = ap (λ (it : Parts). it.run) (sym (parts_are lines before2 run2 after2 other) ∙ parts_are lines before run after one)
+
+pub no_block_here : (body : List ℕ) (it : Scan) (is : Bool) → Scanned (lines_of body) it → it.some ≡ true → (IsTrue is ↔ SaysBlock it.run) → is ≡ false → IsBlockStart body (length body)
+no_block_here body it is scanned some says not =
+    let has : HasRun (lines_of body) it = scanned.some some in
+    inr (
+      λ before run after last block.
+          let same : run ≡ has.run = same_run (lines_of body) has.before has.run has.after before run after has.last last in
+          let so : is ≡ true = says.1 (from_block has.run it.run has.counts (subst IsTrailerBlock same block)) in
+          cc (so, not),
+      refl,
+    )
+
+-- blank lines have no run
+in_blank : (before run after : Lines) → run ≢ [] → All Filled run → All Blank (before ++ run ++ after) → ⊥
+in_blank before [] after some filled blank = some refl
+in_blank [] (line ∷ run) after some filled blank =
+    let is : is_blank line ≡ true = All-head Blank line (run ++ after) blank in
+    let not : is_blank line ≡ false = All-head Filled line run filled in
+    cc (is, not)
+in_blank (one ∷ before) (line ∷ run) after some filled blank = in_blank before (line ∷ run) after some filled (All-tail Blank one (before ++ (line ∷ run) ++ after) blank)
+
+pub no_run_here : (body : List ℕ) (it : Scan) → Scanned (lines_of body) it → it.some ≡ false → IsBlockStart body (length body)
+no_run_here body it scanned none =
+    inr (λ before run after last block. in_blank before run after last.some last.none_blank (subst (λ (ls : Lines). All Blank ls) last.joined (scanned.none none).0), refl)

@@ -1,0 +1,37 @@
+-- The rows of titles and bodies, of the definitions.
+use Rattle.std.proofs.Common.{◌∷◌, inl, inr, refl, [], Some, None, codes}
+use Rattle.bstr.proofs.Computing.{computing}
+use Rattle.gixobj_text.specs.Titles.{SplitsTitle}
+use Rattle.gixobj_text.specs.Titles.IsBreak.{newline, return_and_newline}
+use Rattle.gixobj_text.proofs.Cuts.{least, never}
+
+both : SplitsTitle (codes "hello\n\nbody") (codes "hello") (Some (codes "body"))
+unfolding computing
+both = (
+  record {
+    here = record { first = 10 ∷ []; second = 10 ∷ []; breaks = (newline, newline); joined = refl };
+    least = λ front rest it. least 5 (codes "hello\n\nbody") front rest refl it;
+  },
+  λ none. cc none,
+)
+
+mixed : SplitsTitle (codes "hello\r\n\n\r\nbody") (codes "hello") (Some (codes "\r\nbody"))
+unfolding computing
+mixed = (
+  record {
+    here = record { first = 13 ∷ 10 ∷ []; second = 10 ∷ []; breaks = (return_and_newline, newline); joined = refl };
+    least = λ front rest it. least 5 (codes "hello\r\n\n\r\nbody") front rest refl it;
+  },
+  λ none. cc none,
+)
+
+no_body : SplitsTitle (codes "hello\n\n") (codes "hello") None
+unfolding computing
+no_body = inl (record {
+  here = record { first = 10 ∷ []; second = 10 ∷ []; breaks = (newline, newline); joined = refl };
+  least = λ front rest it. least 5 (codes "hello\n\n") front rest refl it;
+})
+
+no_breaks : SplitsTitle (codes "hello\nthere\n") (codes "hello\nthere\n") None
+unfolding computing
+no_breaks = inr (refl, λ front rest it. never (codes "hello\nthere\n") front rest refl it)

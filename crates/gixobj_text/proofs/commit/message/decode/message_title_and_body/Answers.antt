@@ -1,0 +1,11 @@
+use Rattle.bstr.specs.BStr.{bstr_bytes}
+use Rattle.gixobj_text.proofs.Cuts.{all_title, cut_here, empty_is, some_or_none}
+use Rattle.gixobj_text.proofs.commit.message.decode.message_title_and_body.Goals as goal
+
+pub returns-in-Some-behind_two : goal.returns-in-Some-behind_two
+returns-in-Some-behind_two c =
+    some_or_none c.args.message.now (bstr_bytes c.new.result) c.in-Some-behind_two.body.now c.some_body.result
+    (cut_here c.args.message.now c.places.rest.now c.in-Some-behind_two.body.now (bstr_bytes c.new.result) c.places.invariant c.in-Some-behind_two.ensures c.new.ensures) c.some_body.ensures
+
+pub returns : goal.returns
+returns c = all_title c.args.message.now c.places.rest.now (bstr_bytes c.new-2.result) c.places.invariant (empty_is c.places.rest.now c.in_default.ensures.cases) c.new-2.ensures

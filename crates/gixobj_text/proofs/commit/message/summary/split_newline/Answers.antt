@@ -1,0 +1,8 @@
+use Rattle.gixobj_text.proofs.Sums.{split_shorter, split_there}
+use Rattle.gixobj_text.proofs.commit.message.summary.split_newline.Goals as goal
+
+pub returns-in-Some : goal.returns-in-Some
+returns-in-Some c = (
+  split_there c.args.text.now c.split_at.result.0.now c.split_at-in-Some.result.1.now c.in-Some.place c.in-Some.ensures c.split_at.ensures.front c.split_at-in-Some.ensures.back,
+  split_shorter c.args.text.now c.split_at-in-Some.result.1.now c.in-Some.place c.in-Some.ensures c.split_at-in-Some.ensures.back,
+)

@@ -1,0 +1,39 @@
+-- The trailers of a text (git-interpret-trailers).
+use Rattle.std.specs.Prelude.{ℕ, Bool, true, false, List, [], ◌∷◌, Option, Some, None, filter, map}
+use Rattle.std.specs.Char.{is_whitespace}
+use Rattle.std.specs.List.{take_while}
+use Rattle.bstr.specs.Owned.{joined}
+use Rattle.bstr.specs.Text.{lines_of}
+use Rattle.bstr.specs.Trim.{trim_end_by, trim_start_by}
+use Rattle.gixobj_text.specs.BodyLines.{TrailerParts, is_folded, parts_of_line, text_of}
+
+-- a trailer
+pub record TrailerView : Type 0 where
+  pub token : List ℕ
+  pub value : List ℕ
+
+abbrev pub trimmed : List ℕ → List ℕ
+trimmed bytes = trim_end_by is_whitespace (trim_start_by is_whitespace bytes)
+
+abbrev pub is_filled : List ℕ → Bool
+is_filled [] = false
+is_filled (byte ∷ rest) = true
+
+-- a value of these lines: the one trimmed; or of several each trimmed, empty ones left out, and a space between
+abbrev pub unfolded : List ℕ → List (List ℕ) → List ℕ
+unfolded first [] = trimmed first
+unfolded first (second ∷ more) = joined (32 ∷ []) (filter is_filled (map trimmed (first ∷ second ∷ more)))
+
+-- a trailer's line adds its trailer, with the lines that follow it and belong to it
+abbrev pub with_trailer : Option TrailerParts → List (List ℕ) → List TrailerView → List TrailerView
+with_trailer None following trailers = trailers
+with_trailer (Some parts) following trailers = (record { token = parts.0; value = unfolded parts.1 (map text_of following) }) ∷ trailers
+
+-- the trailers of lines: a line that belongs to a trailer is none itself, and other lines are passed over
+abbrev pub trailers_of : List (List ℕ) → List TrailerView
+trailers_of [] = []
+trailers_of (line ∷ lines) = with_trailer (parts_of_line line) (take_while is_folded lines) (trailers_of lines)
+
+-- those of a text
+abbrev pub trailers_of_text : List ℕ → List TrailerView
+trailers_of_text text = trailers_of (lines_of text)

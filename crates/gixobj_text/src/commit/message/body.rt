@@ -1,0 +1,15 @@
+//! Bodies: their trailers, and their messages with the trailers that follow each (git-interpret-trailers,
+//! "DESCRIPTION").
+
+mod blocks;
+mod filters;
+mod lines;
+mod run;
+mod scan;
+mod trailer_lines;
+mod trailers;
+
+pub use blocks::{MessageBlock, MessageBlocks};
+pub use filters::Filtered;
+pub(super) use scan::block_start;
+pub use trailers::{TrailerRef, Trailers};

@@ -1,0 +1,125 @@
+//! What is known of the lines of a run.
+ghost use Rattle.std.specs.Prelude.{◌≡◌, ◌+◌, ◌*◌, ◌<◌, ◌≤◌, ◌^◌, ◌||◌, ◌↔◌, ◌⊎◌, IsTrue, cond, true, false};
+ghost use Rattle.gixobj_text.specs.BodyLines.{is_indented as is_indented_of, is_recognised as is_recognised_of};
+ghost use Rattle.gixobj_text.specs.TrailerBlocks.{is_trailing as is_trailing_of};
+
+use crate::commit::message::body::lines::line_text;
+use crate::commit::message::body::trailer_lines::is_trailer_line;
+
+/// What is known of the lines of a run.
+#[derive(Clone, Copy, Debug)]
+pub(crate) struct Run {
+    /// How many lines count as trailers.
+    trailers: usize,
+    /// How many lines are others.
+    others: usize,
+    /// Whether a line is one that git makes.
+    recognised: bool,
+    /// Whether the nearest line that isn't indented is a trailer.
+    above: bool,
+}
+
+/// Whether a line's text begins with white space.
+pub(crate) fn is_indented(line: &[u8]) -> bool
+    ensures { result ≡ is_indented_of line.now }
+{
+    match line_text(line).split_first() {
+        Some((byte, _)) => byte.is_ascii_whitespace(),
+        None => false,
+    }
+}
+
+/// Whether git itself makes such a line.
+fn is_recognised(line: &[u8]) -> bool
+    ensures { result ≡ is_recognised_of line.now }
+{
+    let text = line_text(line);
+    text.starts_with(b"Signed-off-by: ") || text.starts_with(b"(cherry picked from commit ")
+}
+
+/// Whether a line counts as a trailer.
+fn is_trailing(line: &[u8]) -> bool
+    ensures { result ≡ is_trailing_of line.now }
+{
+    is_recognised(line) || is_trailer_line(line)
+}
+
+/// How many others a line adds.
+fn other_of(trailing: bool, indented: bool, above: bool) -> usize
+    ensures is { result ≡ cond trailing 0 (cond indented (cond above 0 1) 1) }
+    ensures few { result ≤ 1 }
+{
+    if trailing || indented && above { 0 } else { 1 }
+}
+
+/// How many trailers a line adds.
+fn trailer_of(trailing: bool) -> usize
+    ensures is { result ≡ cond trailing 1 0 }
+    ensures few { result ≤ 1 }
+{
+    if trailing { 1 } else { 0 }
+}
+
+/// Whether the nearest line that isn't indented is a trailer, behind a line more.
+fn above_behind(trailing: bool, indented: bool, above: bool) -> bool
+    ensures { result ≡ cond trailing true (cond indented above false) }
+{
+    trailing || indented && above
+}
+
+impl Run {
+    ghost use Rattle.std.specs.Prelude.{ℕ, List, [], ◌∷◌, ◌++◌};
+    ghost use Rattle.gixobj_text.specs.Counting.{Counts, other_of as other_of_of};
+
+    /// Of no lines.
+    pub(crate) fn new() -> Run
+        ensures counts { Counts [] result }
+        ensures trailers { result.trailers ≡ 0 }
+        ensures others { result.others ≡ 0 }
+    {
+        Run {
+            trailers: 0,
+            others: 0,
+            recognised: false,
+            above: false,
+        }
+    }
+
+    /// With a line more.
+    pub(crate) fn with_line(self, line: &[u8]) -> Run
+        requires trailers { self.trailers + 1 < 2 ^ 64 }
+        requires others { self.others + 1 < 2 ^ 64 }
+        ensures few_trailers { result.trailers ≤ self.trailers + 1 }
+        ensures few_others { result.others ≤ self.others + 1 }
+        ensures trailers { result.trailers ≡ self.trailers + cond (is_trailing_of line.now) 1 0 }
+        ensures others { result.others ≡ self.others + other_of_of self.above line.now }
+        ensures recognised { result.recognised ≡ (self.recognised || is_recognised_of line.now) }
+        ensures above { result.above ≡ cond (is_trailing_of line.now) true (cond (is_indented_of line.now) self.above false) }
+    {
+        let (trailing, indented) = (is_trailing(line), is_indented(line));
+        Run {
+            trailers: self.trailers + trailer_of(trailing),
+            others: self.others + other_of(trailing, indented, self.above),
+            recognised: self.recognised || is_recognised(line),
+            above: above_behind(trailing, indented, self.above),
+        }
+    }
+
+    /// Whether a run with these counts is a block of trailers.
+    pub(crate) fn is_block(self) -> bool
+        ensures { IsTrue result ↔ ((0 < self.trailers) × (self.others ≡ 0)) ⊎ (IsTrue self.recognised × (self.others ≤ 3 * self.trailers)) }
+    {
+        if self.trailers > 0 && self.others == 0 {
+            return true;
+        }
+        self.recognised && is_within(self.others, self.trailers)
+    }
+}
+
+/// Whether the number is at most three times the other.
+fn is_within(number: usize, other: usize) -> bool
+    ensures { IsTrue result ↔ (number ≤ 3 * other) }
+{
+    let (third, rest) = (number / 3, number % 3);
+    third < other || third == other && rest == 0
+}

@@ -1,0 +1,57 @@
+//! The title and the body of a message (git-commit, "DISCUSSION").
+ghost use Rattle.std.specs.Prelude.{◌≡◌, ◌≢◌, [], MatchOption};
+ghost use Rattle.std.specs.Option.{option_map};
+ghost use Rattle.bstr.specs.BStr.{bstr_bytes};
+ghost use Rattle.gixobj_texts.specs.Optional.{bytes_if_some};
+ghost use Rattle.gixobj_text.specs.Breaks.{behind_break as behind_break_of, behind_two as behind_two_of};
+ghost use Rattle.gixobj_text.specs.Titles.{SplitsTitle};
+
+use bstr::BStr;
+
+/// What stands behind a line break at the front.
+fn behind_break(text: &[u8]) -> Option<&[u8]>
+    ensures { option_map (λ it. it.now) result ≡ behind_break_of text.now }
+{
+    match text {
+        [b'\n', rest @ ..] => Some(rest),
+        [b'\r', b'\n', rest @ ..] => Some(rest),
+        _ => None,
+    }
+}
+
+/// What stands behind two line breaks at the front.
+fn behind_two(text: &[u8]) -> Option<&[u8]>
+    ensures { option_map (λ it. it.now) result ≡ behind_two_of text.now }
+{
+    match behind_break(text) {
+        Some(rest) => behind_break(rest),
+        None => None,
+    }
+}
+
+/// The body, where it isn't empty.
+fn some_body(body: &[u8]) -> Option<BStr<'_>>
+    ensures { MatchOption result (body.now ≡ []) (λ it. (bstr_bytes it ≡ body.now) × (body.now ≢ [])) }
+{
+    if body.is_empty() {
+        None
+    } else {
+        Some(BStr::new(body))
+    }
+}
+
+/// The title and the body of a message, without the two line breaks between them.
+#[tactic(auto, using(crate::proofs::Cuts::uncut_first, crate::proofs::Cuts::uncut_more, crate::proofs::Cuts::all_title))]
+pub(super) fn message_title_and_body(message: &[u8]) -> (BStr<'_>, Option<BStr<'_>>)
+    ensures { SplitsTitle message.now (bstr_bytes result.0) (bytes_if_some result.1) }
+{
+    let mut rest = message;
+    'places: while let Some((_, behind)) = rest.split_first() {
+        if let Some(body) = behind_two(rest) {
+            let title = &message[..message.len() - rest.len()];
+            return (BStr::new(title), some_body(body));
+        }
+        rest = behind;
+    }
+    (BStr::new(message), None)
+}

@@ -1,0 +1,111 @@
+//! The summary of a text: its first lines on one line (git-log, "PRETTY FORMATS", `%s`).
+ghost use Rattle.std.specs.Prelude.{◌≡◌, ◌<◌, ◌++◌, ◌∷◌, [], IfErr, IfOk, MatchOption, true, length};
+ghost use Rattle.std.specs.Char.{is_whitespace};
+ghost use Rattle.std.specs.Cow.{cow_slice_items};
+ghost use Rattle.bstr.specs.Trim.{trim_end_by};
+ghost use Rattle.gixobj_text.specs.GivingTrailers.{is_owned};
+ghost use Rattle.gixobj_text.specs.Summing.{is_of_lines};
+ghost use Rattle.gixobj_text.specs.Titles.{is_trailing_space as is_trailing_space_of, pieces_of, summary_of, summary_of_pieces, without_trailing as without_trailing_of};
+
+use bstr::ByteSlice;
+use gixobj_ids::memory::OutOfMemory;
+use std::alloc::{AllocError, Global};
+use std::borrow::CowSlice;
+
+/// The summary of a text: borrowed where it has one line, and else its lines joined by spaces, up to the
+/// first empty one.
+///
+/// `OutOfMemory` where memory is wanting, which a text of one line takes none of.
+#[tactic(auto, using(crate::proofs::Sums::one_piece, crate::proofs::Sums::of_one, crate::proofs::Sums::of_more))]
+pub fn summary<'a>(alloc: Global, text: &'a [u8]) -> Result<CowSlice<'a, u8>, OutOfMemory>
+    ensures value { IfOk result (λ it. cow_slice_items it ≡ summary_of text.now) }
+    ensures owned { IfOk result (λ it. is_owned it ≡ is_of_lines text.now) }
+    ensures refusal { IfErr result (λ _. is_of_lines text.now ≡ true) }
+{
+    let inner = text.trim();
+    match split_newline(inner) {
+        None => Ok(CowSlice::Borrowed(inner)),
+        Some((first, rest)) => {
+            let value = joined_lines(alloc, first, rest)?;
+            Ok(CowSlice::Owned(value))
+        }
+    }
+}
+
+/// The piece before the first newline, and what stands behind it.
+#[tactic(auto, using(crate::proofs::Sums::split_there, crate::proofs::Sums::split_nowhere))]
+fn split_newline(text: &[u8]) -> Option<(&[u8], &[u8])>
+    ensures { MatchOption result (pieces_of text.now ≡ text.now ∷ [])
+        (λ it. (pieces_of text.now ≡ it.0.now ∷ pieces_of it.1.now) × (length it.1.now < length text.now)) }
+{
+    match text.find_byte(b'\n') {
+        Some(place) => {
+            let (piece, _) = text.split_at(place);
+            let (_, rest) = text.split_at(place + 1);
+            Some((piece, rest))
+        }
+        None => None,
+    }
+}
+
+/// A tab, a newline, a form feed, a return or a space.
+fn is_trailing_space(byte: u8) -> bool
+    ensures { result ≡ is_trailing_space_of byte }
+{
+    byte == b'\t' || byte == b'\n' || byte == 12 || byte == b'\r' || byte == b' '
+}
+
+/// A piece without its trailing spaces.
+#[tactic(auto, using(crate::proofs::Sums::space_more, crate::proofs::Sums::space_ends, crate::proofs::Sums::space_none))]
+fn without_trailing(piece: &[u8]) -> &[u8]
+    ensures { result.now ≡ without_trailing_of piece.now }
+{
+    let mut rest = piece;
+    'bytes: while let Some((byte, front)) = rest.split_last() {
+        if !is_trailing_space(*byte) {
+            return rest;
+        }
+        rest = front;
+    }
+    rest
+}
+
+/// A space and a piece more.
+fn push_spaced(value: &mut Vec<u8>, piece: &[u8]) -> Result<(), AllocError>
+    ensures { IfOk result (λ _. value.new.items ≡ value.old.items ++ 32 ∷ piece.now) }
+{
+    value.push(b' ')?;
+    value.extend_from_slice(piece)
+}
+
+/// Without white space at the end.
+#[tactic(auto, using(crate::proofs::Sums::take_same))]
+fn trimmed_end(value: Vec<u8>) -> Vec<u8>
+    ensures { result.items ≡ trim_end_by is_whitespace value.items }
+{
+    let mut value = value;
+    let count = value.as_slice().trim_end().len();
+    value.truncate(count);
+    value
+}
+
+/// The summary of a first piece and of what stands behind its newline.
+#[tactic(auto, using(crate::proofs::Sums::begins, crate::proofs::Sums::piece_more, crate::proofs::Sums::piece_ends, crate::proofs::Sums::last_piece, crate::proofs::Sums::last_none))]
+fn joined_lines(alloc: Global, first: &[u8], rest: &[u8]) -> Result<Vec<u8>, AllocError>
+    ensures { IfOk result (λ it. it.items ≡ summary_of_pieces (first.now ∷ pieces_of rest.now)) }
+{
+    let mut value = Vec::from_slice(alloc, without_trailing(first))?;
+    let mut left = rest;
+    'pieces: while let Some((piece, behind)) = split_newline(left) {
+        if piece.is_empty() {
+            return Ok(trimmed_end(value));
+        }
+        push_spaced(&mut value, without_trailing(piece))?;
+        left = behind;
+    }
+    if left.is_empty() {
+        return Ok(trimmed_end(value));
+    }
+    push_spaced(&mut value, left)?;
+    Ok(value)
+}
