@@ -1,11 +1,11 @@
--- What keeping trees makes of a store, and what stops it.
+-- What keeping trees and commits makes of a store, and what stops it.
 use Rattle.std.specs.Prelude.{◌≡◌, ◌⊎◌, ℕ, Bool, IsTrue, List, [], ◌∷◌, All, Some, slice_get, take, ⊤}
 use Rattle.std.specs.FinMap as map
 use Rattle.gixobj_data.specs.Stores.{Objects, StoredObject}
 use Rattle.gixobj_fields.specs.Writing.{Refused, RefusesNothing}
 use Rattle.gixobj_ids.specs.Hash.{id_kind}
 use Rattle.gixobj_ids.specs.declared.hash.object_id.ObjectId.{ObjectId}
-use Rattle.gixobj_ids.specs.declared.kind.Kind.TheVariants.{Tree}
+use Rattle.gixobj_ids.specs.declared.kind.Kind.TheVariants.{Commit, Tree}
 use Rattle.gixobj_trees.specs.Entries.{EntryView}
 use Rattle.gixobj_trees.specs.TreeText.{RefusesTree, tree_text}
 use Rattle.gixobj_keeping.specs.declared.KeepError.{KeepError}
@@ -48,3 +48,18 @@ pub record StopsKeeping (may_fail : ObjectId → Bool) (trees : List Kept) (old 
   pub refusal : RefusesKeep may_fail refused.0 refused.1 error
   pub kept : new ≡ with_trees (take number trees) old
   pub have_texts : All (λ it. HasText it.1) (take number trees)
+
+-- ---- commits
+
+-- the bytes as a commit, with ids of this one's kind
+abbrev pub commit_object : ObjectId → List ℕ → StoredObject
+commit_object id bytes = record { kind = Commit; object_hash = id_kind id; bytes = bytes }
+
+-- the commit is put in under its id, and all else stays
+abbrev pub with_commit : ObjectId → List ℕ → Objects → Objects
+with_commit id bytes objects = map.insert objects id (commit_object id bytes)
+
+-- why a commit isn't kept: the store failed, and lookups of this id may fail; or memory was wanting
+abbrev pub RefusesKeepCommit : (ObjectId → Bool) → ObjectId → KeepError → Type 0
+RefusesKeepCommit may_fail id (Store message) = IsTrue (may_fail id)
+RefusesKeepCommit may_fail id OutOfMemory = ⊤

@@ -1,9 +1,9 @@
-//! What a store is that keeps trees, and trees kept in order.
+//! What a store is that keeps trees, and one that keeps commits, and trees kept in order.
 #![tactic(auto)]
 
 ghost use Rattle.std.specs.Prelude.{◌≡◌, All, IfErr, OnErr, OnOk};
 ghost use Rattle.gixobj_ids.specs.declared.hash.object_id.ObjectId.{ObjectId};
-ghost use Rattle.gixobj_keeping.specs.Keeping.{HasText, RefusesKeep, StopsKeeping, with_tree, with_trees};
+ghost use Rattle.gixobj_keeping.specs.Keeping.{HasText, RefusesKeep, RefusesKeepCommit, StopsKeeping, with_commit, with_tree, with_trees};
 
 use bstr::BString;
 use gixobj_data::Find;
@@ -12,7 +12,7 @@ use gixobj_ids::hash::ObjectId;
 use gixobj_trees::Tree;
 use std::alloc::{AllocError, AllocFailed};
 
-/// The refusal of a store to keep a tree.
+/// The refusal of a store to keep a tree or a commit.
 #[derive(Debug, Drop, thiserror::Error)]
 pub enum KeepError {
     /// The store could not keep it, for the reason that it gives.
@@ -69,6 +69,21 @@ pub trait Keep: Find {
         ensures has_text { OnOk result (HasText tree.now) }
         ensures unchanged { OnErr result (Self.objects self.new ≡ Self.objects self.old) }
         ensures refusal { IfErr result (RefusesKeep (Self.may_fail self.old) id tree.now) }
+        ensures may_fail { (other : ObjectId) → Self.may_fail self.new other ≡ Self.may_fail self.old other };
+}
+
+/// A store that keeps commits, and in which they are found.
+pub trait KeepCommit: Find {
+    /// Puts a commit of these bytes in under this id, with ids of the kind of this id, in place of
+    /// what the id named before. The bytes aren't judged.
+    ///
+    /// `Store` only for an id whose lookup may fail, with the store's own message, and
+    /// `OutOfMemory` where memory was wanting; the store means what it did. For which ids a lookup
+    /// may fail never changes.
+    fn keep_commit(&mut self, id: ObjectId, bytes: &[u8]) -> Result<(), KeepError>
+        ensures kept { OnOk result (Self.objects self.new ≡ with_commit id bytes.now (Self.objects self.old)) }
+        ensures unchanged { OnErr result (Self.objects self.new ≡ Self.objects self.old) }
+        ensures refusal { IfErr result (RefusesKeepCommit (Self.may_fail self.old) id) }
         ensures may_fail { (other : ObjectId) → Self.may_fail self.new other ≡ Self.may_fail self.old other };
 }
 

@@ -12,8 +12,8 @@ use Rattle.gixobj_ids.specs.Hash.{id_kind}
 use Rattle.gixobj_ids.specs.Hash.Order.{id_cmp}
 use Rattle.gixobj_ids.specs.declared.hash.kind.Kind.{Kind}
 use Rattle.gixobj_ids.specs.declared.hash.object_id.ObjectId.{ObjectId}
-use Rattle.gixobj_ids.specs.declared.kind.Kind.TheVariants.{Tree}
-use Rattle.gixobj_keeping.specs.Keeping.{tree_object, with_tree}
+use Rattle.gixobj_ids.specs.declared.kind.Kind.TheVariants.{Commit, Tree}
+use Rattle.gixobj_keeping.specs.Keeping.{commit_object, tree_object, with_commit, with_tree}
 use Rattle.gixobj_trees.specs.Entries.{EntryView}
 use Rattle.gixobj_trees.specs.TreeText.{tree_text}
 use Rattle.gixobj_store.specs.Memory.{memory_objects, stored_object}
@@ -48,3 +48,10 @@ put_tree before after id tree hash front bytes same_hash none written updates =
     let same : bytes.items ≡ tree_text tree = written ∙ ap (λ (start : List ℕ). start ++ tree_text tree) none in
     let same_object : ◌≡◌ {A = StoredObject} (record { kind = Tree; object_hash = hash; bytes = bytes.items }) (tree_object id tree) = λ i. record { kind = Tree; object_hash = same_hash i; bytes = same i } in
     put before after id (record { kind = Tree; object_hash = hash; bytes = bytes }) updates ∙ ap (finite.insert (memory_objects before) id) same_object
+
+-- a commit was put in
+pub put_commit : (before after : Memory) (id : ObjectId) (hash : Kind) (bytes : Vec ℕ Global) (text : List ℕ) → hash ≡ id_kind id → bytes.items ≡ text
+    → Updates id_cmp before.objects after.objects id (Some (record { kind = Commit; object_hash = hash; bytes = bytes })) → memory_objects after ≡ with_commit id text (memory_objects before)
+put_commit before after id hash bytes text same_hash same updates =
+    let same_object : ◌≡◌ {A = StoredObject} (record { kind = Commit; object_hash = hash; bytes = bytes.items }) (commit_object id text) = λ i. record { kind = Commit; object_hash = same_hash i; bytes = same i } in
+    put before after id (record { kind = Commit; object_hash = hash; bytes = bytes }) updates ∙ ap (finite.insert (memory_objects before) id) same_object

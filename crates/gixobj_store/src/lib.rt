@@ -14,7 +14,7 @@ use gixobj_data::{Data, Exists, Find, FindHeader, Store, find};
 use gixobj_fields::{WriteTo, encode};
 use gixobj_ids::hash::{ObjectId, oid};
 use gixobj_ids::{Header, Kind, OutOfMemory, compute_hash, hash};
-use gixobj_keeping::{Keep, KeepError};
+use gixobj_keeping::{Keep, KeepCommit, KeepError};
 use gixobj_trees::Tree;
 use std::alloc::Global;
 use std::collections::BTreeMap;
@@ -138,6 +138,19 @@ impl Keep for Memory {
             bytes,
         };
         self.objects.insert(id, written)?;
+        Ok(())
+    }
+}
+
+/// A commit is kept, but for want of memory.
+impl KeepCommit for Memory {
+    fn keep_commit(&mut self, id: ObjectId, bytes: &[u8]) -> Result<(), KeepError> {
+        let commit = Stored {
+            kind: Kind::Commit,
+            object_hash: id.kind(),
+            bytes: Vec::from_slice(self.alloc, bytes)?,
+        };
+        self.objects.insert(id, commit)?;
         Ok(())
     }
 }
