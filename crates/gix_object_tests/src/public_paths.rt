@@ -18,9 +18,16 @@ mod of_actors {
 mod of_commit {
     pub use gix_object::commit::{
         BorrowedHeaders, Commit, CommitRef, CommitRefIter, ExtraHeaders, FindAll, Mergetags,
-        OwnedHeaders, Parents, SIGNATURE_FIELD_NAME, SIGNATURE_FIELD_NAME_SHA256, ref_iter,
-        signature_field_name,
+        MessageRef, OwnedHeaders, Parents, SIGNATURE_FIELD_NAME, SIGNATURE_FIELD_NAME_SHA256,
+        message, ref_iter, signature_field_name,
     };
+}
+
+mod of_message {
+    pub use gix_object::commit::message::body::{
+        Filtered, MessageBlock, MessageBlocks, TrailerRef, Trailers,
+    };
+    pub use gix_object::commit::message::{BodyRef, body};
 }
 
 mod of_ref_iter {

@@ -12,6 +12,8 @@ mod helpers;
 #[cfg(test)]
 mod laws;
 #[cfg(test)]
+mod messages;
+#[cfg(test)]
 mod objects;
 #[cfg(test)]
 mod public_paths;

@@ -11,9 +11,16 @@ mod root {
 mod of_commit {
     pub use gixobj_codec::commit::{
         BorrowedHeaders, Commit, CommitRef, CommitRefIter, ExtraHeaders, FindAll, Mergetags,
-        OwnedHeaders, Parents, SIGNATURE_FIELD_NAME, SIGNATURE_FIELD_NAME_SHA256, ref_iter,
-        signature_field_name,
+        MessageRef, OwnedHeaders, Parents, SIGNATURE_FIELD_NAME, SIGNATURE_FIELD_NAME_SHA256,
+        message, ref_iter, signature_field_name,
     };
+}
+
+mod of_message {
+    pub use gixobj_codec::commit::message::body::{
+        Filtered, MessageBlock, MessageBlocks, TrailerRef, Trailers,
+    };
+    pub use gixobj_codec::commit::message::{BodyRef, body};
 }
 
 mod of_data {
@@ -35,6 +42,13 @@ mod of_laws {
         commit_reads_and_writes, commit_writes_back, header_reads_back, hex_spells_one_id,
         owned_forms_have_the_parts, owned_headers_are_found, owned_mergetags_are_found, readers,
         tokens,
+    };
+}
+
+mod of_laws_of_messages {
+    pub use gixobj_codec::laws::{
+        bodies_have_one_block_start, messages_are_split_once, messages_have_one_list_of_trailers,
+        parts_are_the_body, readers_give_all, trailer_lines_are_read,
     };
 }
 

@@ -17,6 +17,7 @@ mod ids;
 mod kinds;
 mod listed_trees;
 mod loose_objects;
+mod messages;
 mod objects;
 mod recorded;
 mod scripts;

@@ -15,6 +15,7 @@ use crate::ids::{id_answer, object_id_answer};
 use crate::kinds::kind_answer;
 use crate::listed_trees::{listed_tree_answer, well_formed_answer};
 use crate::loose_objects::object_answer;
+use crate::messages::{body_answer, message_answer, named_answer};
 use crate::recorded::tables::{Recorded, behind_source, named_parts};
 use crate::scripts::{command_answer, script_answer};
 use crate::tags::{name_answer, tag_answer, tag_token_answer};
@@ -42,6 +43,14 @@ pub(crate) enum Table {
     CommitSizes,
     /// Commits told token by token.
     CommitTokens,
+    /// Messages cut into titles and bodies, and their summaries.
+    Messages,
+    /// Bodies, their trailers and blocks.
+    Bodies,
+    /// Texts of messages and bodies.
+    MessageTexts,
+    /// Trailers of bodies of which git tells.
+    GitTrailers,
     /// Tags read whole and written.
     Tags,
     /// Tags told token by token.
@@ -118,6 +127,10 @@ pub(crate) const TABLES: &[Table] = &[
     Table::Commits,
     Table::CommitSizes,
     Table::CommitTokens,
+    Table::Messages,
+    Table::Bodies,
+    Table::MessageTexts,
+    Table::GitTrailers,
     Table::Tags,
     Table::TagTokens,
     Table::TagNames,
@@ -163,6 +176,10 @@ impl Recorded for Table {
             Table::Commits => ("commits", "commits.tsv"),
             Table::CommitSizes => ("commit sizes", "commit-sizes.tsv"),
             Table::CommitTokens => ("commit tokens", "commit-tokens.tsv"),
+            Table::Messages => ("messages", "messages.tsv"),
+            Table::Bodies => ("bodies", "bodies.tsv"),
+            Table::MessageTexts => ("message texts", "message-texts.tsv"),
+            Table::GitTrailers => ("git trailers", "git-trailers.tsv"),
             Table::Tags => ("tags", "tags.tsv"),
             Table::TagTokens => ("tag tokens", "tag-tokens.tsv"),
             Table::TagNames => ("tag names", "tag-names.tsv"),
@@ -208,6 +225,9 @@ impl Recorded for Table {
             Table::Commits => commit_answer(alloc, question),
             Table::CommitSizes => size_answer(alloc, question),
             Table::CommitTokens => token_answer(alloc, question),
+            Table::Messages => message_answer(alloc, question),
+            Table::Bodies => body_answer(alloc, question),
+            Table::MessageTexts | Table::GitTrailers => named_answer(alloc, question),
             Table::Tags => tag_answer(alloc, question),
             Table::TagTokens => tag_token_answer(alloc, question),
             Table::TagNames => name_answer(alloc, question),
@@ -253,6 +273,8 @@ impl Recorded for Table {
             | Table::Commits
             | Table::CommitSizes
             | Table::CommitTokens
+            | Table::Messages
+            | Table::Bodies
             | Table::Tags
             | Table::TagTokens
             | Table::TagNames
