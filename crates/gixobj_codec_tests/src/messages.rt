@@ -32,11 +32,11 @@ fn filters_are_right(alloc: Global, commit: &CommitRef<'_>) -> Result<bool, OutO
     let authors = values(alloc, commit.author_trailers(alloc))?;
     let all = values(alloc, commit.attribution_trailers(alloc))?;
     Ok(
-        signed.as_slice() == b"1"
-            && co_authored.as_slice() == b"2"
-            && assisted.as_slice() == b"3"
-            && authors.as_slice() == b"12"
-            && all.as_slice() == b"123456",
+        signed.as_slice() == b"1".as_slice()
+            && co_authored.as_slice() == b"2".as_slice()
+            && assisted.as_slice() == b"3".as_slice()
+            && authors.as_slice() == b"12".as_slice()
+            && all.as_slice() == b"123456".as_slice(),
     )
 }
 
@@ -56,7 +56,8 @@ fn told(alloc: Global) -> Option<(usize, bool)> {
     let commit = CommitRef::from_bytes(alloc, SIGNED, Sha1).ok()?;
     let message = commit.message();
     let summary = commit.message_summary(alloc).ok()?;
-    let same = message.title == BStr::new(b"title\nmore") && summary.as_slice() == b"title more";
+    let same = message.title == BStr::new(b"title\nmore")
+        && summary.as_slice() == b"title more".as_slice();
     let mut count = 0usize;
     for trailer in commit.message_trailers(alloc) {
         let _ = trailer.ok()?;
