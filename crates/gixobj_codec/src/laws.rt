@@ -21,8 +21,9 @@ pub use gixobj_tags::laws::{
     owned_tags_have_the_parts, tag_has_one_reading, tag_reads_and_writes, tag_writes_back,
 };
 pub use gixobj_text::laws::{
-    bodies_have_one_block_start, messages_are_split_once, messages_have_one_list_of_trailers,
-    parts_are_the_body, readers_give_all, trailer_lines_are_read,
+    bodies_have_one_block_start, bodies_have_one_list_of_blocks, messages_are_split_once,
+    messages_have_one_list_of_trailers, parts_are_the_body, readers_give_all,
+    trailer_lines_are_read,
 };
 pub use gixobj_tokens::laws::{readers, tokens};
 pub use gixobj_tree_readers::laws::{tree_has_one_reading, tree_reads_back, tree_writes_back};

@@ -8,13 +8,13 @@ use Rattle.gixobj_texts.specs.Optional.{bytes_if_some}
 use Rattle.std.specs.Prelude.{MatchOption}
 use Rattle.gixobj_text.specs.Breaks.{IsUncut, are_two, behind_break, behind_next, behind_return, behind_two, none_before, nowhere}
 use Rattle.gixobj_text.specs.Titles.{HasBreaks, IsBreak, IsCut, SplitsTitle}
-use Rattle.gixobj_text.specs.Titles.IsBreak.{newline, return_and_newline}
+use Rattle.gixobj_text.specs.Titles.IsBreak.{alone, after_return}
 
 two_are : (first second rest : List ℕ) → IsBreak first → IsBreak second → are_two (first ++ second ++ rest) ≡ true
-two_are first second rest newline newline = refl
-two_are first second rest newline return_and_newline = refl
-two_are first second rest return_and_newline newline = refl
-two_are first second rest return_and_newline return_and_newline = refl
+two_are first second rest alone alone = refl
+two_are first second rest alone after_return = refl
+two_are first second rest after_return alone = refl
+two_are first second rest after_return after_return = refl
 
 apart : (a b : Bool) → (not a && b) ≡ true → (a ≡ false) × (b ≡ true)
 apart true b so = cc so
@@ -26,8 +26,8 @@ not_here text rest none it =
     cc (sym none ∙ here)
 
 not_in_nothing : (front first second rest : List ℕ) → IsBreak first → [] ≡ front ++ first ++ second ++ rest → ⊥
-not_in_nothing [] first second rest newline is = cc is
-not_in_nothing [] first second rest return_and_newline is = cc is
+not_in_nothing [] first second rest alone is = cc is
+not_in_nothing [] first second rest after_return is = cc is
 not_in_nothing (byte ∷ front) first second rest it is = cc is
 
 behind : (byte one : ℕ) (text front rest : List ℕ) → HasBreaks (byte ∷ text) (one ∷ front) rest → HasBreaks text front rest
@@ -64,7 +64,7 @@ one_byte : (one : ℕ) (rest found : List ℕ) → one ≡ 10 → rest ≡ found
 one_byte one rest found first is = cc (first, is)
 
 return_by : (b : Bool) (byte two : ℕ) (rest found : List ℕ) → byte ≡ 13 → (two == 10) ≡ b → cond b (Some rest) None ≡ Some found → IsBroken (byte ∷ two ∷ rest) found
-return_by true byte two rest found first second is = (13 ∷ 10 ∷ [], return_and_newline, two_bytes byte two rest found first (eqb-true two 10 second) (cc is))
+return_by true byte two rest found first second is = (13 ∷ 10 ∷ [], after_return, two_bytes byte two rest found first (eqb-true two 10 second) (cc is))
 return_by false byte two rest found first second is = cc is
 
 return_behind : (byte : ℕ) (rest found : List ℕ) → byte ≡ 13 → behind_return rest ≡ Some found → IsBroken (byte ∷ rest) found
@@ -72,7 +72,7 @@ return_behind byte [] found first is = cc is
 return_behind byte (two ∷ rest) found first is = return_by (two == 10) byte two rest found first refl is
 
 break_by : (b c : Bool) (byte : ℕ) (rest found : List ℕ) → (byte == 10) ≡ b → (byte == 13) ≡ c → cond b (Some rest) (cond c (behind_return rest) None) ≡ Some found → IsBroken (byte ∷ rest) found
-break_by true c byte rest found first second is = (10 ∷ [], newline, one_byte byte rest found (eqb-true byte 10 first) (cc is))
+break_by true c byte rest found first second is = (10 ∷ [], alone, one_byte byte rest found (eqb-true byte 10 first) (cc is))
 break_by false true byte rest found first second is = return_behind byte rest found (eqb-true byte 13 second) is
 break_by false false byte rest found first second is = cc is
 

@@ -6,7 +6,7 @@ use Rattle.gixobj_text.specs.Breaks.{behind_two}
 use Rattle.gixobj_text.specs.BodyLines.{text_of}
 use Rattle.gixobj_text.specs.MessageTrailers.{BodyHasTrailers, HasTrailers}
 use Rattle.gixobj_text.specs.Titles.{HasBreaks, IsBreak, IsCut, SplitsTitle}
-use Rattle.gixobj_text.specs.Titles.IsBreak.{newline, return_and_newline}
+use Rattle.gixobj_text.specs.Titles.IsBreak.{alone, after_return}
 use Rattle.gixobj_text.specs.TrailerBlocks.{HasBlock, IsBlockStart, StartsBehind}
 use Rattle.gixobj_text.specs.Trailers.{TrailerView, trailers_of_text}
 use Rattle.gixobj_text.proofs.LastRuns.{Parts, parts_are}
@@ -30,10 +30,10 @@ same_front (byte ∷ a) (other ∷ b) x y long is =
     (ap (λ (n : ℕ). n ∷ a) heads ∙ ap (λ (bytes : List ℕ). other ∷ bytes) tails.0, tails.1)
 
 behind : (first second rest : List ℕ) → IsBreak first → IsBreak second → behind_two (first ++ second ++ rest) ≡ Some rest
-behind first second rest newline newline = refl
-behind first second rest newline return_and_newline = refl
-behind first second rest return_and_newline newline = refl
-behind first second rest return_and_newline return_and_newline = refl
+behind first second rest alone alone = refl
+behind first second rest alone after_return = refl
+behind first second rest after_return alone = refl
+behind first second rest after_return after_return = refl
 
 regrouped : (message title body : List ℕ) → (it : HasBreaks message title body) → message ≡ title ++ (it.first ++ it.second ++ body)
 regrouped message title body it =

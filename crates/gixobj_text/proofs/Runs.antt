@@ -1,7 +1,8 @@
 -- Whole runs of the readers of messages and of trailers.
-use Rattle.std.proofs.Common.{◌≡◌, inl, ◌∷◌, ◌∙◌, ap, sym, subst, refl, ℕ, List, [], Ok, Some, None, map}
+use Rattle.std.proofs.Common.{◌≡◌, ◌∷◌, ◌∙◌, ap, sym, subst, ℕ, List, [], Ok, Some, None, map}
 use Rattle.std.specs.Iterator.{Drains, Yields}
-use Rattle.gixobj_text.specs.Blocks.{AreBlocksFrom, BlockView}
+use Rattle.gixobj_text.specs.Blocks.{AreBlocksFrom}
+use Rattle.gixobj_text.specs.Blocks.AreBlocksFrom.{block, none}
 use Rattle.gixobj_text.specs.Filters.{GivesKept, all_of, filter_of, kept_left}
 use Rattle.gixobj_text.specs.GivingBlocks.{GivesBlock, block_view, blocks_text, first_start}
 use Rattle.gixobj_text.specs.GivingTrailers.{GivesTrailer, trailer_view, trailers_left}
@@ -16,13 +17,13 @@ use Rattle.gixobj_text.proofs.Keeping.{kept_next, kept_none, kept_of}
 
 -- ---- blocks
 
-blocks_behind : (before : MessageBlocks) (one : MessageBlock) (after : MessageBlocks) (later : List BlockView) → GivesBlock before (Some one) after → AreBlocksFrom (first_start after) (blocks_text after) later
-    → AreBlocksFrom (first_start before) (blocks_text before) (block_view one ∷ later)
-blocks_behind before one after later (step, start, less) more = step later (subst (λ (n : ℕ). AreBlocksFrom n (blocks_text after) later) start more)
-
-blocks_are : (before : MessageBlocks) (blocks : List MessageBlock) (last after : MessageBlocks) → Yields GivesBlock before blocks last → GivesBlock last None after → AreBlocksFrom (first_start before) (blocks_text before) (map block_view blocks)
-blocks_are before [] last after is ends = inl (ap (λ (it : MessageBlocks). blocks_text it) is ∙ ends.0, refl)
-blocks_are before (one ∷ blocks) last after (middle, step, more) ends = blocks_behind before one middle (map block_view blocks) step (blocks_are middle blocks last after more ends)
+blocks_are : (before : MessageBlocks) (blocks : List MessageBlock) (last after : MessageBlocks) → Yields GivesBlock before blocks last → GivesBlock last None after
+    → AreBlocksFrom (first_start before) (blocks_text before) (map block_view blocks)
+blocks_are before [] last after is ends =
+    subst (λ (text : List ℕ). AreBlocksFrom (first_start before) text []) (sym (ap (λ (it : MessageBlocks). blocks_text it) is ∙ ends.0)) (none (first_start before))
+blocks_are before (one ∷ blocks) last after (middle, (first, start, less), more) ends =
+    block (first_start before) (blocks_text before) (block_view one) (blocks_text middle) (map block_view blocks) first
+    (subst (λ (n : ℕ). AreBlocksFrom n (blocks_text middle) (map block_view blocks)) start (blocks_are middle blocks last after more ends))
 
 pub all_blocks : (before : MessageBlocks) (blocks : List MessageBlock) → Drains GivesBlock before blocks → AreBlocksFrom (first_start before) (blocks_text before) (map block_view blocks)
 all_blocks before blocks (after, (last, run, ends)) = blocks_are before blocks last after run ends

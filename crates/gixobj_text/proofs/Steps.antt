@@ -1,5 +1,5 @@
 -- Going over the lines of a text to the blocks of a body.
-use Rattle.std.proofs.Common.{◌≡◌, ◌≢◌, inl, inr, ◌≤◌, ◌<◌, ◌==◌, ◌-◌, ◌+◌, ◌++◌, ◌∷◌, ◌∙◌, ap, arith, sym, subst, refl, ℕ, Bool, true, false, not, All, List, [], length, length-append, length-drop, take-append-drop, take, drop}
+use Rattle.std.proofs.Common.{◌≡◌, ◌≢◌, ◌≤◌, ◌<◌, ◌==◌, ◌-◌, ◌+◌, ◌++◌, ◌∷◌, ◌∙◌, ap, arith, sym, subst, refl, ℕ, Bool, true, false, not, All, List, [], length, length-append, length-drop, take-append-drop, take, drop}
 use Rattle.std.proofs.lemmas.List.Elements.{All-nil, All-tail}
 use Rattle.std.proofs.lemmas.List.Folds.{concat-append}
 use Rattle.std.specs.Prelude.{◌||◌}
@@ -9,8 +9,7 @@ use Rattle.bstr.proofs.lemmas.LineLemmas.{lines-nil}
 use Rattle.bstr.proofs.lemmas.RestLemmas.{concat-lines_of}
 use Rattle.gixobj_text.proofs.Cuts.{front_is}
 use Rattle.gixobj_text.specs.FirstLines.{IsFirstLine}
-use Rattle.gixobj_text.specs.Blocks.{AreBlocks, AreBlocksFrom, AreTrailers, BlockView, EndsTrailers, IsBlockOfLines}
-use Rattle.gixobj_text.specs.Blocks.AreBlocks.{block, none}
+use Rattle.gixobj_text.specs.Blocks.{AreTrailers, EndsTrailers, IsBlockOfLines, IsFirstBlock}
 use Rattle.gixobj_text.specs.BodyLines.{is_folded, is_trailer_line}
 use Rattle.gixobj_text.specs.Steps.{BeginsTrailer, GoesOn, IsAtTrailer, IsBehindTrailers, IsPast, NoTrailer}
 use Rattle.gixobj_text.proofs.OneLine.{all_more, apart}
@@ -88,38 +87,20 @@ is_block from trailers rest at behind =
       ends = behind.ends;
     }
 
-some_lines : (text : List ℕ) → text ≢ [] → lines_of text ≢ []
-some_lines text some is = some (sym (concat-lines_of text) ∙ ap concat is)
-
-blocks_of_lines : (text : List ℕ) (blocks : List BlockView) → AreBlocksFrom 0 text blocks → AreBlocks (lines_of text) blocks
-blocks_of_lines text blocks (inl (nothing, is)) = subst (λ (ls : Lines). AreBlocks ls blocks) (sym (lines_none text nothing)) (subst (λ (bs : List BlockView). AreBlocks [] bs) (sym is) none)
-blocks_of_lines text blocks (inr (some, skipped, taken, rest, later, it, more, is)) =
-    subst (λ (bs : List BlockView). AreBlocks (lines_of text) bs) (sym is) (block (lines_of text) skipped taken rest later (some_lines text some) it more)
-
-abbrev one_block : List ℕ → List ℕ → BlockView
-one_block message trailers = record { message = message; trailers = trailers }
-
-block_is : (a b c d : List ℕ) → a ≡ c → b ≡ d → ◌≡◌ {A = BlockView} (record { message = a; trailers = b }) (record { message = c; trailers = d })
-block_is a b c d first second = ap (λ (m : List ℕ). one_block m b) first ∙ ap (λ (t : List ℕ). one_block c t) second
-
-pub gives_block : (start : ℕ) (text from trailers rest message taken : List ℕ) → text ≢ [] → from ≡ drop start text → IsAtTrailer from trailers → IsBehindTrailers trailers rest
+pub first_block : (start : ℕ) (text from trailers rest message taken : List ℕ) → text ≢ [] → from ≡ drop start text → IsAtTrailer from trailers → IsBehindTrailers trailers rest
     → message ≡ take (length text - length trailers) text → taken ≡ take (length trailers - length rest) trailers
-    → (later : List BlockView) → AreBlocksFrom 0 rest later → AreBlocksFrom start text ((record { message = message; trailers = taken }) ∷ later)
-gives_block start text from trailers rest message taken some is at behind first second later more =
+    → IsFirstBlock start text (record { message = message; trailers = taken }) rest
+first_block start text from trailers rest message taken some is at behind first second =
     let joined : text ≡ (take start text ++ concat at.past.taken) ++ trailers =
     sym (take-append-drop start text) ∙ ap (λ (bytes : List ℕ). take start text ++ bytes) (sym is ∙ at.past.joined) ∙ sym (append_apart (take start text) (concat at.past.taken) trailers) in
-    let one : message ≡ take start text ++ concat at.past.taken = first ∙ front_is (take start text ++ concat at.past.taken) trailers text joined in
-    let two : taken ≡ concat behind.past.taken = second ∙ front_is (concat behind.past.taken) rest trailers behind.past.joined in
-    inr (
-      some,
-      at.past.taken,
-      behind.past.taken,
-      lines_of rest,
-      later,
-      subst (λ (bytes : List ℕ). IsBlockOfLines (lines_of bytes) at.past.taken behind.past.taken (lines_of rest)) is (is_block from trailers rest at behind),
-      blocks_of_lines rest later more,
-      ap (λ (b : BlockView). b ∷ later) (block_is message taken (take start text ++ concat at.past.taken) (concat behind.past.taken) one two),
-    )
+    record {
+      some = some;
+      skipped = at.past.taken;
+      taken = behind.past.taken;
+      lines = subst (λ (bytes : List ℕ). IsBlockOfLines (lines_of bytes) at.past.taken behind.past.taken (lines_of rest)) is (is_block from trailers rest at behind);
+      message = first ∙ front_is (take start text ++ concat at.past.taken) trailers text joined;
+      trailers = second ∙ front_is (concat behind.past.taken) rest trailers behind.past.joined;
+    }
 
 not_empty : (line : List ℕ) → is_trailer_line line ≡ true → 0 < length line
 not_empty [] is = cc is

@@ -2,14 +2,14 @@
 use Rattle.std.proofs.Common.{◌∷◌, inl, inr, refl, [], Some, None, codes}
 use Rattle.bstr.proofs.Computing.{computing}
 use Rattle.gixobj_text.specs.Titles.{SplitsTitle}
-use Rattle.gixobj_text.specs.Titles.IsBreak.{newline, return_and_newline}
+use Rattle.gixobj_text.specs.Titles.IsBreak.{alone, after_return}
 use Rattle.gixobj_text.proofs.Cuts.{least, never}
 
 both : SplitsTitle (codes "hello\n\nbody") (codes "hello") (Some (codes "body"))
 unfolding computing
 both = (
   record {
-    here = record { first = 10 ∷ []; second = 10 ∷ []; breaks = (newline, newline); joined = refl };
+    here = record { first = 10 ∷ []; second = 10 ∷ []; breaks = (alone, alone); joined = refl };
     least = λ front rest it. least 5 (codes "hello\n\nbody") front rest refl it;
   },
   λ none. cc none,
@@ -19,7 +19,7 @@ mixed : SplitsTitle (codes "hello\r\n\n\r\nbody") (codes "hello") (Some (codes "
 unfolding computing
 mixed = (
   record {
-    here = record { first = 13 ∷ 10 ∷ []; second = 10 ∷ []; breaks = (return_and_newline, newline); joined = refl };
+    here = record { first = 13 ∷ 10 ∷ []; second = 10 ∷ []; breaks = (after_return, alone); joined = refl };
     least = λ front rest it. least 5 (codes "hello\r\n\n\r\nbody") front rest refl it;
   },
   λ none. cc none,
@@ -28,7 +28,7 @@ mixed = (
 no_body : SplitsTitle (codes "hello\n\n") (codes "hello") None
 unfolding computing
 no_body = inl (record {
-  here = record { first = 10 ∷ []; second = 10 ∷ []; breaks = (newline, newline); joined = refl };
+  here = record { first = 10 ∷ []; second = 10 ∷ []; breaks = (alone, alone); joined = refl };
   least = λ front rest it. least 5 (codes "hello\n\n") front rest refl it;
 })
 

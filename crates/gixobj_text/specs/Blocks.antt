@@ -1,5 +1,5 @@
 -- A body in messages, each with the trailers that follow it.
-use Rattle.std.specs.Prelude.{◌≡◌, ◌≢◌, ◌⊎◌, ◌||◌, ℕ, List, [], ◌∷◌, ◌++◌, All, IsFalse, IsTrue, drop, take, ⊤}
+use Rattle.std.specs.Prelude.{◌≡◌, ◌≢◌, ◌||◌, ℕ, List, [], ◌∷◌, ◌++◌, All, IsFalse, IsTrue, drop, take, ⊤}
 use Rattle.std.specs.List.{concat}
 use Rattle.bstr.specs.Text.{lines_of}
 use Rattle.gixobj_text.specs.BodyLines.{is_folded, is_trailer_line}
@@ -27,18 +27,20 @@ pub record IsBlockOfLines (lines skipped taken rest : List (List ℕ)) : Type 0 
   pub none : taken ≡ [] → rest ≡ []
   pub ends : EndsTrailers rest
 
--- blocks from the start of a line on
-pub data AreBlocks : List (List ℕ) → List BlockView → Type 0 where
-  none : AreBlocks [] []
-  block : (lines skipped taken rest : List (List ℕ)) (blocks : List BlockView) → lines ≢ [] → IsBlockOfLines lines skipped taken rest → AreBlocks rest blocks
-      → AreBlocks lines ((record { message = concat skipped; trailers = concat taken }) ∷ blocks)
+-- the first block of a text, of which so many bytes are its message's, whatever they are; and the text behind it
+pub record IsFirstBlock (start : ℕ) (text : List ℕ) (block : BlockView) (rest : List ℕ) : Type 0 where
+  pub some : text ≢ []
+  pub skipped : List (List ℕ)
+  pub taken : List (List ℕ)
+  pub lines : IsBlockOfLines (lines_of (drop start text)) skipped taken (lines_of rest)
+  pub message : block.message ≡ take start text ++ concat skipped
+  pub trailers : block.trailers ≡ concat taken
 
--- the blocks of a text of which so many bytes are the first message's, whatever they are
-abbrev pub AreBlocksFrom : ℕ → List ℕ → List BlockView → Type 0
-AreBlocksFrom start text blocks =
-    ((text ≡ []) × (blocks ≡ []))
-    ⊎ ((text ≢ []) × (skipped taken rest : List (List ℕ)) × (later : List BlockView) × IsBlockOfLines (lines_of (drop start text)) skipped taken rest × AreBlocks rest later
-    × (blocks ≡ (record { message = take start text ++ concat skipped; trailers = concat taken }) ∷ later))
+-- the blocks of a text, one behind the other
+pub data AreBlocksFrom : ℕ → List ℕ → List BlockView → Type 0 where
+  none : (start : ℕ) → AreBlocksFrom start [] []
+  block : (start : ℕ) (text : List ℕ) (one : BlockView) (rest : List ℕ) (later : List BlockView) → IsFirstBlock start text one rest → AreBlocksFrom 0 rest later
+      → AreBlocksFrom start text (one ∷ later)
 
 -- the messages and their trailers, one after the other
 abbrev pub joined_parts : List BlockView → List ℕ

@@ -1,8 +1,8 @@
 -- What a reader of the messages of a body gives.
-use Rattle.std.specs.Prelude.{◌≡◌, ◌<◌, ℕ, List, [], ◌∷◌, Option, Some, None, length}
+use Rattle.std.specs.Prelude.{◌≡◌, ◌<◌, ℕ, List, [], Option, Some, None, length}
 use Rattle.std.specs.Iterator.{Count, at_most}
 use Rattle.bstr.specs.BStr.{bstr_bytes}
-use Rattle.gixobj_text.specs.Blocks.{AreBlocksFrom, BlockView}
+use Rattle.gixobj_text.specs.Blocks.{BlockView, IsFirstBlock}
 use Rattle.gixobj_text.specs.declared.commit.message.body.blocks.MessageBlock.{MessageBlock}
 use Rattle.gixobj_text.specs.declared.commit.message.body.blocks.MessageBlocks.{MessageBlocks}
 
@@ -22,11 +22,11 @@ blocks_text it = it.cursor.now
 abbrev pub first_start : MessageBlocks → ℕ
 first_start it = it.trailer_start
 
--- what one call answers: a block that comes before the blocks of the rest; or nothing, where the text is empty
+-- what one call answers: the first block of the text that is left, behind which a message begins with its text; or nothing,
+-- where none is left
 abbrev pub GivesBlock : MessageBlocks → Option MessageBlock → MessageBlocks → Type 0
 GivesBlock before (Some block) after =
-    ((later : List BlockView) → AreBlocksFrom 0 (blocks_text after) later
-    → AreBlocksFrom (first_start before) (blocks_text before) (block_view block ∷ later))
+    IsFirstBlock (first_start before) (blocks_text before) (block_view block) (blocks_text after)
     × (first_start after ≡ 0) × (length (blocks_text after) < length (blocks_text before))
 GivesBlock before None after = (blocks_text before ≡ []) × (blocks_text after ≡ [])
 

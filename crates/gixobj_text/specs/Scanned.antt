@@ -28,6 +28,10 @@ pub record Scanned (lines : List (List ℕ)) (it : Scan) : Type 0 where
   pub none : it.some ≡ false → All (λ line. IsTrue (is_blank line)) lines × (it.going ≡ false)
   pub some : it.some ≡ true → HasRun lines it
 
+-- with a line more the walk knows what it has to know of the longer list
+abbrev pub AddsLine : Scan → List ℕ → Scan → Type 0
+AddsLine before line after = (lines : List (List ℕ)) → Scanned lines before → Scanned (lines ++ line ∷ []) after
+
 -- the walk has come to this rest of the body
 pub record IsWalked (body rest : List ℕ) (it : Scan) : Type 0 where
   pub lines : List (List ℕ)

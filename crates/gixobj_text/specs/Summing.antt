@@ -2,14 +2,15 @@
 use Rattle.std.specs.Prelude.{ℕ, Bool, true, false, cond, List, [], ◌∷◌, ◌++◌}
 use Rattle.std.specs.Char.{is_whitespace}
 use Rattle.bstr.specs.Trim.{trim_end_by}
+use Rattle.gixobj_texts.specs.Bytes.{space}
 use Rattle.gixobj_text.specs.Titles.{is_nothing, pieces_of, without_trailing}
 use Rattle.gixobj_text.specs.Trailers.{trimmed}
 
 -- what the pieces behind make of a summary that has begun: an empty one ends it, and the last of the whole keeps its trailing spaces
 abbrev pub summary_behind : List ℕ → List (List ℕ) → List ℕ
 summary_behind summary [] = summary
-summary_behind summary (piece ∷ []) = cond (is_nothing piece) (trim_end_by is_whitespace summary) (summary ++ 32 ∷ piece)
-summary_behind summary (piece ∷ next ∷ pieces) = cond (is_nothing piece) (trim_end_by is_whitespace summary) (summary_behind (summary ++ 32 ∷ without_trailing piece) (next ∷ pieces))
+summary_behind summary (piece ∷ []) = cond (is_nothing piece) (trim_end_by is_whitespace summary) (summary ++ space ∷ piece)
+summary_behind summary (piece ∷ next ∷ pieces) = cond (is_nothing piece) (trim_end_by is_whitespace summary) (summary_behind (summary ++ space ∷ without_trailing piece) (next ∷ pieces))
 
 -- more than one piece
 abbrev pub has_more : List (List ℕ) → Bool

@@ -3,6 +3,8 @@ use Rattle.std.specs.Prelude.{◌≡◌, ◌⊎◌, ◌≤◌, ◌==◌, ◌||�
 use Rattle.std.specs.Char.{is_whitespace}
 use Rattle.std.specs.List.{prefix_len}
 use Rattle.bstr.specs.Owned.{joined}
+use Rattle.gixobj_texts.specs.Bytes.{newline, space, tab}
+use Rattle.gixobj_text.specs.BodyLines.{carriage_return}
 use Rattle.gixobj_text.specs.Trailers.{trimmed}
 use Rattle.bstr.specs.Trim.{trim_end_by}
 
@@ -10,8 +12,8 @@ use Rattle.bstr.specs.Trim.{trim_end_by}
 
 -- a break of lines
 pub data IsBreak : List ℕ → Type 0 where
-  newline : IsBreak (10 ∷ [])
-  return_and_newline : IsBreak (13 ∷ 10 ∷ [])
+  alone : IsBreak (newline ∷ [])
+  after_return : IsBreak (carriage_return ∷ newline ∷ [])
 
 -- two breaks follow each other behind this front, and then the rest
 pub record HasBreaks (message front rest : List ℕ) : Type 0 where
@@ -39,11 +41,15 @@ onto_first byte (piece ∷ pieces) = (byte ∷ piece) ∷ pieces
 
 abbrev pub pieces_of : List ℕ → List (List ℕ)
 pieces_of [] = [] ∷ []
-pieces_of (byte ∷ rest) = cond (byte == 10) ([] ∷ pieces_of rest) (onto_first byte (pieces_of rest))
+pieces_of (byte ∷ rest) = cond (byte == newline) ([] ∷ pieces_of rest) (onto_first byte (pieces_of rest))
+
+-- a form feed
+abbrev pub form_feed : ℕ
+form_feed = 12
 
 -- a tab, a newline, a form feed, a return or a space
 abbrev pub is_trailing_space : ℕ → Bool
-is_trailing_space byte = byte == 9 || byte == 10 || byte == 12 || byte == 13 || byte == 32
+is_trailing_space byte = byte == tab || byte == newline || byte == form_feed || byte == carriage_return || byte == space
 
 abbrev pub without_trailing : List ℕ → List ℕ
 without_trailing piece = reverse (drop (prefix_len is_trailing_space (reverse piece)) (reverse piece))
@@ -70,7 +76,7 @@ each_without (piece ∷ next ∷ pieces) = without_trailing piece ∷ each_witho
 abbrev pub summary_of_pieces : List (List ℕ) → List ℕ
 summary_of_pieces [] = []
 summary_of_pieces (first ∷ pieces) =
-    cond (stops pieces) (trim_end_by is_whitespace (joined (32 ∷ []) (map without_trailing (first ∷ before_empty pieces)))) (joined (32 ∷ []) (each_without (first ∷ pieces)))
+    cond (stops pieces) (trim_end_by is_whitespace (joined (space ∷ []) (map without_trailing (first ∷ before_empty pieces)))) (joined (space ∷ []) (each_without (first ∷ pieces)))
 
 abbrev pub summary_of : List ℕ → List ℕ
 summary_of text = summary_of_pieces (pieces_of (trimmed text))

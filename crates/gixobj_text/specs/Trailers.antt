@@ -5,6 +5,7 @@ use Rattle.std.specs.List.{take_while}
 use Rattle.bstr.specs.Owned.{joined}
 use Rattle.bstr.specs.Text.{lines_of}
 use Rattle.bstr.specs.Trim.{trim_end_by, trim_start_by}
+use Rattle.gixobj_texts.specs.Bytes.{space}
 use Rattle.gixobj_text.specs.BodyLines.{TrailerParts, is_folded, parts_of_line, text_of}
 
 -- a trailer
@@ -22,7 +23,7 @@ is_filled (byte ∷ rest) = true
 -- a value of these lines: the one trimmed; or of several each trimmed, empty ones left out, and a space between
 abbrev pub unfolded : List ℕ → List (List ℕ) → List ℕ
 unfolded first [] = trimmed first
-unfolded first (second ∷ more) = joined (32 ∷ []) (filter is_filled (map trimmed (first ∷ second ∷ more)))
+unfolded first (second ∷ more) = joined (space ∷ []) (filter is_filled (map trimmed (first ∷ second ∷ more)))
 
 -- a trailer's line adds its trailer, with the lines that follow it and belong to it
 abbrev pub with_trailer : Option TrailerParts → List (List ℕ) → List TrailerView → List TrailerView

@@ -2,16 +2,21 @@
 use Rattle.std.specs.Prelude.{◌≡◌, ◌<◌, ◌++◌, ℕ, Bool, true, false, cond, Some, List, [], ◌∷◌, length, map}
 use Rattle.std.specs.List.{take_while}
 use Rattle.bstr.specs.Text.{lines_of}
+use Rattle.gixobj_texts.specs.Bytes.{space}
 use Rattle.gixobj_text.specs.BodyLines.{is_folded, is_trailer_line, text_of}
 use Rattle.gixobj_text.specs.Trailers.{is_filled, trailers_of_text, trimmed, with_trailer}
 
 -- a piece more: an empty one is left out, and a space stands between two
 abbrev pub with_piece : List ℕ → List ℕ → List ℕ
-with_piece items piece = cond (is_filled piece) (cond (is_filled items) (items ++ 32 ∷ piece) piece) items
+with_piece items piece = cond (is_filled piece) (cond (is_filled items) (items ++ space ∷ piece) piece) items
 
 abbrev pub with_pieces : List ℕ → List (List ℕ) → List ℕ
 with_pieces items [] = items
 with_pieces items (piece ∷ pieces) = with_pieces (with_piece items piece) pieces
+
+-- the lines at the front of a text that belong to the trailer before it
+abbrev pub folded_front : List ℕ → List (List ℕ)
+folded_front text = take_while is_folded (lines_of text)
 
 -- with the pieces of the lines at the front that belong to a trailer
 abbrev pub with_folded : List ℕ → List (List ℕ) → List ℕ

@@ -41,10 +41,17 @@ pub fn messages_have_one_list_of_trailers()
         HasTrailers message trailers → HasTrailers message trailers' → trailers ≡ trailers' }
 {}
 
+/// A body has one list of blocks.
+pub fn bodies_have_one_list_of_blocks()
+    ensures { (start : ℕ) (body : List ℕ) (blocks blocks' : List BlockView) →
+        AreBlocksFrom start body blocks → AreBlocksFrom start body blocks' → blocks ≡ blocks' }
+{}
+
 /// What stands before the block of trailers and the rest, joined, are the body; so are the messages of a
 /// body and the bytes of their trailers, joined in order.
 pub fn parts_are_the_body()
-    ensures without_trailer { (start : ℕ) (body : List ℕ) → take start body ++ drop start body ≡ body }
+    ensures without_trailer { (start : ℕ) (body : List ℕ) →
+        take start body ++ drop start body ≡ body }
     ensures blocks { (start : ℕ) (body : List ℕ) (blocks : List BlockView) →
         AreBlocksFrom start body blocks → joined_parts blocks ≡ body }
 {}
@@ -52,10 +59,12 @@ pub fn parts_are_the_body()
 /// A reader that is asked to its end gives the blocks, the trailers or the trailers that are kept, in
 /// order.
 pub fn readers_give_all()
-    ensures blocks { (before : MessageBlocks) (blocks : List MessageBlock) → Drains GivesBlock before blocks →
-        AreBlocksFrom (first_start before) (blocks_text before) (map block_view blocks) }
+    ensures blocks { (before : MessageBlocks) (blocks : List MessageBlock) →
+        Drains GivesBlock before blocks → AreBlocksFrom (first_start before) (blocks_text before) (map block_view blocks) }
     ensures trailers { (before : Trailers) (trailers : List TrailerRef) →
-        Drains GivesTrailer before (map (λ it. Ok it) trailers) → map trailer_view trailers ≡ trailers_left before }
+        Drains GivesTrailer before (map (λ it. Ok it) trailers) →
+        map trailer_view trailers ≡ trailers_left before }
     ensures kept { (before : Filtered) (trailers : List TrailerRef) →
-        Drains GivesKept before (map (λ it. Ok it) trailers) → map trailer_view trailers ≡ kept_left before }
+        Drains GivesKept before (map (λ it. Ok it) trailers) →
+        map trailer_view trailers ≡ kept_left before }
 {}

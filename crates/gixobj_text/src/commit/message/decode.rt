@@ -31,7 +31,8 @@ fn behind_two(text: &[u8]) -> Option<&[u8]>
 
 /// The body, where it isn't empty.
 fn some_body(body: &[u8]) -> Option<BStr<'_>>
-    ensures { MatchOption result (body.now ≡ []) (λ it. (bstr_bytes it ≡ body.now) × (body.now ≢ [])) }
+    ensures { MatchOption result (body.now ≡ [])
+        (λ it. (bstr_bytes it ≡ body.now) × (body.now ≢ [])) }
 {
     if body.is_empty() {
         None

@@ -36,7 +36,8 @@ pub fn summary<'a>(alloc: Global, text: &'a [u8]) -> Result<CowSlice<'a, u8>, Ou
 #[tactic(auto, using(crate::proofs::Sums::split_there, crate::proofs::Sums::split_nowhere))]
 fn split_newline(text: &[u8]) -> Option<(&[u8], &[u8])>
     ensures { MatchOption result (pieces_of text.now ≡ text.now ∷ [])
-        (λ it. (pieces_of text.now ≡ it.0.now ∷ pieces_of it.1.now) × (length it.1.now < length text.now)) }
+        (λ it. (pieces_of text.now ≡ it.0.now ∷ pieces_of it.1.now)
+        × (length it.1.now < length text.now)) }
 {
     match text.find_byte(b'\n') {
         Some(place) => {

@@ -94,7 +94,8 @@ impl Run {
         ensures trailers { result.trailers ≡ self.trailers + cond (is_trailing_of line.now) 1 0 }
         ensures others { result.others ≡ self.others + other_of_of self.above line.now }
         ensures recognised { result.recognised ≡ (self.recognised || is_recognised_of line.now) }
-        ensures above { result.above ≡ cond (is_trailing_of line.now) true (cond (is_indented_of line.now) self.above false) }
+        ensures above { result.above ≡
+            cond (is_trailing_of line.now) true (cond (is_indented_of line.now) self.above false) }
     {
         let (trailing, indented) = (is_trailing(line), is_indented(line));
         Run {
@@ -107,7 +108,8 @@ impl Run {
 
     /// Whether a run with these counts is a block of trailers.
     pub(crate) fn is_block(self) -> bool
-        ensures { IsTrue result ↔ ((0 < self.trailers) × (self.others ≡ 0)) ⊎ (IsTrue self.recognised × (self.others ≤ 3 * self.trailers)) }
+        ensures { IsTrue result ↔ ((0 < self.trailers) × (self.others ≡ 0))
+            ⊎ (IsTrue self.recognised × (self.others ≤ 3 * self.trailers)) }
     {
         if self.trailers > 0 && self.others == 0 {
             return true;

@@ -2,7 +2,7 @@
 ghost use Rattle.std.specs.Prelude.{◌≡◌, ◌<◌, ◌≤◌, ◌+◌, ◌^◌, ◌≢◌, ℕ, List, [], ◌∷◌, ◌++◌, length, true, false, IsTrue, IsFalse};
 ghost use Rattle.bstr.specs.Text.{lines_of};
 ghost use Rattle.gixobj_text.specs.BodyLines.{is_blank, text_of};
-ghost use Rattle.gixobj_text.specs.Scanned.{Scanned};
+ghost use Rattle.gixobj_text.specs.Scanned.{AddsLine, Scanned};
 ghost use Rattle.gixobj_text.specs.TrailerBlocks.{IsBlockStart};
 
 use crate::commit::message::body::lines::{is_blank_line, line_text, split_line};
@@ -50,7 +50,7 @@ impl Scan {
     fn with_blank(self, line: &[u8]) -> Scan
         requires blank { IsTrue (is_blank line.now) }
         requires fits { self.place + length line.now < 2 ^ 64 }
-        ensures scanned { (lines : List (List ℕ)) → Scanned lines self → Scanned (lines ++ line.now ∷ []) result }
+        ensures scanned { AddsLine self line.now result }
         ensures place { result.place ≡ self.place + length line.now }
         ensures run { result.run ≡ self.run }
     {
@@ -72,7 +72,7 @@ impl Scan {
         requires fits { self.place + length line.now < 2 ^ 64 }
         requires trailers { self.run.trailers + 1 < 2 ^ 64 }
         requires others { self.run.others + 1 < 2 ^ 64 }
-        ensures scanned { (lines : List (List ℕ)) → Scanned lines self → Scanned (lines ++ line.now ∷ []) result }
+        ensures scanned { AddsLine self line.now result }
         ensures place { result.place ≡ self.place + length line.now }
         ensures trailers { result.run.trailers ≤ self.run.trailers + 1 }
         ensures others { result.run.others ≤ self.run.others + 1 }
@@ -93,7 +93,7 @@ impl Scan {
         requires filled { IsFalse (is_blank line.now) }
         requires going { self.going ≡ false }
         requires fits { self.place + length line.now < 2 ^ 64 }
-        ensures scanned { (lines : List (List ℕ)) → Scanned lines self → Scanned (lines ++ line.now ∷ []) result }
+        ensures scanned { AddsLine self line.now result }
         ensures place { result.place ≡ self.place + length line.now }
         ensures trailers { result.run.trailers ≤ 1 }
         ensures others { result.run.others ≤ 1 }
@@ -115,7 +115,7 @@ impl Scan {
         requires fits { self.place + length line.now < 2 ^ 64 }
         requires trailers { self.run.trailers ≤ self.place }
         requires others { self.run.others ≤ self.place }
-        ensures scanned { (lines : List (List ℕ)) → Scanned lines self → Scanned (lines ++ line.now ∷ []) result }
+        ensures scanned { AddsLine self line.now result }
         ensures place { result.place ≡ self.place + length line.now }
         ensures trailers { result.run.trailers ≤ result.place }
         ensures others { result.run.others ≤ result.place }

@@ -1,6 +1,5 @@
 //! The trailers of a text (git-interpret-trailers, "DESCRIPTION").
 ghost use Rattle.std.specs.Prelude.{◌≡◌, ◌≤◌, [], length, map, true, IfOk, IfErr, MatchOption, codes};
-ghost use Rattle.std.specs.List.{take_while};
 ghost use Rattle.std.specs.Cow.{cow_slice_items};
 ghost use Rattle.bstr.specs.BStr.{bstr_bytes};
 ghost use Rattle.bstr.specs.Text.{lines_of};
@@ -8,7 +7,7 @@ ghost use Rattle.gixobj_text.specs.GivingTrailers.{GivesTrailer, count_left, is_
 ghost use Rattle.gixobj_text.specs.BodyLines.{is_folded, text_of};
 ghost use Rattle.gixobj_text.specs.TrailerNames.{is_named, names_part};
 ghost use Rattle.gixobj_text.specs.Trailers.{trailers_of_text, trimmed, unfolded as unfolded_of};
-ghost use Rattle.gixobj_text.specs.Unfolding.{IsNextTrailer, are_some, with_folded, with_piece};
+ghost use Rattle.gixobj_text.specs.Unfolding.{IsNextTrailer, are_some, folded_front, with_folded, with_piece};
 
 use crate::commit::message::body::lines::{is_blank_line, line_text, split_line};
 use crate::commit::message::body::run::is_indented;
@@ -142,7 +141,8 @@ impl<'a> Iterator for Trailers<'a> {
 /// The parts of the next trailer's line, and what stands behind it.
 #[tactic(auto, using(crate::proofs::Reading::trailer_here, crate::proofs::Reading::trailers_past, crate::proofs::Reading::folded_past, crate::proofs::Reading::shorter, crate::proofs::Reading::none_left))]
 fn next_trailer(text: &[u8]) -> Option<(&[u8], &[u8], &[u8])>
-    ensures { MatchOption result (trailers_of_text text.now ≡ []) (λ it. IsNextTrailer text.now it.0.now it.1.now it.2.now) }
+    ensures { MatchOption result (trailers_of_text text.now ≡ [])
+        (λ it. IsNextTrailer text.now it.0.now it.1.now it.2.now) }
 {
     let mut rest = text;
     'lines: while let Some((line, behind)) = split_line(rest) {
@@ -180,7 +180,7 @@ fn behind_folded(text: &[u8]) -> &[u8]
 /// Whether a line that belongs to a trailer comes.
 #[tactic(auto, using(crate::proofs::Reading::folded_nothing))]
 fn begins_folded(text: &[u8]) -> bool
-    ensures { result ≡ are_some (take_while is_folded (lines_of text.now)) }
+    ensures { result ≡ are_some (folded_front text.now) }
 {
     match split_line(text) {
         Some((line, _)) => is_folded_line(line),
@@ -197,9 +197,10 @@ fn read_trailer<'a>(
     rest: &[u8],
 ) -> Result<TrailerRef<'a>, AllocError>
     ensures token { IfOk result (λ it. bstr_bytes it.token ≡ token.now) }
-    ensures value { IfOk result (λ it. cow_slice_items it.value ≡ unfolded_of first.now (map text_of (take_while is_folded (lines_of rest.now)))) }
-    ensures owned { IfOk result (λ it. is_owned it.value ≡ are_some (take_while is_folded (lines_of rest.now))) }
-    ensures refusal { IfErr result (λ _. are_some (take_while is_folded (lines_of rest.now)) ≡ true) }
+    ensures value { IfOk result (λ it.
+        cow_slice_items it.value ≡ unfolded_of first.now (map text_of (folded_front rest.now))) }
+    ensures owned { IfOk result (λ it. is_owned it.value ≡ are_some (folded_front rest.now)) }
+    ensures refusal { IfErr result (λ _. are_some (folded_front rest.now) ≡ true) }
 {
     if begins_folded(rest) {
         let value = unfolded(alloc, first, rest)?;
@@ -217,7 +218,8 @@ fn read_trailer<'a>(
 /// The value of several lines.
 #[tactic(auto, using(crate::proofs::Reading::folded_more, crate::proofs::Reading::folded_ends, crate::proofs::Reading::folded_all, crate::proofs::Reading::shorter))]
 fn unfolded(alloc: Global, first: &[u8], rest: &[u8]) -> Result<Vec<u8>, AllocError>
-    ensures { IfOk result (λ it. it.items ≡ with_folded (with_piece [] (trimmed first.now)) (lines_of rest.now)) }
+    ensures { IfOk result (λ it.
+        it.items ≡ with_folded (with_piece [] (trimmed first.now)) (lines_of rest.now)) }
 {
     let mut value = Vec::new(alloc);
     push_piece(&mut value, first.trim())?;

@@ -1,7 +1,7 @@
 use Rattle.std.proofs.Common.{◌≢◌, ◌<◌, ◌∙◌, [], List, ℕ, subst, sym, rules, length}
 use Rattle.bstr.specs.BStr.{bstr_bytes}
-use Rattle.gixobj_text.specs.Blocks.{AreBlocksFrom}
-use Rattle.gixobj_text.proofs.Steps.{block_shorter, gives_block, some_is}
+use Rattle.gixobj_text.specs.Blocks.{IsFirstBlock}
+use Rattle.gixobj_text.proofs.Steps.{block_shorter, first_block, some_is}
 use Rattle.gixobj_text.proofs.commit.message.body.blocks.MessageBlocksIterator.next.Goals as goal
 
 pub returns-clause-steps : goal.returns-clause-steps
@@ -10,9 +10,9 @@ returns-clause-steps c =
     let shorter : length c.behind_trailers-rest.result.now < length c.args.self.now.cursor.now =
     block_shorter c.args.self.now.trailer_start c.args.self.now.cursor.now c.split_at.result.1.now c.at_trailer-trailers.result.now c.behind_trailers-rest.result.now
     some c.split_at.ensures.back c.at_trailer-trailers.ensures c.behind_trailers-rest.ensures in (
-      λ later more. gives_block c.args.self.now.trailer_start c.args.self.now.cursor.now c.split_at.result.1.now c.at_trailer-trailers.result.now c.behind_trailers-rest.result.now
-          (bstr_bytes c.new.result) c.front_of-2.result.now some c.split_at.ensures.back c.at_trailer-trailers.ensures c.behind_trailers-rest.ensures (c.new.ensures ∙ c.front_of.ensures) c.front_of-2.ensures
-          later (subst (λ (text : List ℕ). AreBlocksFrom 0 text later) c.new-2.ensures.text more),
+      subst (λ (rest : List ℕ). IsFirstBlock c.args.self.now.trailer_start c.args.self.now.cursor.now (record { message = bstr_bytes c.new.result; trailers = c.front_of-2.result.now }) rest) (sym c.new-2.ensures.text)
+          (first_block c.args.self.now.trailer_start c.args.self.now.cursor.now c.split_at.result.1.now c.at_trailer-trailers.result.now c.behind_trailers-rest.result.now
+          (bstr_bytes c.new.result) c.front_of-2.result.now some c.split_at.ensures.back c.at_trailer-trailers.ensures c.behind_trailers-rest.ensures (c.new.ensures ∙ c.front_of.ensures) c.front_of-2.ensures),
       c.new-2.ensures.start,
       subst (λ (text : List ℕ). length text < length c.args.self.now.cursor.now) (sym c.new-2.ensures.text) shorter,
     )
