@@ -1,6 +1,8 @@
 pub mod BaseSteps
 pub mod Deciding
+pub mod Halves
 pub mod Handing
+pub mod KeyPlaces
 pub mod Levels
 pub mod LookedUp
 pub mod NamedTrees

@@ -1,5 +1,5 @@
 //! The entries of a directory: one put in, one taken out, and copies.
-ghost use Rattle.std.specs.Prelude.{◌≡◌, ◌≢◌, ◌≤◌, ◌<◌, All, IfOk, not, vec_len, vec_capacity};
+ghost use Rattle.std.specs.Prelude.{◌≡◌, ◌≢◌, ◌≤◌, ◌<◌, IfOk, not, vec_len, vec_capacity};
 ghost use Rattle.std.specs.List.{position, prefix_len};
 ghost use Rattle.gixobj_trees.specs.Entries.{EachLater, IsEntryName, IsWellFormed};
 ghost use Rattle.gixobj_texts.specs.Parse.{IsFree};
@@ -7,8 +7,9 @@ ghost use Rattle.gixobj_texts.specs.Bytes.{slash};
 ghost use Rattle.gixobj_files.specs.Editing.{comes_before, kept, same_name, with_entry, without};
 ghost use Rattle.gixobj_files.specs.Files.{is_null};
 
+use crate::places::{place_by_key, take_named};
 use bstr::BString;
-use gixobj_trees::tree::{Entry, name_order};
+use gixobj_trees::tree::Entry;
 use std::alloc::{AllocError, Global};
 
 /// Puts an entry in, in place of any entry of its name: before the first of the others whose key comes
@@ -21,7 +22,7 @@ pub fn put(entries: &mut Vec<Entry>, entry: Entry)
     requires name { IsEntryName entry.name }
     ensures items { entries.new.items ≡ with_entry entry entries.old.items }
 {
-    take_out(entries, entry.filename.as_bytes());
+    take_named(entries, entry.filename.as_bytes());
     let place = place_for(entries, &entry);
     let _ = entries.insert(place, entry);
 }
@@ -35,7 +36,7 @@ pub fn take_out(entries: &mut Vec<Entry>, name: &[u8])
     ensures room { vec_capacity entries.new ≡ vec_capacity entries.old }
     ensures len { vec_len entries.new ≤ vec_len entries.old }
 {
-    if let Some(place) = place_of(entries, name) {
+    if let Some(place) = first_of(entries, name) {
         entries.remove(place);
     }
 }
@@ -56,7 +57,7 @@ pub fn copy_kept(alloc: Global, entries: &[Entry]) -> Result<Vec<Entry>, AllocEr
 }
 
 /// The place of the first entry of this name.
-fn place_of(entries: &[Entry], name: &[u8]) -> Option<usize>
+fn first_of(entries: &[Entry], name: &[u8]) -> Option<usize>
     ensures { result ≡ position (λ e. same_name e.name name.now) entries.now }
 {
     entries.iter().position(|entry| is_named(entry, name))
@@ -70,32 +71,14 @@ fn is_named(entry: &Entry, name: &[u8]) -> bool
 
 /// How many of the first entries come before this one.
 fn place_for(entries: &[Entry], entry: &Entry) -> usize
-    requires names { All (λ e. IsFree slash e.name) entries.now }
+    requires well_formed { IsWellFormed entries.now }
     requires name { IsFree slash entry.now.name }
     ensures { result ≡ prefix_len (λ e. comes_before e entry.now) entries.now }
 {
-    let mut place = 0;
-    for other in entries {
-        if !is_before(other, entry) {
-            return place;
-        }
-        place += 1;
+    match place_by_key(entries, entry.filename.as_bytes(), entry.mode.is_tree()) {
+        Ok(place) => place,
+        Err(place) => place,
     }
-    place
-}
-
-fn is_before(entry: &Entry, other: &Entry) -> bool
-    requires name { IsFree slash entry.now.name }
-    requires other_name { IsFree slash other.now.name }
-    ensures { result ≡ comes_before entry.now other.now }
-{
-    name_order(
-        entry.filename.as_bytes(),
-        entry.mode.is_tree(),
-        other.filename.as_bytes(),
-        other.mode.is_tree(),
-    )
-    .is_lt()
 }
 
 /// Whether the entry's id isn't null.

@@ -7,4 +7,5 @@ pub mod laws;
 pub mod open;
 pub mod opening;
 mod own_tree;
+mod places;
 pub mod write;

@@ -1,8 +1,10 @@
 //! Open directories, each with the open directories in it.
-ghost use Rattle.std.specs.Prelude.{◌≡◌, ◌≢◌, ◌<◌, ◌&&◌, true, false, IfNone, IfSome, Some, ◌∷◌, [], ◌++◌, IfOk, List, None, OnErr, OnOk, vec_capacity, vec_len};
+ghost use Rattle.std.specs.Prelude.{◌≡◌, ◌≢◌, ◌<◌, true, false, IfNone, IfSome, Some, ◌∷◌, [], ◌++◌, IfOk, List, None, OnErr, OnOk, vec_capacity, vec_len};
 ghost use Rattle.std.specs.List.{AllByRecursion, find, position};
 ghost use Rattle.std.specs.Option.{option_copied};
 ghost use Rattle.bstr.specs.Owned.{bstring_bytes};
+ghost use Rattle.gixobj_texts.specs.Bytes.{slash};
+ghost use Rattle.gixobj_texts.specs.Parse.{IsFree};
 ghost use Rattle.gixobj_trees.specs.Entries.{EachLater, EntryView, IsEntryName, IsWellFormed};
 ghost use Rattle.gixobj_trees.specs.Mode.{is_tree_mode, mode_bits};
 ghost use Rattle.gixobj_files.specs.Editing.{has_tree, same_name, with_entry, without};
@@ -12,7 +14,8 @@ ghost use Rattle.gixobj_directories.specs.Calls.{names_of};
 ghost use Rattle.gixobj_directories.specs.Nested.{bases_of, dirs_of, opened, other_parts, parts};
 ghost use Rattle.gixobj_files.specs.Bases.{edited_bases};
 
-use crate::entries::{copies, put, take_out};
+use crate::entries::{copies, put};
+use crate::places::{place_by_key, place_of, take_named};
 use bstr::BString;
 use gixobj_ids::hash::ObjectId;
 use gixobj_trees::Tree;
@@ -280,20 +283,16 @@ fn take_entry(tree: &mut Tree, name: &BString)
     requires { IsWellFormed tree.old }
     ensures { tree.new ≡ without (bstring_bytes name.now) tree.old }
 {
-    take_out(&mut tree.entries, name.as_bytes());
+    take_named(&mut tree.entries, name.as_bytes());
 }
 
 /// Whether there is a tree's entry of this name.
 fn has_tree_named(tree: &Tree, name: &BString) -> bool
+    requires well_formed { IsWellFormed tree.now }
+    requires name { IsFree slash (bstring_bytes name.now) }
     ensures { result ≡ has_tree (bstring_bytes name.now) tree.now }
 {
-    tree.entries.iter().any(|entry| is_tree_named(entry, name))
-}
-
-fn is_tree_named(entry: &Entry, name: &BString) -> bool
-    ensures { result ≡ (same_name entry.now.name (bstring_bytes name.now) && is_tree_mode entry.now.mode) }
-{
-    has_name(entry, name) && entry.mode.is_tree()
+    place_by_key(&tree.entries, name.as_bytes(), true).is_ok()
 }
 
 /// Puts a tree's entry with the null id in, unless there is a tree's entry of that name.
@@ -381,13 +380,11 @@ pub(crate) fn tree_id(tree: &Tree, name: &BString) -> Option<ObjectId>
 
 /// The entry of a name.
 fn find_entry<'a>(tree: &'a Tree, name: &BString) -> Option<&'a Entry>
+    requires { IsWellFormed tree.now }
     ensures { option_copied result ≡ find (λ e. same_name e.name (bstring_bytes name.now)) tree.now }
 {
-    tree.entries.iter().find(|entry| has_name(entry, name))
-}
-
-fn has_name(entry: &Entry, name: &BString) -> bool
-    ensures { result ≡ same_name entry.now.name (bstring_bytes name.now) }
-{
-    entry.filename.as_bytes() == name.as_bytes()
+    match place_of(&tree.entries, name.as_bytes()) {
+        Some(place) => Some(&tree.entries[place]),
+        None => None,
+    }
 }

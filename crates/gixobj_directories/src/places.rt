@@ -1,0 +1,64 @@
+//! Places among the entries of a well-formed tree, sought by halves.
+ghost use Rattle.std.specs.Prelude.{◌≡◌, ◌≤◌, IfErr, IfOk, MatchResult, Some, vec_capacity, vec_len};
+ghost use Rattle.std.specs.List.{HoldsAt, position, prefix_len};
+ghost use Rattle.gixobj_texts.specs.Bytes.{slash};
+ghost use Rattle.gixobj_texts.specs.Parse.{IsFree};
+ghost use Rattle.gixobj_trees.specs.Entries.{IsWellFormed, key_of};
+ghost use Rattle.gixobj_trees.specs.Mode.{is_tree_mode};
+ghost use Rattle.gixobj_trees.specs.WellFormed.{HasKey};
+ghost use Rattle.gixobj_files.specs.Editing.{same_name, without};
+ghost use Rattle.gixobj_directories.specs.KeyPlaces.{has_key_before};
+
+use gixobj_texts::parse::has_byte;
+use gixobj_trees::tree::{Entry, name_order};
+
+/// The place of the entry of this name, if there is one: sought as a file's, and then as a directory's.
+pub(crate) fn place_of(entries: &[Entry], name: &[u8]) -> Option<usize>
+    requires { IsWellFormed entries.now }
+    ensures { result ≡ position (λ e. same_name e.name name.now) entries.now }
+{
+    if has_byte(name, b'/') {
+        return None;
+    }
+    match place_by_key(entries, name, false) {
+        Ok(place) => Some(place),
+        Err(_) => place_by_key(entries, name, true).ok(),
+    }
+}
+
+/// The place of the entry of this key, or else that where it would stand.
+///
+/// The key of a directory is its name with a `/` behind it, and that of a file its name.
+pub(crate) fn place_by_key(entries: &[Entry], name: &[u8], is_tree: bool) -> Result<usize, usize>
+    requires well_formed { IsWellFormed entries.now }
+    requires name { IsFree slash name.now }
+    ensures found { IfOk result (λ i. position (λ e. same_name e.name name.now) entries.now ≡ Some i) }
+    ensures kind { IfOk result (HoldsAt (λ e. is_tree_mode e.mode ≡ is_tree) entries.now) }
+    ensures none { IfErr result (λ _. HasKey entries.now (key_of name.now is_tree) → ⊥) }
+    ensures place { MatchResult result
+        (λ i. i ≡ prefix_len (has_key_before (key_of name.now is_tree)) entries.now)
+        (λ i. i ≡ prefix_len (has_key_before (key_of name.now is_tree)) entries.now) }
+{
+    entries.binary_search_by(|entry| {
+        name_order(
+            entry.filename.as_bytes(),
+            entry.mode.is_tree(),
+            name,
+            is_tree,
+        )
+    })
+}
+
+/// Takes the entry of a name out, if there is one. The others stay as they stand.
+///
+/// It takes no memory, and the list keeps the room that it has.
+pub(crate) fn take_named(entries: &mut Vec<Entry>, name: &[u8])
+    requires { IsWellFormed entries.old.items }
+    ensures items { entries.new.items ≡ without name.now entries.old.items }
+    ensures room { vec_capacity entries.new ≡ vec_capacity entries.old }
+    ensures len { vec_len entries.new ≤ vec_len entries.old }
+{
+    if let Some(place) = place_of(entries, name) {
+        entries.remove(place);
+    }
+}
