@@ -1,3 +1,3 @@
-mod LineSteps
+mod Fronts
 mod MarkersFound
 pub mod MarkerPlaces

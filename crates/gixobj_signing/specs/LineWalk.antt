@@ -1,20 +1,18 @@
--- A walk over the lines of a text, from the front, that keeps the last marker.
-use Rattle.std.specs.Prelude.{◌≡◌, ◌≤◌, ◌<◌, ℕ, List, ◌++◌, Option, Some, None, length}
-use Rattle.gixobj_signing.specs.Markers.{MarksPlace, StartsLine}
+-- A walk from the back over the lines of a text that begin as all markers do.
+use Rattle.std.specs.Prelude.{◌≤◌, ◌<◌, ◌+◌, ℕ, List, ◌∷◌, Option, codes, length, take}
+use Rattle.bstr.specs.Find.{FindsLastNeedle}
+use Rattle.gixobj_signing.specs.Markers.{MarksPlace}
 use Rattle.gixobj_signing.specs.declared.signature.Format.{Format}
+use Rattle.gixobj_texts.specs.Bytes.{newline}
 
--- a line starts at this place
-pub record IsAtLine (bytes : List ℕ) (place : ℕ) : Type 0 where
-  pub front : List ℕ
-  pub rest : List ℕ
-  pub joined : bytes ≡ front ++ rest
-  pub as_long : length front ≡ place
-  pub starts : StartsLine front
+-- a newline and what all markers begin with
+abbrev pub marker_front : List ℕ
+marker_front = newline ∷ codes "-----BEGIN "
 
--- the last marker before this end, or none
-abbrev pub IsLastBefore : List ℕ → ℕ → Option (ℕ × Format) → Type 0
-IsLastBefore bytes end None = (place : ℕ) (format : Format) → MarksPlace bytes place format → end ≤ place
-IsLastBefore bytes end (Some it) =
-    MarksPlace bytes it.0 it.1
-    × (it.0 < end)
-    × ((place : ℕ) (format : Format) → MarksPlace bytes place format → place < end → place ≤ it.0)
+-- the last place before this end where a newline and the front of all markers stand, or none
+abbrev pub IsLastFront : List ℕ → ℕ → Option ℕ → Type 0
+IsLastFront bytes end place = FindsLastNeedle (take end bytes) marker_front place
+
+-- each marker behind a newline has its front before this end
+abbrev pub HasFrontsBefore : List ℕ → ℕ → Type 0
+HasFrontsBefore bytes end = (place : ℕ) (format : Format) → MarksPlace bytes place format → 0 < place → place + length (codes "-----BEGIN ") ≤ end

@@ -1,11 +1,10 @@
 //! Signatures: the format that an armored one begins with, and where in a text one begins
 //! (gitformat-signature, "DESCRIPTION", "Tag signatures").
-ghost use Rattle.std.specs.Prelude.{◌+◌, IfNone, IfSome};
-ghost use Rattle.gixobj_signing.specs.LineWalk.{IsAtLine, IsLastBefore};
+ghost use Rattle.std.specs.Prelude.{◌≤◌, IfNone, IfSome, length};
+ghost use Rattle.gixobj_signing.specs.LineWalk.{IsLastFront};
 ghost use Rattle.gixobj_signing.specs.Markers.{HasNoMarker, IsMarkerPlace};
 
-use bstr::BStr;
-use gixobj_texts::parse::split_at_byte;
+use bstr::{BStr, ByteSlice};
 
 /// How a signature was made (gitformat-signature, "DESCRIPTION").
 #[derive(Clone, Copy, Debug, PartialEq, Eq, PartialOrd, Ord, Hash)]
@@ -58,34 +57,27 @@ pub struct SignatureRef<'a> {
 /// The place of the last marker at the start of a line, and its format, or none where no line begins
 /// with a marker (gitformat-signature, "Tag signatures").
 ///
-/// It walks once over the lines, from the front, and takes no memory.
-#[tactic(auto, using(crate::proofs::LineSteps::found_in_all, crate::proofs::LineSteps::line_within, crate::proofs::LineSteps::next_line, crate::proofs::LineSteps::none_in_all, crate::proofs::LineSteps::past_line))]
+/// It goes back from the end over the lines that begin as all markers do, and takes no memory.
 pub fn find(bytes: &[u8]) -> Option<(usize, Format)>
     ensures found { IfSome result (λ it. IsMarkerPlace bytes.now it.0 it.1) }
     ensures none { IfNone result (HasNoMarker bytes.now) }
 {
-    let mut start = 0;
-    let mut found = None;
-    while let Some((line, _)) = split_at_byte(&bytes[start..], b'\n') {
-        found = marker_of_line(bytes, start, found);
-        start += line.len() + 1;
+    let mut end = bytes.len();
+    while let Some(newline) = last_front(bytes, end) {
+        let start = newline + 1;
+        if let Some(format) = Format::from_signature(&bytes[start..]) {
+            return Some((start, format));
+        }
+        end = newline;
     }
-    marker_of_line(bytes, start, found)
+    let format = Format::from_signature(bytes)?;
+    Some((0, format))
 }
 
-/// The marker of the line that starts here or, where it has none, what was found before it.
-#[tactic(auto, using(crate::proofs::LineSteps::past_unmarked))]
-fn marker_of_line(
-    bytes: &[u8],
-    start: usize,
-    before: Option<(usize, Format)>,
-) -> Option<(usize, Format)>
-    requires at_line { IsAtLine bytes.now start }
-    requires so_far { IsLastBefore bytes.now start before }
-    ensures { IsLastBefore bytes.now (start + 1) result }
+/// The last place before this end where a newline and the front of all markers stand, or none.
+fn last_front(bytes: &[u8], end: usize) -> Option<usize>
+    requires within { end ≤ length bytes.now }
+    ensures { IsLastFront bytes.now end result }
 {
-    match Format::from_signature(&bytes[start..]) {
-        Some(format) => Some((start, format)),
-        None => before,
-    }
+    (&bytes[..end]).rfind(b"\n-----BEGIN ")
 }

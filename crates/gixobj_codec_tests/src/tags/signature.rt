@@ -4,6 +4,7 @@ use bstr::BStr;
 use gixobj_signing::signature::find;
 use gixobj_text::signature::Format::{self, OpenPgp, Ssh, X509};
 use gixobj_text::signature::SignatureRef;
+use std::alloc::AllocError;
 
 /// Texts, and the format of the marker with which they begin.
 const FORMATS: &[(&str, Option<Format>)] = &[
@@ -84,6 +85,18 @@ fn places(rt: HostRuntime) {
     for &(text, place) in PLACES {
         assert!(rt; find(text.as_bytes()) == place, "{text}");
     }
+}
+
+/// Lines that begin as a marker does, and how many of them make a text without one.
+const LINES: &[(&str, usize)] = &[("-\n", 1_000_000), ("-----BEGIN \n", 100_000)];
+
+#[test]
+fn many_lines(rt: HostRuntime) -> Result<(), AllocError> {
+    for &(line, count) in LINES {
+        let text = line.repeat(rt.alloc(), count)?;
+        assert!(rt; find(text.as_bytes()).is_none(), "{line}");
+    }
+    Ok(())
 }
 
 /// A format, and a text of a signature in it, in order.

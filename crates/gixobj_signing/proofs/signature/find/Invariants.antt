@@ -1,9 +1,9 @@
-use Rattle.std.proofs.Common.{◌-◌, length}
-use Rattle.gixobj_signing.specs.LineWalk.{IsAtLine, IsLastBefore}
+use Rattle.std.proofs.Common.{◌≤◌, length}
+use Rattle.gixobj_signing.specs.LineWalk.{HasFrontsBefore}
 use Rattle.gixobj_signing.proofs.signature.find.Given as goal
 
-abbrev pub invariant-loop-line : goal.invariant-loop-line
-invariant-loop-line l = record { at_line : IsAtLine l.bytes l.start; so_far : IsLastBefore l.bytes l.start l.found }
+abbrev pub invariant-loop-newline : goal.invariant-loop-newline
+invariant-loop-newline l = record { within : l.end ≤ length l.bytes; so_far : HasFrontsBefore l.bytes l.end }
 
-abbrev pub decreases-loop-line : goal.decreases-loop-line
-decreases-loop-line l = length l.bytes - l.start
+abbrev pub decreases-loop-newline : goal.decreases-loop-newline
+decreases-loop-newline l = l.end
