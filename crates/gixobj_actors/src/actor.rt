@@ -12,6 +12,8 @@ ghost use Rattle.gixobj_actors.specs.Date.{IsNoTimeText, IsTimeText, time_text};
 ghost use Rattle.gixobj_fields.specs.Streams.{Puts, PutsFront, PutsOrFails, writer_view};
 ghost use Rattle.gixobj_ids.specs.declared.decode.Error.TheVariants.{Malformed};
 ghost use Rattle.gixobj_fields.specs.Writing.{IsSize};
+ghost use Rattle.gixobj_texts.specs.Bytes.{newline};
+ghost use Rattle.gixobj_texts.specs.Parse.{IsFree};
 
 use crate::date::{Time, TimeBuf, parse_header};
 use bstr::{BStr, BString, ByteSlice};
@@ -58,6 +60,9 @@ impl<'a> SignatureRef<'a> {
         ensures refusal { IfErr result (λ e. (e ≡ Malformed) × IsNoActorLine input.old.now) }
         ensures unchanged { OnErr result (input.new ≡ input.old) }
     {
+        if has_byte(input, b'\n') {
+            return Err(decode::Error::Malformed);
+        }
         match split_line(input) {
             Some((actor, rest)) => {
                 *input = rest;
@@ -244,14 +249,12 @@ fn actor_size(name: &[u8], email: &[u8], time: &[u8]) -> Option<u64>
     texts.checked_add(time.len() as u64)?.checked_add(4)
 }
 
-/// The actor of a line and what follows the time, or none.
-fn split_line(line: &[u8]) -> Option<(SignatureRef<'_>, &[u8])>
+/// The actor of a line and what follows its time, or none. It takes no memory.
+pub fn split_line(line: &[u8]) -> Option<(SignatureRef<'_>, &[u8])>
+    requires one_line { IsFree newline line.now }
     ensures found { IfSome result (λ it. IsActorLine line.now (bstr_bytes it.0.name) (bstr_bytes it.0.email) (bstr_bytes it.0.time) it.1.now) }
     ensures none { IfNone result (IsNoActorLine line.now) }
 {
-    if has_byte(line, b'\n') {
-        return None;
-    }
     let (text, behind) = split_at_byte(line, b'<')?;
     let (email, after) = split_at_last_byte(behind, b'>')?;
     let (time, rest) = split_time(without_gap(after));

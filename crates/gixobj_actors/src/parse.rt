@@ -3,11 +3,14 @@ ghost use Rattle.std.specs.Prelude.{◌≡◌, ℕ, List, IfErr, IfNone, IfOk, I
 ghost use Rattle.bstr.specs.BStr.{bstr_bytes};
 ghost use Rattle.gixobj_actors.specs.Actor.{IsActor, IsNoActor, IsOwnedActor, IsTrimmedActor};
 ghost use Rattle.gixobj_ids.specs.declared.decode.Error.TheVariants.{Malformed};
+ghost use Rattle.gixobj_texts.specs.Bytes.{newline};
+ghost use Rattle.gixobj_texts.specs.Parse.{IsFree};
 
-use crate::actor::{Signature, SignatureRef};
+use crate::actor::{Signature, SignatureRef, split_line};
 use bstr::BStr;
 use gixobj_ids::OutOfMemory;
 use gixobj_ids::decode::Error;
+use gixobj_texts::parse::has_byte;
 use std::alloc::Global;
 
 /// The actor of a line, or none where the line is none or bytes follow its time.
@@ -15,8 +18,19 @@ pub fn signature(line: &[u8]) -> Option<SignatureRef<'_>>
     ensures found { IfSome result (λ it. IsActor line.now (bstr_bytes it.name) (bstr_bytes it.email) (bstr_bytes it.time)) }
     ensures none { IfNone result (IsNoActor line.now) }
 {
-    let mut rest = line;
-    let Ok(actor) = SignatureRef::from_bytes_consuming(&mut rest) else {
+    if has_byte(line, b'\n') {
+        return None;
+    }
+    signature_of_line(line)
+}
+
+/// The actor of a line without a newline, or none where the line is none or bytes follow its time.
+pub fn signature_of_line(line: &[u8]) -> Option<SignatureRef<'_>>
+    requires one_line { IsFree newline line.now }
+    ensures found { IfSome result (λ it. IsActor line.now (bstr_bytes it.name) (bstr_bytes it.email) (bstr_bytes it.time)) }
+    ensures none { IfNone result (IsNoActor line.now) }
+{
+    let Some((actor, rest)) = split_line(line) else {
         return None;
     };
     if rest.is_empty() { Some(actor) } else { None }

@@ -9,7 +9,7 @@ ghost use Rattle.gixobj_texts.specs.Bytes.{newline};
 
 use bstr::BStr;
 use gixobj_actors::actor::SignatureRef;
-use gixobj_actors::parse::signature;
+use gixobj_actors::parse::signature_of_line;
 use gixobj_fields::parse::{after_name, after_newline, any_header_field, header_field, header_id};
 use gixobj_ids::decode::Error;
 use gixobj_ids::hash::Kind;
@@ -169,7 +169,7 @@ fn actor_line<'a>(input: &'a [u8], name: &[u8]) -> Option<(BStr<'a>, SignatureRe
     let Some((line, rest)) = header_field(input, name) else {
         return None;
     };
-    let Some(actor) = signature(line) else {
+    let Some(actor) = signature_of_line(line) else {
         return None;
     };
     Some((BStr::new(line), actor, rest))

@@ -12,7 +12,7 @@ ghost use Rattle.gixobj_texts.specs.Optional.{bytes_if_some};
 
 use super::TagRef;
 use bstr::BStr;
-use gixobj_actors::actor::SignatureRef;
+use gixobj_actors::actor::{SignatureRef, split_line};
 use gixobj_fields::parse::{after_name, after_newline, header_field, header_id, header_kind};
 use gixobj_ids::decode::Error;
 use gixobj_ids::hash::Kind;
@@ -92,8 +92,7 @@ pub fn tagger(input: &[u8]) -> Option<(Option<TaggerLine<'_>>, &[u8])>
     let Some((line, rest)) = header_field(input, b"tagger") else {
         return None;
     };
-    let mut behind = line;
-    let Ok(actor) = SignatureRef::from_bytes_consuming(&mut behind) else {
+    let Some((actor, _)) = split_line(line) else {
         return None;
     };
     Some((Some((BStr::new(line), actor)), rest))
