@@ -1,6 +1,7 @@
 -- Header fields, cut from the left: made of their parts, and read in one way.
-use Rattle.std.proofs.Common.{◌≡◌, ◌≢◌, ◌+◌, ◌<◌, ℕ, List, [], ◌∷◌, ◌++◌, All, length, arith, inl, inr, refl, sym, ap, subst, ◌∙◌, append_assoc, length-append, Contains, lit<}
-use Rattle.std.proofs.lemmas.List.{append_cancel_left, append-nil}
+use Rattle.std.proofs.Common.{◌≡◌, ◌≢◌, ◌+◌, ◌*◌, ◌<◌, ℕ, List, [], ◌∷◌, ◌++◌, All, drop-cons, get_or, suc, length, arith, inl, inr, refl, sym, ap, subst, ◌∙◌, append_assoc, length-append, Contains, lit<}
+use Rattle.std.proofs.Math.Seq.{get_or-append_seam, take-append_seam}
+use Rattle.std.proofs.lemmas.List.{append_cancel_left, append-nil, take-append-drop}
 use Rattle.std.proofs.lemmas.List.Concat.{flat_map-append}
 use Rattle.std.proofs.lemmas.List.Elements.{All-cons, All-head, All-nil, All-push, All-tail, Contains-append_left, Contains-append_right}
 use Rattle.std.proofs.lemmas.Bool.{true≢false}
@@ -15,7 +16,7 @@ use Rattle.gixobj_texts.proofs.Splits.{free_of_cut, one_cut}
 use Rattle.gixobj_fields.specs.HeaderText.{BeginsSeveralLines, EndsHeader, HasField, HasHeader, HasNoField, HasNoHeader, Header, IsHeaderName, field_text, following_text, line_text, value_of_lines}
 use Rattle.gixobj_fields.specs.HeaderReading.{HasNoId, HasNoKind, HasNoLines, IsUnfolded, RefusesHeaderField}
 use Rattle.gixobj_texts.specs.Parse.{IsFree, SplitsAt}
-use Rattle.gixobj_ids.specs.Hash.{IsHexOfAnId}
+use Rattle.gixobj_ids.specs.Hash.{IsHexOfAnId, hash_len}
 use Rattle.gixobj_ids.specs.Hash.Hex.{IsHexOf}
 use Rattle.gixobj_ids.specs.Kind.{IsNoKindWord, kind_word}
 use Rattle.gixobj_ids.specs.declared.decode.Error.{Error}
@@ -92,8 +93,32 @@ no_kind_word word tree blob commit tag object.Blob = blob
 no_kind_word word tree blob commit tag object.Commit = commit
 no_kind_word word tree blob commit tag object.Tag = tag
 
-pub no_id_of_field : (name : List ℕ) (kind : Kind) (input value rest : List ℕ) → HasField name input value rest → (IsHexOf kind value → ⊥) → HasNoId name kind input
-no_id_of_field name kind input value rest field bad hex behind (second, is) = bad (subst (IsHexOf kind) (sym (one_field name input value rest hex behind field second).0) is)
+-- ---- the hex text of an id, whose newline stands where its length says
+
+pub no_id_without_newline : (name : List ℕ) (kind : Kind) (input line : List ℕ) (len : ℕ) → input ≡ name ++ 32 ∷ line → len ≡ 2 * hash_len kind → ((front rest : List ℕ) → line ≡ front ++ 10 ∷ rest → length front ≢ len) → HasNoId name kind input
+no_id_without_newline name kind input line len joined long without hex rest has =
+    without hex rest (behind_name name input line hex rest joined has.0) (has.1.0 ∙ sym long)
+
+same_front : (a x b y : List ℕ) → a ++ x ≡ b ++ y → length a ≡ length b → a ≡ b
+same_front a x b y same long =
+    sym (take-append_seam a x) ∙ ap (take (length a)) same ∙ ap (λ (it : ℕ). take it (b ++ y)) long ∙ take-append_seam b y
+
+pub no_id_of_other_text : (name : List ℕ) (kind : Kind) (input line value rest : List ℕ) (len : ℕ) → input ≡ name ++ 32 ∷ line → len ≡ 2 * hash_len kind → line ≡ value ++ 10 ∷ rest → length value ≡ len
+    → (IsHexOf kind value → ⊥) → HasNoId name kind input
+no_id_of_other_text name kind input line value rest len joined long cut placed bad hex behind has =
+    let same : hex ≡ value = same_front hex (10 ∷ behind) value (10 ∷ rest) (sym (behind_name name input line hex behind joined has.0) ∙ cut) (has.1.0 ∙ sym (placed ∙ long)) in
+    bad (subst (IsHexOf kind) same has.1)
+
+-- the byte at a place stands between what is before it and what is behind it
+pub cut_at_place : (text : List ℕ) (place byte : ℕ) → place < length text → byte ≡ get_or text place 0 → text ≡ take place text ++ byte ∷ drop (place + 1) text
+cut_at_place text place byte within is =
+    let next : suc place ≡ place + 1 = omega arith in
+    let behind : drop place text ≡ byte ∷ drop (place + 1) text = drop-cons text place 0 within ∙ ap (λ (it : ℕ). get_or text place 0 ∷ drop it text) next ∙ ap (λ (it : ℕ). it ∷ drop (place + 1) text) (sym is) in
+    sym (take-append-drop place text) ∙ ap (λ (it : List ℕ). take place text ++ it) behind
+
+pub stands_at_place : (text front rest : List ℕ) (byte place : ℕ) → text ≡ front ++ byte ∷ rest → length front ≡ place → (place < length text) × (get_or text place 0 ≡ byte)
+stands_at_place text front rest byte place joined long =
+    (omega (arith, ap length joined, length-append front (byte ∷ rest), long), ap (λ (it : List ℕ). get_or it place 0) joined ∙ ap (λ (it : ℕ). get_or (front ++ byte ∷ rest) it 0) (sym long) ∙ get_or-append_seam front byte rest 0)
 
 -- ---- the lines that follow
 

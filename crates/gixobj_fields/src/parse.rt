@@ -1,5 +1,5 @@
 //! Header fields, read (gitdatamodel, "commits"; gitformat-signature, "Commit signatures").
-ghost use Rattle.std.specs.Prelude.{◌≡◌, ◌≢◌, ◌↔◌, ◌++◌, ◌∷◌, [], ℕ, List, IfErr, IfOk, IfSome, IfNone, IsTrue, MatchBool, MatchOption};
+ghost use Rattle.std.specs.Prelude.{◌≡◌, ◌≢◌, ◌↔◌, ◌++◌, ◌∷◌, [], ℕ, List, IfErr, IfOk, IfSome, IfNone, IsTrue, MatchBool, MatchOption, length};
 ghost use Rattle.bstr.specs.BStr.{bstr_bytes};
 ghost use Rattle.gixobj_fields.specs.HeaderReading.{BorrowsOneLine, HasId, HasNoId, HasNoKind, HasNoLines, IsUnfolded, RefusesHeaderField, header_of};
 ghost use Rattle.gixobj_fields.specs.HeaderText.{EndsHeader, HasField, HasHeader, HasNoField, IsHeaderName, LacksName};
@@ -41,13 +41,29 @@ pub fn header_id<'a>(input: &'a [u8], name: &[u8], kind: Kind) -> Option<(BStr<'
     ensures found { IfSome result (λ it. HasId name.now kind input.now (bstr_bytes it.0) it.1.now) }
     ensures none { IfNone result (HasNoId name.now kind input.now) }
 {
-    let Some((value, rest)) = header_field(input, name) else {
+    let Some(line) = after_name(input, name) else {
+        return None;
+    };
+    let Some((value, rest)) = split_at_newline(line, kind.len_in_hex()) else {
         return None;
     };
     let Some(hex) = hex_hash(value, kind) else {
         return None;
     };
     Some((hex, rest))
+}
+
+/// What stands before and after the newline at this place, or none where none stands there.
+#[inline(always)]
+#[tactic(auto, using(crate::proofs::HeaderFields::cut_at_place, crate::proofs::HeaderFields::stands_at_place))]
+fn split_at_newline(text: &[u8], place: usize) -> Option<(&[u8], &[u8])>
+    ensures found { IfSome result (λ parts. (text.now ≡ parts.0.now ++ newline ∷ parts.1.now) × (length parts.0.now ≡ place)) }
+    ensures none { IfNone result ((front rest : List ℕ) → text.now ≡ front ++ newline ∷ rest → length front ≢ place) }
+{
+    match text.get(place) {
+        Some(b'\n') => Some((&text[..place], &text[place + 1..])),
+        _ => None,
+    }
 }
 
 /// The kind of objects whose word the header field of this name has, and what follows its line, or none
