@@ -249,8 +249,8 @@ fn actor_size(name: &[u8], email: &[u8], time: &[u8]) -> Option<u64>
     texts.checked_add(time.len() as u64)?.checked_add(4)
 }
 
-/// The actor of a line and what follows its time, or none. It takes no memory.
-pub fn split_line(line: &[u8]) -> Option<(SignatureRef<'_>, &[u8])>
+/// The actor of a line and what follows its time, or none.
+pub(crate) fn split_line(line: &[u8]) -> Option<(SignatureRef<'_>, &[u8])>
     requires one_line { IsFree newline line.now }
     ensures found { IfSome result (λ it. IsActorLine line.now (bstr_bytes it.0.name) (bstr_bytes it.0.email) (bstr_bytes it.0.time) it.1.now) }
     ensures none { IfNone result (IsNoActorLine line.now) }

@@ -1,7 +1,7 @@
 //! Actors that fill their line, and what is made of them.
 ghost use Rattle.std.specs.Prelude.{◌≡◌, ℕ, List, IfErr, IfNone, IfOk, IfSome};
 ghost use Rattle.bstr.specs.BStr.{bstr_bytes};
-ghost use Rattle.gixobj_actors.specs.Actor.{IsActor, IsNoActor, IsOwnedActor, IsTrimmedActor};
+ghost use Rattle.gixobj_actors.specs.Actor.{IsActor, IsActorLine, IsNoActor, IsNoActorLine, IsOwnedActor, IsTrimmedActor};
 ghost use Rattle.gixobj_ids.specs.declared.decode.Error.TheVariants.{Malformed};
 ghost use Rattle.gixobj_texts.specs.Bytes.{newline};
 ghost use Rattle.gixobj_texts.specs.Parse.{IsFree};
@@ -34,6 +34,15 @@ pub fn signature_of_line(line: &[u8]) -> Option<SignatureRef<'_>>
         return None;
     };
     if rest.is_empty() { Some(actor) } else { None }
+}
+
+/// The actor at the front of a line without a newline, and what follows its time, or none.
+pub fn split_signature(line: &[u8]) -> Option<(SignatureRef<'_>, &[u8])>
+    requires one_line { IsFree newline line.now }
+    ensures found { IfSome result (λ it. IsActorLine line.now (bstr_bytes it.0.name) (bstr_bytes it.0.email) (bstr_bytes it.0.time) it.1.now) }
+    ensures none { IfNone result (IsNoActorLine line.now) }
+{
+    split_line(line)
 }
 
 /// The actor of a line, as it stands.

@@ -12,7 +12,8 @@ ghost use Rattle.gixobj_texts.specs.Optional.{bytes_if_some};
 
 use super::TagRef;
 use bstr::BStr;
-use gixobj_actors::actor::{SignatureRef, split_line};
+use gixobj_actors::actor::SignatureRef;
+use gixobj_actors::parse::split_signature;
 use gixobj_fields::parse::{after_name, after_newline, header_field, header_id, header_kind};
 use gixobj_ids::decode::Error;
 use gixobj_ids::hash::Kind;
@@ -92,7 +93,7 @@ pub fn tagger(input: &[u8]) -> Option<(Option<TaggerLine<'_>>, &[u8])>
     let Some((line, rest)) = header_field(input, b"tagger") else {
         return None;
     };
-    let Some((actor, _)) = split_line(line) else {
+    let Some((actor, _)) = split_signature(line) else {
         return None;
     };
     Some((Some((BStr::new(line), actor)), rest))
