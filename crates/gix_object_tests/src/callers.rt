@@ -4,6 +4,7 @@ mod checkouts;
 mod copies;
 mod imports;
 mod plans;
+mod signers;
 mod tags;
 mod uploads;
 

@@ -5,6 +5,7 @@ pub mod Imports
 pub mod Plans
 pub mod Rebuilds
 pub mod Shelves
+pub mod Signers
 pub mod Takings
 pub mod Told
 pub mod Uploads

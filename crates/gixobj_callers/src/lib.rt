@@ -11,6 +11,7 @@ pub mod planner;
 pub mod publisher;
 pub mod rebuilder;
 pub mod shelf;
+pub mod signers;
 pub mod store;
 pub mod upload;
 pub mod verifier;

@@ -1,5 +1,7 @@
 //! Messages of commits: what no table of the replay has.
 
+mod growths;
+
 use crate::helpers::hash_of;
 use bstr::BStr;
 use gixobj_base::OutOfMemory;

@@ -1,0 +1,93 @@
+//! Messages where a growth is refused on the way: want of memory is an answer of its own, behind which a reader has
+//! nothing, and with memory the same call answers all.
+
+use gixobj_base::OutOfMemory;
+use gixobj_codec::commit::MessageRef;
+use gixobj_codec::commit::message::BodyRef;
+use gixobj_codec::commit::message::body::TrailerRef;
+use std::alloc::Global;
+use std::borrow::CowSlice;
+
+/// Two trailers of two lines, and one of one line behind them.
+const BODY: &[u8] = b"Signed-off-by: 1\n 2\nLink: 3\n 4\nSigned-off-by: 5\n";
+
+/// What a call came to.
+#[derive(Clone, Copy, Debug, PartialEq, Eq)]
+enum Answer {
+    Whole,
+    WithoutMemory,
+    Other,
+}
+
+/// What a walk is at behind one more answer of its reader, and how many trailers it has come by.
+fn behind(answer: (Answer, usize), given: Result<TrailerRef<'_>, OutOfMemory>) -> (Answer, usize) {
+    match (answer, given) {
+        ((Answer::Whole, count), Ok(_)) => (Answer::Whole, count.saturating_add(1)),
+        ((Answer::Whole, count), Err(OutOfMemory)) => (Answer::WithoutMemory, count),
+        ((_, count), _) => (Answer::Other, count),
+    }
+}
+
+/// What a walk over all trailers comes to.
+fn of_trailers(alloc: Global) -> Answer {
+    let mut answer = (Answer::Whole, 0usize);
+    for trailer in BodyRef::from_bytes(BODY).trailers(alloc) {
+        answer = behind(answer, trailer);
+    }
+    match answer {
+        (Answer::Whole, 3) | (Answer::WithoutMemory, 0 | 1) => answer.0,
+        _ => Answer::Other,
+    }
+}
+
+/// What a walk over those that sign off comes to, of which a filter hands on the errors of others too.
+fn of_sign_offs(alloc: Global) -> Answer {
+    let mut answer = (Answer::Whole, 0usize);
+    for trailer in BodyRef::from_bytes(BODY).trailers(alloc).signed_off_by() {
+        answer = behind(answer, trailer);
+    }
+    match answer {
+        (Answer::Whole, 2) | (Answer::WithoutMemory, 0 | 1) => answer.0,
+        _ => Answer::Other,
+    }
+}
+
+/// What the summary of a title of two lines comes to.
+fn of_summary(alloc: Global) -> Answer {
+    let title: CowSlice<'_, u8> = match MessageRef::from_bytes(b"a\nb").summary(alloc) {
+        Ok(title) => title,
+        Err(OutOfMemory) => return Answer::WithoutMemory,
+    };
+    if title.as_slice() == b"a b".as_slice() {
+        Answer::Whole
+    } else {
+        Answer::Other
+    }
+}
+
+#[test]
+fn trailers_whatever_is_refused(rt: HostRuntime) {
+    let mut answer = of_trailers(rt.alloc());
+    if answer == Answer::WithoutMemory {
+        answer = of_trailers(rt.alloc());
+    }
+    assert!(rt; answer == Answer::Whole);
+}
+
+#[test]
+fn sign_offs_whatever_is_refused(rt: HostRuntime) {
+    let mut answer = of_sign_offs(rt.alloc());
+    if answer == Answer::WithoutMemory {
+        answer = of_sign_offs(rt.alloc());
+    }
+    assert!(rt; answer == Answer::Whole);
+}
+
+#[test]
+fn summaries_whatever_is_refused(rt: HostRuntime) {
+    let mut answer = of_summary(rt.alloc());
+    if answer == Answer::WithoutMemory {
+        answer = of_summary(rt.alloc());
+    }
+    assert!(rt; answer == Answer::Whole);
+}
