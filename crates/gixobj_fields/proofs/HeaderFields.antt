@@ -95,9 +95,11 @@ no_kind_word word tree blob commit tag object.Tag = tag
 
 -- ---- the hex text of an id, whose newline stands where its length says
 
-pub no_id_without_newline : (name : List ℕ) (kind : Kind) (input line : List ℕ) (len : ℕ) → input ≡ name ++ 32 ∷ line → len ≡ 2 * hash_len kind → ((front rest : List ℕ) → line ≡ front ++ 10 ∷ rest → length front ≢ len) → HasNoId name kind input
-no_id_without_newline name kind input line len joined long without hex rest has =
-    without hex rest (behind_name name input line hex rest joined has.0) (has.1.0 ∙ sym long)
+pub no_id_without_newline : (name : List ℕ) (kind : Kind) (input line : List ℕ) (len : ℕ) → input ≡ name ++ 32 ∷ line → len ≡ 2 * hash_len kind → get_or line len 0 ≢ 10 → HasNoId name kind input
+no_id_without_newline name kind input line len joined long other hex rest has =
+    let cut : line ≡ hex ++ 10 ∷ rest = behind_name name input line hex rest joined has.0 in
+    let placed : len ≡ length hex = long ∙ sym has.1.0 in
+    other (ap (λ (it : List ℕ). get_or it len 0) cut ∙ ap (λ (it : ℕ). get_or (hex ++ 10 ∷ rest) it 0) placed ∙ get_or-append_seam hex 10 rest 0)
 
 same_front : (a x b y : List ℕ) → a ++ x ≡ b ++ y → length a ≡ length b → a ≡ b
 same_front a x b y same long =
@@ -115,10 +117,6 @@ cut_at_place text place byte within is =
     let next : suc place ≡ place + 1 = omega arith in
     let behind : drop place text ≡ byte ∷ drop (place + 1) text = drop-cons text place 0 within ∙ ap (λ (it : ℕ). get_or text place 0 ∷ drop it text) next ∙ ap (λ (it : ℕ). it ∷ drop (place + 1) text) (sym is) in
     sym (take-append-drop place text) ∙ ap (λ (it : List ℕ). take place text ++ it) behind
-
-pub stands_at_place : (text front rest : List ℕ) (byte place : ℕ) → text ≡ front ++ byte ∷ rest → length front ≡ place → (place < length text) × (get_or text place 0 ≡ byte)
-stands_at_place text front rest byte place joined long =
-    (omega (arith, ap length joined, length-append front (byte ∷ rest), long), ap (λ (it : List ℕ). get_or it place 0) joined ∙ ap (λ (it : ℕ). get_or (front ++ byte ∷ rest) it 0) (sym long) ∙ get_or-append_seam front byte rest 0)
 
 -- ---- the lines that follow
 

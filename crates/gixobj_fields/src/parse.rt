@@ -1,5 +1,5 @@
 //! Header fields, read (gitdatamodel, "commits"; gitformat-signature, "Commit signatures").
-ghost use Rattle.std.specs.Prelude.{◌≡◌, ◌≢◌, ◌↔◌, ◌++◌, ◌∷◌, [], ℕ, List, IfErr, IfOk, IfSome, IfNone, IsTrue, MatchBool, MatchOption, length};
+ghost use Rattle.std.specs.Prelude.{◌≡◌, ◌≢◌, ◌↔◌, ◌++◌, ◌∷◌, [], ℕ, List, IfErr, IfOk, IfSome, IfNone, IsTrue, MatchBool, MatchOption, length, slice_index};
 ghost use Rattle.bstr.specs.BStr.{bstr_bytes};
 ghost use Rattle.gixobj_fields.specs.HeaderReading.{BorrowsOneLine, HasId, HasNoId, HasNoKind, HasNoLines, IsUnfolded, RefusesHeaderField, header_of};
 ghost use Rattle.gixobj_fields.specs.HeaderText.{EndsHeader, HasField, HasHeader, HasNoField, IsHeaderName, LacksName};
@@ -55,10 +55,11 @@ pub fn header_id<'a>(input: &'a [u8], name: &[u8], kind: Kind) -> Option<(BStr<'
 
 /// What stands before and after the newline at this place, or none where none stands there.
 #[inline(always)]
-#[tactic(auto, using(crate::proofs::HeaderFields::cut_at_place, crate::proofs::HeaderFields::stands_at_place))]
+#[tactic(auto, using(crate::proofs::HeaderFields::cut_at_place))]
 fn split_at_newline(text: &[u8], place: usize) -> Option<(&[u8], &[u8])>
-    ensures found { IfSome result (λ parts. (text.now ≡ parts.0.now ++ newline ∷ parts.1.now) × (length parts.0.now ≡ place)) }
-    ensures none { IfNone result ((front rest : List ℕ) → text.now ≡ front ++ newline ∷ rest → length front ≢ place) }
+    ensures cut { IfSome result (λ parts. text.now ≡ parts.0.now ++ newline ∷ parts.1.now) }
+    ensures placed { IfSome result (λ parts. length parts.0.now ≡ place) }
+    ensures none { IfNone result (slice_index text.now place ≢ newline) }
 {
     match text.get(place) {
         Some(b'\n') => Some((&text[..place], &text[place + 1..])),

@@ -11,5 +11,5 @@ returns-in_default-split_at_newline-clause-none c =
 pub returns-in_default-hex_hash-clause-none : goal.returns-in_default-hex_hash-clause-none
 returns-in_default-hex_hash-clause-none c =
     no_id_of_other_text c.args.name.now c.args.kind c.args.input.now c.in-Some.line.now c.in-Some-split_at_newline.value.now c.in-Some-split_at_newline.rest.now _
-    c.in-Some.ensures.found c.len_in_hex.ensures c.in-Some-split_at_newline.ensures.found.0 c.in-Some-split_at_newline.ensures.found.1
+    c.in-Some.ensures.found c.len_in_hex.ensures c.in-Some-split_at_newline.ensures.cut c.in-Some-split_at_newline.ensures.placed
     (λ hex. true≢false (sym (c.in_default-hex_hash.ensures.accepts.1 hex)))
