@@ -1,5 +1,5 @@
 -- What an edit of one level, or an opening in it, makes of the bases.
-use Rattle.std.proofs.Common.{◌≡◌, ◌≢◌, ◌∙◌, ℕ, true, false, cond, get_or, List, [], ◌∷◌, ◌++◌, Option, Some, None, refl, sym, ap, subst}
+use Rattle.std.proofs.Common.{◌≡◌, ◌≢◌, ◌∙◌, ℕ, true, false, cond, get_or, List, [], ◌∷◌, Option, Some, None, refl, sym, ap, subst}
 use Rattle.std.specs.Prelude.{set}
 use Rattle.std.specs.List.{AllByRecursion, position}
 use Rattle.bstr.specs.Owned.{bstring_bytes}
@@ -7,15 +7,15 @@ use Rattle.gixobj_directories.specs.declared.open.Child.{Child}
 use Rattle.std.specs.Cmp.Lexicographic.{bytes_decides}
 use Rattle.gixobj_trees.specs.Entries.{EachLater, EntryView}
 use Rattle.gixobj_files.specs.Bases.{base_edited, base_opened}
-use Rattle.std.proofs.lemmas.List.{map-append}
 use Rattle.gixobj_trees.specs.Mode.{is_tree_mode}
 use Rattle.gixobj_files.proofs.HasTrees.{of_has_tree}
 use Rattle.gixobj_files.specs.Edits.{IsEntryOf}
 use Rattle.gixobj_files.specs.Editing.{same_name}
 use Rattle.gixobj_files.specs.Files.{Path}
 use Rattle.gixobj_files.specs.Opening.{Dirs}
-use Rattle.gixobj_directories.specs.Nested.{IsLevel, Opened, Part, base_side, bases_in, bases_of, dirs_of, in_part, opened, other_parts, part, parts}
-use Rattle.gixobj_directories.proofs.Levels.{Becomes, BecomesBy, at_name, at_name_by, based_at, based_root, called, found, found_by, level_at, level_pushed, level_root, others_becomes, others_becomes_by, push_becomes, push_becomes_by, set_becomes, set_becomes_by, tied}
+use Rattle.gixobj_directories.specs.Nested.{IsLevel, Opened, Part, base_side, bases_in, bases_of, dirs_of, in_part, opened, other_parts, parts, with_part}
+use Rattle.gixobj_directories.proofs.Levels.{Becomes, BecomesBy, at_name, at_name_by, based_at, based_root, called, found, found_by, level_at, level_with, level_root, others_becomes, others_becomes_by, with_becomes, with_becomes_by, set_becomes, set_becomes_by, tied}
+use Rattle.gixobj_directories.proofs.Ordered.{level_apart}
 
 -- a directory that isn't open has no base
 pub no_base : (ds : Opened) (at : Path) → dirs_of ds at ≡ None → bases_of ds at ≡ None
@@ -99,11 +99,11 @@ module _ (g : OfBase) (settles : Settles g) (old : Opened) (es : List EntryView)
       (λ path. inside path ∙ ap (λ o. g o (dirs_of next.open path) (bases_of child.open path)) (sym (found name cs l i child same at is path))
       ∙ ap (λ b. g (in_part name (parts cs) path) (dirs_of next.open path) b) (sym (found_by base_side name cs l i child same at is path)))
 
-  pub pushed_moved : (es' : List EntryView) (ps : List Part) {base : List EntryView} → opened es base ps ≡ old → EachLater (λ x y. x.0 ≢ y.0) ps → (name : List ℕ) (inner : Opened) → EachLater (λ x y. x.0 ≢ y.0) (ps ++ (name, inner) ∷ []) → AllByRecursion (λ p. p.0 ≢ name) ps
+  pub with_moved : (es' : List EntryView) (ps : List Part) {base : List EntryView} → opened es base ps ≡ old → EachLater (λ x y. x.0 ≢ y.0) ps → (name : List ℕ) (inner : Opened) → EachLater (λ x y. x.0 ≢ y.0) (with_part (name, inner) ps) → AllByRecursion (λ p. p.0 ≢ name) ps
       → ((path : Path) → in_part name ps path ≡ None) → ((path : Path) → bases_of inner path ≡ g None (dirs_of inner path) None)
-      → (at : Path) → bases_of (opened es' base (ps ++ (name, inner) ∷ [])) at ≡ g (dirs_of old at) (dirs_of (opened es' base (ps ++ (name, inner) ∷ [])) at) (bases_of old at)
-  pushed_moved es' ps view apart name inner apart' others none inside =
-      moved g settles old es es' ps (ps ++ (name, inner) ∷ []) view apart apart' name (dirs_of inner) (bases_of inner) (push_becomes name inner ps others) (push_becomes_by base_side name inner ps others)
+      → (at : Path) → bases_of (opened es' base (with_part (name, inner) ps)) at ≡ g (dirs_of old at) (dirs_of (opened es' base (with_part (name, inner) ps)) at) (bases_of old at)
+  with_moved es' ps view apart name inner apart' others none inside =
+      moved g settles old es es' ps (with_part (name, inner) ps) view apart apart' name (dirs_of inner) (bases_of inner) (with_becomes name inner ps others) (with_becomes_by base_side name inner ps others)
       (λ path. inside path ∙ ap (λ o. g o (dirs_of inner path) None) (sym (none path)) ∙ ap (λ b. g (in_part name ps path) (dirs_of inner path) b) (sym (no_base_in name ps path (none path))))
 
 pub dropped_moved : (old : Opened) (es es' : List EntryView) (ps : List Part) {base : List EntryView} → opened es base ps ≡ old → EachLater (λ x y. x.0 ≢ y.0) ps → (name : List ℕ) → EachLater (λ x y. x.0 ≢ y.0) (other_parts name ps)
@@ -117,9 +117,8 @@ unmoved_as g settles old new same at = subst (λ (d : Opened). bases_of d at ≡
 
 -- a directory that was opened is added
 pub opened_moved : (old : Opened) (es : List EntryView) (cs new : List Child) {base : List EntryView} → opened es base (parts cs) ≡ old → IsLevel es (parts cs) → (name : List ℕ) → AllByRecursion (λ p. p.0 ≢ name) (parts cs) → ((path : Path) → in_part name (parts cs) path ≡ None)
-    → (e : EntryView) → IsEntryOf name (Some es) e → is_tree_mode e.mode ≡ true → (inner : Child) → bstring_bytes inner.name ≡ name → new ≡ cs ++ inner ∷ [] → ((path : Path) → bases_of inner.open path ≡ dirs_of inner.open path)
+    → (e : EntryView) → IsEntryOf name (Some es) e → is_tree_mode e.mode ≡ true → (inner : Opened) → parts new ≡ with_part (name, inner) (parts cs) → ((path : Path) → bases_of inner path ≡ dirs_of inner path)
     → (at : Path) → bases_of (opened es base (parts new)) at ≡ base_opened (dirs_of old at) (dirs_of (opened es base (parts new)) at) (bases_of old at)
-opened_moved old es cs new {base} view level name others none e entry tree inner named is inside at =
-    let more : parts new ≡ parts cs ++ (name, inner.open) ∷ [] = ap parts is ∙ map-append part cs (inner ∷ []) ∙ ap (λ (n : List ℕ). parts cs ++ (n, inner.open) ∷ []) named in
-    subst (λ (ps : List Part). bases_of (opened es base ps) at ≡ base_opened (dirs_of old at) (dirs_of (opened es base ps) at) (bases_of old at)) (sym more)
-    (pushed_moved base_opened opening old es es (parts cs) view level.apart name inner.open (level_pushed name inner.open es (parts cs) (of_has_tree name es e entry.0 entry.1 tree) others level).apart others none inside at)
+opened_moved old es cs new {base} view level name others none e entry tree inner is inside at =
+    subst (λ (ps : List Part). bases_of (opened es base ps) at ≡ base_opened (dirs_of old at) (dirs_of (opened es base ps) at) (bases_of old at)) (sym is)
+    (with_moved base_opened opening old es es (parts cs) view (level_apart level) name inner (level_apart (level_with name inner es (parts cs) (of_has_tree name es e entry.0 entry.1 tree) others level)) others none inside at)

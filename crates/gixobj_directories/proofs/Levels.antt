@@ -1,6 +1,6 @@
 -- One level of open directories: what is open at the directory itself, and at and below each name in it.
 use mathlib.Core.Bool.{true≢false}
-use Rattle.std.proofs.Common.{inl, inr, zero, suc, ◌≡◌, ◌≢◌, ◌<◌, ◌≤◌, ◌+◌, ℕ, Bool, true, false, not, cond, List, [], ◌∷◌, ◌++◌, Option, Some, None, get_or, length, nat_lt, refl, sym, ap, subst, ◌∙◌, one-add, arith}
+use Rattle.std.proofs.Common.{inl, inr, zero, suc, ◌≡◌, ◌≢◌, ◌<◌, ◌≤◌, ◌+◌, ℕ, Bool, true, false, not, cond, Less, List, [], ◌∷◌, ◌++◌, Option, Some, None, get_or, length, nat_lt, refl, sym, ap, subst, ◌∙◌, one-add, arith}
 use Rattle.std.specs.Prelude.{◌&&◌, set}
 use Rattle.std.specs.Cmp.{tied_then}
 use Rattle.std.specs.Cmp.Lexicographic.{bytes_decides, slice_cmp, texts_ties}
@@ -8,19 +8,20 @@ use Rattle.std.specs.List.{AllByRecursion, filter, position, position_or_len, re
 use Rattle.std.specs.Ordering.{eq_by_cmp, nat_cmp}
 use Rattle.std.proofs.lemmas.Bool.{ltb-false, ltb-true}
 use Rattle.bstr.specs.Owned.{bstring_bytes}
-use Rattle.gixobj_trees.specs.Entries.{EachLater, EntryView, IsEntryName}
+use Rattle.gixobj_trees.specs.Entries.{EachLater, EntryView, IsEntryName, key_of}
 use Rattle.gixobj_ids.specs.declared.hash.object_id.ObjectId.{ObjectId}
 use Rattle.gixobj_files.specs.Editing.{has_tree, same_name, with_entry, without}
 use Rattle.gixobj_files.specs.Edits.{with_directory}
 use Rattle.gixobj_files.specs.Files.{Path}
-use Rattle.gixobj_directories.specs.Nested.{IsLevel, Level, Opened, Part, at_side, base_side, bases_in, bases_of, below, dirs_of, entries_side, in_part, opened, other_parts, part, part_at, parts, under}
+use Rattle.gixobj_directories.specs.Nested.{IsLevel, Level, Opened, Part, at_side, base_side, bases_in, bases_of, below, dirs_of, entries_side, in_part, is_part_before, opened, other_parts, part, part_at, part_key, parts, under, with_part}
 use Rattle.gixobj_files.specs.Opening.{Dirs}
 use Rattle.gixobj_directories.specs.declared.open.Child.{Child}
 use Rattle.gixobj_files.proofs.Formed.{well_formed_with, well_formed_without}
 use Rattle.gixobj_files.proofs.HasTrees.{formed_directory, tree_beside, tree_left, tree_still, tree_there}
 use Rattle.gixobj_files.proofs.Namesakes.{PassOnce, first_removed, none_passes}
-use Rattle.gixobj_files.proofs.Sublists.{all_append, all_weaker, later_append, later_kept}
+use Rattle.gixobj_files.proofs.Sublists.{all_weaker, later_kept}
 use Rattle.gixobj_files.proofs.OpenedFiles.{name_itself, name_other, same_names}
+use Rattle.gixobj_directories.proofs.Ordered.{all_with, ordered_with}
 
 abbrev pub tied : Path → Path → Bool
 tied = eq_by_cmp (slice_cmp (slice_cmp nat_cmp))
@@ -158,13 +159,16 @@ module _ (side : Level → List EntryView) where
   pub others_becomes_by : (name : List ℕ) (ps : List Part) → BecomesBy side name (λ _. None) ps (other_parts name ps)
   others_becomes_by name ps = record { says = λ first path. others_first name ps first path }
 
-  push_first : (name : List ℕ) (ds : Opened) (ps : List Part) → AllByRecursion (λ p. p.0 ≢ name) ps → (first : List ℕ) (path : Path) → part_at side first (ps ++ (name, ds) ∷ []) path ≡ cond (same_name name first) (at_side side ds path) (part_at side first ps path)
-  push_first name ds [] others first path = refl
-  push_first name ds (p ∷ ps) others first path =
-      rw (push_first name ds ps others.1 first path) (crossed (same_name p.0 first) (same_name name first) _ _ _ (apart_names p.0 name first (name_other p.0 name others.0)))
+  with_first : (name : List ℕ) (ds : Opened) (ps : List Part) → AllByRecursion (λ p. p.0 ≢ name) ps → (first : List ℕ) (path : Path) → part_at side first (with_part (name, ds) ps) path ≡ cond (same_name name first) (at_side side ds path) (part_at side first ps path)
+  with_first name ds [] others first path = refl
+  with_first name ds (p ∷ ps) others first path =
+      elim (is_part_before p (name, ds)) as (λ b. part_at side first (cond b (p ∷ with_part (name, ds) ps) ((name, ds) ∷ p ∷ ps)) path ≡ cond (same_name name first) (at_side side ds path) (cond (same_name p.0 first) (at_side side p.1 path) (part_at side first ps path))) [
+        | true ↦ rw (with_first name ds ps others.1 first path) (crossed (same_name p.0 first) (same_name name first) _ _ _ (apart_names p.0 name first (name_other p.0 name others.0)))
+        | false ↦ refl
+      ]
 
-  pub push_becomes_by : (name : List ℕ) (ds : Opened) (ps : List Part) → AllByRecursion (λ p. p.0 ≢ name) ps → BecomesBy side name (at_side side ds) ps (ps ++ (name, ds) ∷ [])
-  push_becomes_by name ds ps others = record { says = push_first name ds ps others }
+  pub with_becomes_by : (name : List ℕ) (ds : Opened) (ps : List Part) → AllByRecursion (λ p. p.0 ≢ name) ps → BecomesBy side name (at_side side ds) ps (with_part (name, ds) ps)
+  with_becomes_by name ds ps others = record { says = with_first name ds ps others }
 
 -- of the entries
 abbrev pub Becomes : List ℕ → Dirs → List Part → List Part → Type 0
@@ -205,8 +209,8 @@ set_becomes = set_becomes_by entries_side
 pub others_becomes : (name : List ℕ) (ps : List Part) → Becomes name (λ _. None) ps (other_parts name ps)
 others_becomes = others_becomes_by entries_side
 
-pub push_becomes : (name : List ℕ) (ds : Opened) (ps : List Part) → AllByRecursion (λ p. p.0 ≢ name) ps → Becomes name (dirs_of ds) ps (ps ++ (name, ds) ∷ [])
-push_becomes = push_becomes_by entries_side
+pub with_becomes : (name : List ℕ) (ds : Opened) (ps : List Part) → AllByRecursion (λ p. p.0 ≢ name) ps → Becomes name (dirs_of ds) ps (with_part (name, ds) ps)
+with_becomes = with_becomes_by entries_side
 
 -- a level stays one where a child with the same name is set
 all_set : (P : List ℕ → Type 0) (cs : List Child) (i : ℕ) (next : Child) → AllByRecursion (λ p. P p.0) (parts cs) → bstring_bytes next.name ≡ bstring_bytes (get_or cs i next).name → AllByRecursion (λ p. P p.0) (parts (set cs i next))
@@ -224,7 +228,7 @@ level_set es cs i child next is named level =
     let own : bstring_bytes next.name ≡ bstring_bytes (get_or cs i next).name = own_name cs i child next is named in
     record {
       formed = level.formed;
-      apart = later_set (λ x y. x ≢ y) cs i next level.apart own;
+      ordered = later_set (λ x y. slice_cmp nat_cmp (key_of x true) (key_of y true) ≡ Less) cs i next level.ordered own;
       above = all_set (λ n. has_tree n es ≡ true) cs i next level.above own;
     }
   where
@@ -293,22 +297,22 @@ others_above name next es (p ∷ ps) keeps h =
 pub level_put : (x : EntryView) (es : List EntryView) (ps : List Part) → IsEntryName x.name → IsLevel es ps → IsLevel (with_entry x es) (other_parts x.name ps)
 level_put x es ps is_name level = record {
   formed = well_formed_with x es level.formed is_name;
-  apart = later_kept (λ p q. p.0 ≢ q.0) (λ p. not (same_name p.0 x.name)) ps level.apart;
+  ordered = later_kept (λ p q. slice_cmp nat_cmp (part_key p) (part_key q) ≡ Less) (λ p. not (same_name p.0 x.name)) ps level.ordered;
   above = others_above x.name (with_entry x es) es ps (λ n differ h. tree_still n x es differ h) level.above;
 }
 
 pub level_taken : (name : List ℕ) (es : List EntryView) (ps : List Part) → IsLevel es ps → IsLevel (without name es) (other_parts name ps)
 level_taken name es ps level = record {
   formed = well_formed_without name es level.formed;
-  apart = later_kept (λ p q. p.0 ≢ q.0) (λ p. not (same_name p.0 name)) ps level.apart;
+  ordered = later_kept (λ p q. slice_cmp nat_cmp (part_key p) (part_key q) ≡ Less) (λ p. not (same_name p.0 name)) ps level.ordered;
   above = others_above name (without name es) es ps (λ n differ h. tree_left n name es differ h) level.above;
 }
 
-pub level_added : (name : List ℕ) (null : ObjectId) (ds : Opened) (es : List EntryView) (ps : List Part) → IsEntryName name → AllByRecursion (λ p. p.0 ≢ name) ps → IsLevel es ps → IsLevel (with_directory name null es) (ps ++ (name, ds) ∷ [])
+pub level_added : (name : List ℕ) (null : ObjectId) (ds : Opened) (es : List EntryView) (ps : List Part) → IsEntryName name → AllByRecursion (λ p. p.0 ≢ name) ps → IsLevel es ps → IsLevel (with_directory name null es) (with_part (name, ds) ps)
 level_added name null ds es ps is_name others level = record {
   formed = formed_directory name null es level.formed is_name;
-  apart = later_append (λ (p q : Part). p.0 ≢ q.0) ps ((name, ds) ∷ []) level.apart (tt, tt) (all_weaker (λ (p : Part). p.0 ≢ name) (λ (p : Part). AllByRecursion (λ (q : Part). p.0 ≢ q.0) ((name, ds) ∷ [])) (λ p differ. (differ, tt)) ps others);
-  above = all_append (λ (p : Part). has_tree p.0 (with_directory name null es) ≡ true) ps ((name, ds) ∷ []) (all_weaker (λ (p : Part). has_tree p.0 es ≡ true) (λ (p : Part). has_tree p.0 (with_directory name null es) ≡ true) (λ p h. tree_beside p.0 name null es h) ps level.above) (tree_there name null es, tt);
+  ordered = ordered_with (name, ds) ps others level.ordered;
+  above = all_with (λ (p : Part). has_tree p.0 (with_directory name null es) ≡ true) (name, ds) ps (tree_there name null es) (all_weaker (λ (p : Part). has_tree p.0 es ≡ true) (λ (p : Part). has_tree p.0 (with_directory name null es) ≡ true) (λ p h. tree_beside p.0 name null es h) ps level.above);
 }
 
 -- the directory of a name that is open has a tree's entry
@@ -327,9 +331,9 @@ child_above es name cs l i same found_at above =
     above_first es name cs (ltb-true _ _ (chosen (nat_lt place (length cs)) place i at).0) above
 
 -- a directory is added that has a tree's entry
-pub level_pushed : (name : List ℕ) (ds : Opened) (es : List EntryView) (ps : List Part) → has_tree name es ≡ true → AllByRecursion (λ p. p.0 ≢ name) ps → IsLevel es ps → IsLevel es (ps ++ (name, ds) ∷ [])
-level_pushed name ds es ps tree others level = record {
+pub level_with : (name : List ℕ) (ds : Opened) (es : List EntryView) (ps : List Part) → has_tree name es ≡ true → AllByRecursion (λ p. p.0 ≢ name) ps → IsLevel es ps → IsLevel es (with_part (name, ds) ps)
+level_with name ds es ps tree others level = record {
   formed = level.formed;
-  apart = later_append (λ (p q : Part). p.0 ≢ q.0) ps ((name, ds) ∷ []) level.apart (tt, tt) (all_weaker (λ (p : Part). p.0 ≢ name) (λ (p : Part). AllByRecursion (λ (q : Part). p.0 ≢ q.0) ((name, ds) ∷ [])) (λ p differ. (differ, tt)) ps others);
-  above = all_append (λ (p : Part). has_tree p.0 es ≡ true) ps ((name, ds) ∷ []) level.above (tree, tt);
+  ordered = ordered_with (name, ds) ps others level.ordered;
+  above = all_with (λ (p : Part). has_tree p.0 es ≡ true) (name, ds) ps tree level.above;
 }

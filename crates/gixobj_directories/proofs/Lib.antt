@@ -7,6 +7,7 @@ pub mod Levels
 pub mod LookedUp
 pub mod NamedTrees
 pub mod OpeningSteps
+pub mod Ordered
 pub mod OwnTrees
 pub mod SameTrees
 pub mod Steps

@@ -1,7 +1,6 @@
 -- One step of opening the directories on a path.
 use Rattle.std.proofs.Common.{◌≡◌, ◌≢◌, inl, inr, ◌∙◌, ◌≤◌, ◌+◌, ℕ, min, true, false, cond, List, [], ◌∷◌, ◌++◌, Option, Some, None, get_or, length, refl, sym, ap, subst, arith, Result, Ok, Err}
 use Rattle.std.specs.Prelude.{IfNone, OnErr, set}
-use Rattle.std.proofs.lemmas.List.{map-append}
 use Rattle.std.specs.Option.{option_copied}
 use denote.Ref.{Bor}
 use Rattle.std.specs.List.{AllByRecursion, find, position}
@@ -15,7 +14,7 @@ use Rattle.gixobj_directories.specs.Calls.{names_of}
 use Rattle.gixobj_files.specs.Editing.{same_name}
 use Rattle.gixobj_files.specs.Edits.{Finds, IsEntryOf, Opens, counted, down, found, only, stops, with_dir}
 use Rattle.gixobj_files.specs.Files.{Has, Path, Trees}
-use Rattle.gixobj_directories.specs.Nested.{IsLevel, Opened, Part, dirs_of, in_part, opened, part, parts}
+use Rattle.gixobj_directories.specs.Nested.{IsLevel, Opened, Part, dirs_of, in_part, opened, parts, with_part}
 use Rattle.gixobj_files.specs.Halting.{Halts, at_once, in_vain}
 use Rattle.gixobj_files.specs.Halting as halting
 use Rattle.gixobj_files.specs.Opening.{Dirs, HasAt, IsOpened, in_dir}
@@ -27,9 +26,10 @@ use Rattle.gixobj_directories.specs.declared.opening.Unasked.TheVariants as unas
 use Rattle.gixobj_files.proofs.UnopenedCounts.{IsIdle}
 use Rattle.gixobj_files.proofs.StillOpenedOpenings.{opened_in_dir, opened_only, opened_with_dir}
 use Rattle.gixobj_files.proofs.HasTrees.{has_tree_of, of_has_tree}
-use Rattle.gixobj_directories.proofs.Levels.{at_name, called, child_above, level_pushed, level_set, push_becomes, set_becomes}
+use Rattle.gixobj_directories.proofs.Levels.{at_name, called, child_above, level_with, level_set, with_becomes, set_becomes}
 use Rattle.gixobj_directories.proofs.Levels as levels
 use Rattle.gixobj_directories.proofs.Steps.{replaced}
+use Rattle.gixobj_directories.proofs.Ordered.{level_apart}
 
 -- the first entry of a name is the only one
 pub first_entry : (name : List ℕ) (es : List EntryView) (e : EntryView) → find (λ x. same_name x.name name) es ≡ Some e → EachLater (λ x y. x.name ≢ y.name) es → IsEntryOf name (Some es) e
@@ -97,7 +97,7 @@ GoesIn Fits R =
 
 pub stop_step : {Ends : EntryView → Type 0} (trees : Trees) (es : List EntryView) (ps : List Part) → IsLevel es ps → (name : List ℕ) (rest : Path) → ((path : Path) → in_part name ps path ≡ None) → ((e : EntryView) → Has es e → e.name ≡ name → Ends e)
     → Opens Ends trees (name ∷ rest) (dirs_of (opened es [] ps)) (dirs_of (opened es [] ps)) []
-stop_step trees es ps level name rest none other = stops name rest (dirs_of (opened es [] ps)) other (λ path. at_name es [] ps name path level.apart ∙ none path)
+stop_step trees es ps level name rest none other = stops name rest (dirs_of (opened es [] ps)) other (λ path. at_name es [] ps name path (level_apart level) ∙ none path)
 
 module _ (Fits : EntryView → List EntryView → List ObjectId → Type 0) (R : Path → Dirs → Dirs → List ObjectId → Type 0) (goes_down : GoesDown R) (goes_in : GoesIn Fits R) (es : List EntryView) where
   pub down_step : (cs l : List Child) → IsLevel es (parts cs) → (name : List ℕ) (rest : Path) (i : ℕ) (child next : Child) → l ≡ cs → Some i ≡ position (called name) l → child ≡ get_or cs i child → bstring_bytes next.name ≡ bstring_bytes child.name
@@ -106,20 +106,20 @@ module _ (Fits : EntryView → List EntryView → List ObjectId → Type 0) (R :
   down_step cs l level name rest i child next same at is named entries root asked opens =
       let old : Dirs = dirs_of (opened es [] (parts cs)) in
       let e = has_tree_of name es (child_above es name cs l i same at level.above) in
-      let inside : in_dir name old ≡ dirs_of child.open = λ j path. (at_name es [] (parts cs) name path level.apart ∙ levels.found name cs l i child same at is path) j in
-      let new_is : dirs_of (opened es [] (parts (set cs i next))) ≡ with_dir name (dirs_of next.open) old = λ j path. replaced (opened es [] (parts cs)) es es (parts cs) (parts (set cs i next)) refl level.apart (level_set es cs i child next is named level).apart name (dirs_of next.open) (set_becomes name cs l i child next same at is named) refl path j in
+      let inside : in_dir name old ≡ dirs_of child.open = λ j path. (at_name es [] (parts cs) name path (level_apart level) ∙ levels.found name cs l i child same at is path) j in
+      let new_is : dirs_of (opened es [] (parts (set cs i next))) ≡ with_dir name (dirs_of next.open) old = λ j path. replaced (opened es [] (parts cs)) es es (parts cs) (parts (set cs i next)) refl (level_apart level) (level_apart (level_set es cs i child next is named level)) name (dirs_of next.open) (set_becomes name cs l i child next same at is named) refl path j in
       subst (λ (d : Dirs). R (name ∷ rest) old d asked) (sym new_is)
       (goes_down name rest old (dirs_of next.open) e.0 entries asked e.1 e.2 (ap (λ (d : Dirs). d []) inside ∙ root) (subst (λ (d : Dirs). R rest d (dirs_of next.open) asked) (sym inside) opens))
 
   pub found_step : (ps : List Part) → IsLevel es ps → (name : List ℕ) (rest : Path) → AllByRecursion (λ p. p.0 ≢ name) ps → ((path : Path) → in_part name ps path ≡ None) → (e : EntryView) → IsEntryOf name (Some es) e → is_tree_mode e.mode ≡ true
       → (entries : List EntryView) (first asked : List ObjectId) → Fits e entries first → (inner : Opened) → R rest (dirs_of (opened entries [] [])) (dirs_of inner) asked
-      → R (name ∷ rest) (dirs_of (opened es [] ps)) (dirs_of (opened es [] (ps ++ (name, inner) ∷ []))) (first ++ asked)
+      → R (name ∷ rest) (dirs_of (opened es [] ps)) (dirs_of (opened es [] (with_part (name, inner) ps))) (first ++ asked)
   found_step ps level name rest others none e entry tree entries first asked finds inner opens =
       let old : Dirs = dirs_of (opened es [] ps) in
-      let more = level_pushed name inner es ps (of_has_tree name es e entry.0 entry.1 tree) others level in
-      let new_is : dirs_of (opened es [] (ps ++ (name, inner) ∷ [])) ≡ with_dir name (dirs_of inner) old = λ j path. replaced (opened es [] ps) es es ps (ps ++ (name, inner) ∷ []) refl level.apart more.apart name (dirs_of inner) (push_becomes name inner ps others) refl path j in
+      let more = level_with name inner es ps (of_has_tree name es e entry.0 entry.1 tree) others level in
+      let new_is : dirs_of (opened es [] (with_part (name, inner) ps)) ≡ with_dir name (dirs_of inner) old = λ j path. replaced (opened es [] ps) es es ps (with_part (name, inner) ps) refl (level_apart level) (level_apart more) name (dirs_of inner) (with_becomes name inner ps others) refl path j in
       subst (λ (d : Dirs). R (name ∷ rest) old d (first ++ asked)) (sym new_is)
-      (goes_in name rest old (dirs_of inner) e entries first asked entry tree (λ path. at_name es [] ps name path level.apart ∙ none path) finds (subst (λ (d : Dirs). R rest d (dirs_of inner) asked) (only_is entries) opens))
+      (goes_in name rest old (dirs_of inner) e entries first asked entry tree (λ path. at_name es [] ps name path (level_apart level) ∙ none path) finds (subst (λ (d : Dirs). R rest d (dirs_of inner) asked) (only_is entries) opens))
 
 -- an option that was copied
 pub copied_some : {X : Type 0} (r : Option (Bor X)) (o : Option X) (x : Bor X) → option_copied r ≡ o → r ≡ Some x → o ≡ Some x.now
@@ -146,20 +146,17 @@ module _ (Fits : EntryView → List EntryView → List ObjectId → Type 0) (R :
       (subst (λ (d : Opened). R (name ∷ rest) (dirs_of d) (dirs_of (opened es [] (parts (set cs i next)))) asked) view (down_step Fits R goes_down goes_in es cs l level name rest i child next same at is named entries root asked opens))
 
   pub found_in : (cs : List Child) {base : List EntryView} → opened es base (parts cs) ≡ ds → IsLevel es (parts cs) → AllByRecursion (λ p. p.0 ≢ name) (parts cs) → ((at : Path) → in_part name (parts cs) at ≡ None) → (e : EntryView) → IsEntryOf name (Some es) e → is_tree_mode e.mode ≡ true
-      → (entries : List EntryView) (first asked : List ObjectId) → Fits e entries first → (inner : Child) → bstring_bytes inner.name ≡ name → (new : List Child) → new ≡ cs ++ inner ∷ [] → R rest (dirs_of (opened entries [] [])) (dirs_of inner.open) asked
+      → (entries : List EntryView) (first asked : List ObjectId) → Fits e entries first → (inner : Opened) (new : List Child) → parts new ≡ with_part (name, inner) (parts cs) → R rest (dirs_of (opened entries [] [])) (dirs_of inner) asked
       → R path (dirs_of ds) (dirs_of (opened es [] (parts new))) (first ++ asked)
-  found_in cs view level others none e entry tree entries first asked finds inner named new is opens =
-      let more : parts new ≡ parts cs ++ (name, inner.open) ∷ [] = ap parts is ∙ map-append part cs (inner ∷ []) ∙ ap (λ (n : List ℕ). parts cs ++ (n, inner.open) ∷ []) named in
+  found_in cs view level others none e entry tree entries first asked finds inner new is opens =
       subst (λ p. R p (dirs_of ds) (dirs_of (opened es [] (parts new))) (first ++ asked)) (sym path_is)
-      (subst (λ (ps : List Part). R (name ∷ rest) (dirs_of ds) (dirs_of (opened es [] ps)) (first ++ asked)) (sym more)
-      (subst (λ (d : Opened). R (name ∷ rest) (dirs_of d) (dirs_of (opened es [] (parts cs ++ (name, inner.open) ∷ []))) (first ++ asked)) view
-      (found_step Fits R goes_down goes_in es (parts cs) level name rest others none e entry tree entries first asked finds inner.open opens)))
+      (subst (λ (ps : List Part). R (name ∷ rest) (dirs_of ds) (dirs_of (opened es [] ps)) (first ++ asked)) (sym is)
+      (subst (λ (d : Opened). R (name ∷ rest) (dirs_of d) (dirs_of (opened es [] (with_part (name, inner) (parts cs)))) (first ++ asked)) view
+      (found_step Fits R goes_down goes_in es (parts cs) level name rest others none e entry tree entries first asked finds inner opens)))
 
-pub level_new : (name : List ℕ) (es : List EntryView) (cs : List Child) → IsLevel es (parts cs) → AllByRecursion (λ p. p.0 ≢ name) (parts cs) → (e : EntryView) → IsEntryOf name (Some es) e → is_tree_mode e.mode ≡ true → (inner : Child) → bstring_bytes inner.name ≡ name
-    → (new : List Child) → new ≡ cs ++ inner ∷ [] → IsLevel es (parts new)
-level_new name es cs level others e entry tree inner named new is =
-    let more : parts new ≡ parts cs ++ (name, inner.open) ∷ [] = ap parts is ∙ map-append part cs (inner ∷ []) ∙ ap (λ (n : List ℕ). parts cs ++ (n, inner.open) ∷ []) named in
-    subst (IsLevel es) (sym more) (level_pushed name inner.open es (parts cs) (of_has_tree name es e entry.0 entry.1 tree) others level)
+pub level_new : (name : List ℕ) (es : List EntryView) (cs : List Child) → IsLevel es (parts cs) → AllByRecursion (λ p. p.0 ≢ name) (parts cs) → (e : EntryView) → IsEntryOf name (Some es) e → is_tree_mode e.mode ≡ true → (inner : Opened) (new : List Child) → parts new ≡ with_part (name, inner) (parts cs)
+    → IsLevel es (parts new)
+level_new name es cs level others e entry tree inner new is = subst (IsLevel es) (sym is) (level_with name inner es (parts cs) (of_has_tree name es e entry.0 entry.1 tree) others level)
 
 pub names_none : (path : List BString) → length path ≡ 0 → names_of path ≡ []
 names_none [] h = refl
@@ -205,12 +202,12 @@ halted_here Ends trees path name rest es ds cs new path_is {base} view same aske
 -- since there was no memory
 pub no_memory : (Ends : EntryView → Type 0) (trees : Trees) (name : List ℕ) (rest : Path) (es : List EntryView) (cs : List Child) → IsLevel es (parts cs) → ((at : Path) → in_part name (parts cs) at ≡ None) → (e : EntryView) → IsEntryOf name (Some es) e → is_tree_mode e.mode ≡ true → (Ends e → ⊥)
     → Halts Ends trees (name ∷ rest) (dirs_of (opened es [] (parts cs))) (dirs_of (opened es [] (parts cs))) [] None
-no_memory Ends trees name rest es cs level none e entry tree free = at_once name rest (dirs_of (opened es [] (parts cs))) e entry tree free (λ at. at_name es [] (parts cs) name at level.apart ∙ none at)
+no_memory Ends trees name rest es cs level none e entry tree free = at_once name rest (dirs_of (opened es [] (parts cs))) e entry tree free (λ at. at_name es [] (parts cs) name at (level_apart level) ∙ none at)
 
 -- since the directory of the name wasn't found
 pub none_found : (Ends : EntryView → Type 0) (trees : Trees) (name : List ℕ) (rest : Path) (es : List EntryView) (cs : List Child) → IsLevel es (parts cs) → ((at : Path) → in_part name (parts cs) at ≡ None) → (e : EntryView) → IsEntryOf name (Some es) e → is_tree_mode e.mode ≡ true → (Ends e → ⊥)
     → (IsEmptyId e.id → ⊥) → Halts Ends trees (name ∷ rest) (dirs_of (opened es [] (parts cs))) (dirs_of (opened es [] (parts cs))) (e.id ∷ []) (Some e.id)
-none_found Ends trees name rest es cs level none e entry tree free filled = in_vain name rest (dirs_of (opened es [] (parts cs))) e entry tree free (λ at. at_name es [] (parts cs) name at level.apart ∙ none at) filled
+none_found Ends trees name rest es cs level none e entry tree free filled = in_vain name rest (dirs_of (opened es [] (parts cs))) e entry tree free (λ at. at_name es [] (parts cs) name at (level_apart level) ∙ none at) filled
 
 -- and so does what open directories are
 abbrev pub StaysOpened : Path → Dirs → Dirs → List ObjectId → Type 0

@@ -1,12 +1,13 @@
 -- Nested open directories as one list: each open path with its entries and its base, from the top.
-use Rattle.std.specs.Prelude.{◌≡◌, ◌≢◌, ℕ, true, not, List, [], ◌∷◌, ◌++◌, map, length, None, if◌then◌else◌}
+use Rattle.std.specs.Prelude.{◌≡◌, ℕ, Bool, true, not, List, [], ◌∷◌, ◌++◌, map, length, None, if◌then◌else◌}
 use Rattle.std.proofs.Common.{arith}
 use Rattle.std.specs.List.{AllByRecursion, filter}
-use Rattle.std.specs.Ordering.{nat_cmp}
+use Rattle.std.specs.Ordering.{is_lt, nat_cmp}
+use Rattle.std.specs.declared.cmp.Ordering.TheVariants.{Less}
 use Rattle.std.specs.Cmp.Lexicographic.{slice_cmp}
 use Rattle.std.specs.FinMap.{find}
 use Rattle.bstr.specs.Owned.{bstring_bytes}
-use Rattle.gixobj_trees.specs.Entries.{EachLater, EntryView, IsWellFormed}
+use Rattle.gixobj_trees.specs.Entries.{EachLater, EntryView, IsWellFormed, key_of}
 use Rattle.gixobj_files.specs.Editing.{has_tree, same_name}
 use Rattle.gixobj_files.specs.Files.{Path}
 use Rattle.gixobj_files.specs.Opening.{Dirs}
@@ -63,10 +64,26 @@ dirs_of ds = at_side entries_side ds
 abbrev pub bases_of : Opened → Dirs
 bases_of ds = at_side base_side ds
 
--- one level: its tree is well-formed, and each open directory in it has a name of its own, that of a tree's entry
+-- the key of a directory's entry
+abbrev pub part_key : Part → List ℕ
+part_key p = key_of p.0 true
+
+-- the directory's entry comes before the other's
+abbrev pub is_part_before : Part → Part → Bool
+is_part_before p q = is_lt (slice_cmp nat_cmp (part_key p) (part_key q))
+
+-- its entry comes before that of the directory of a name
+abbrev pub is_child_before : List ℕ → Child → Bool
+is_child_before name c = is_lt (slice_cmp nat_cmp (key_of (bstring_bytes c.name) true) (key_of name true))
+
+-- directories in the order of their entries
+abbrev pub AreOrdered : List Part → Type 0
+AreOrdered ps = EachLater (λ p q. slice_cmp nat_cmp (part_key p) (part_key q) ≡ Less) ps
+
+-- one level: its tree is well-formed, and the open directories in it stand in the order of their entries, each with the name of a tree's entry
 pub record IsLevel (entries : List EntryView) (ps : List Part) : Type 0 where
   pub formed : IsWellFormed entries
-  pub apart : EachLater (λ x y. x.0 ≢ y.0) ps
+  pub ordered : AreOrdered ps
   pub above : AllByRecursion (λ p. has_tree p.0 entries ≡ true) ps
 
 pub length-under : (name : List ℕ) (ds : Opened) → length (under name ds) ≡ length ds
@@ -87,3 +104,8 @@ bases_in name ps = part_at base_side name ps
 -- the directories of other names
 abbrev pub other_parts : List ℕ → List Part → List Part
 other_parts name ps = filter (λ p. not (same_name p.0 name)) ps
+
+-- with one directory more, before the first whose entry comes later
+abbrev pub with_part : Part → List Part → List Part
+with_part p [] = p ∷ []
+with_part p (q ∷ qs) = if is_part_before q p then q ∷ with_part p qs else p ∷ q ∷ qs

@@ -1,17 +1,18 @@
 //! Open directories, each with the open directories in it.
-ghost use Rattle.std.specs.Prelude.{◌≡◌, ◌≢◌, ◌<◌, true, false, IfNone, IfSome, Some, ◌∷◌, [], ◌++◌, IfOk, List, None, OnErr, OnOk, vec_capacity, vec_len};
-ghost use Rattle.std.specs.List.{AllByRecursion, find, position};
+ghost use Rattle.std.specs.Prelude.{◌≡◌, ◌<◌, true, false, IfNone, IfSome, Some, [], ◌++◌, IfOk, List, MatchResult, None, OnErr, OnOk, vec_capacity, vec_len};
+ghost use Rattle.std.specs.List.{AllByRecursion, find, position, prefix_len};
 ghost use Rattle.std.specs.Option.{option_copied};
+ghost use Rattle.std.specs.Result.{result_ok};
 ghost use Rattle.bstr.specs.Owned.{bstring_bytes};
 ghost use Rattle.gixobj_texts.specs.Bytes.{slash};
 ghost use Rattle.gixobj_texts.specs.Parse.{IsFree};
-ghost use Rattle.gixobj_trees.specs.Entries.{EachLater, EntryView, IsEntryName, IsWellFormed};
+ghost use Rattle.gixobj_trees.specs.Entries.{EntryView, IsEntryName, IsWellFormed};
 ghost use Rattle.gixobj_trees.specs.Mode.{is_tree_mode, mode_bits};
 ghost use Rattle.gixobj_files.specs.Editing.{has_tree, same_name, with_entry, without};
 ghost use Rattle.gixobj_files.specs.Edits.{IsEntryOf, entry_at, removed_dirs, upserted_dirs, with_directory};
 ghost use Rattle.gixobj_files.specs.Files.{Has, Path};
 ghost use Rattle.gixobj_directories.specs.Calls.{names_of};
-ghost use Rattle.gixobj_directories.specs.Nested.{bases_of, dirs_of, opened, other_parts, parts};
+ghost use Rattle.gixobj_directories.specs.Nested.{AreOrdered, bases_of, dirs_of, is_child_before, opened, other_parts, parts, with_part};
 ghost use Rattle.gixobj_files.specs.Bases.{edited_bases};
 
 use crate::entries::{copies, put};
@@ -19,6 +20,7 @@ use crate::places::{place_by_key, place_of, take_named};
 use bstr::BString;
 use gixobj_ids::hash::ObjectId;
 use gixobj_trees::Tree;
+use gixobj_trees::tree::order::key_order;
 use gixobj_trees::tree::{Entry, EntryKind, EntryMode};
 use std::alloc::{AllocError, Global};
 use std::marker::Model;
@@ -27,7 +29,8 @@ use std::marker::Model;
 ///
 /// In contracts it is the list of the open paths, each with the entries of its directory and its base, the
 /// entries that it was opened with; its own path, without names, is the first. Its tree is well-formed, and
-/// each open directory in it has a name of its own, that of a tree's entry. A path is a list of names.
+/// the open directories in it stand in the order of their entries, each with the name of a tree's entry. A path
+/// is a list of names.
 #[cycle(open)]
 #[derive(Drop)]
 pub struct Open {
@@ -66,15 +69,21 @@ impl Model for Open {
 
 /// The place of a directory among those that are open.
 pub(crate) fn child_at(children: &[Child], name: &BString) -> Option<usize>
+    requires { AreOrdered (parts children.now) }
     ensures { result ≡ position (λ c. same_name (bstring_bytes c.name) (bstring_bytes name.now)) children.now }
 {
-    children.iter().position(|child| is_named(child, name))
+    child_place(children, name).ok()
 }
 
-fn is_named(child: &Child, name: &BString) -> bool
-    ensures { result ≡ same_name (bstring_bytes child.now.name) (bstring_bytes name.now) }
+/// The place of the directory of a name, or else that where it would stand: sought by halves.
+fn child_place(children: &[Child], name: &BString) -> Result<usize, usize>
+    requires { AreOrdered (parts children.now) }
+    ensures found { result_ok result ≡ position (λ c. same_name (bstring_bytes c.name) (bstring_bytes name.now)) children.now }
+    ensures place { MatchResult result
+        (λ i. i ≡ prefix_len (is_child_before (bstring_bytes name.now)) children.now)
+        (λ i. i ≡ prefix_len (is_child_before (bstring_bytes name.now)) children.now) }
 {
-    child.name.as_bytes() == name.as_bytes()
+    children.binary_search_by(|child| key_order(child.name.as_bytes(), true, name.as_bytes(), true))
 }
 
 impl Open {
@@ -318,23 +327,20 @@ pub(crate) fn add_directory(
 ) -> Result<(), AllocError>
     requires well_formed { IsWellFormed tree.old }
     requires name { IsEntryName (bstring_bytes name.now) }
-    ensures ok { OnOk result ((tree.new ≡ with_directory (bstring_bytes name.now) null tree.old) × (parts children.new.items ≡ parts children.old.items ++ (bstring_bytes name.now, inner) ∷ [])) }
+    requires ordered { AreOrdered (parts children.old.items) }
+    ensures ok { OnOk result ((tree.new ≡ with_directory (bstring_bytes name.now) null tree.old) × (parts children.new.items ≡ with_part (bstring_bytes name.now, inner) (parts children.old.items))) }
     ensures unchanged { OnErr result ((tree.new ≡ tree.old) × (children.new.items ≡ children.old.items)) }
 {
     let alloc = *tree.entries.allocator();
-    let name_copy = BString::from_slice(alloc, name.as_bytes())?;
-    children.reserve(1)?;
+    let own_name = room_for(alloc, children, name)?;
     make_directory(tree, name, null)?;
-    let _ = children.push(Child {
-        name: name_copy,
-        open: inner,
-    });
+    put_child(children, own_name, inner);
     Ok(())
 }
 
 /// Shuts the directory of a name.
 fn drop_child(children: &mut Vec<Child>, name: &BString)
-    requires { EachLater (λ x y. x.0 ≢ y.0) (parts children.old.items) }
+    requires { AreOrdered (parts children.old.items) }
     ensures { parts children.new.items ≡ other_parts (bstring_bytes name.now) (parts children.old.items) }
 {
     if let Some(place) = child_at(children, name) {
@@ -356,12 +362,25 @@ pub(crate) fn room_for(
     Ok(copied)
 }
 
-/// Adds a directory, where there is room.
-pub(crate) fn push_child(children: &mut Vec<Child>, name: BString, inner: Open)
-    requires { vec_len children.old < vec_capacity children.old }
-    ensures { children.new.items ≡ children.old.items ++ record { name = name; «open» = inner } ∷ [] }
+/// Puts a directory in at its place, where there is room.
+pub(crate) fn put_child(children: &mut Vec<Child>, name: BString, inner: Open)
+    requires room { vec_len children.old < vec_capacity children.old }
+    requires ordered { AreOrdered (parts children.old.items) }
+    ensures { parts children.new.items ≡ with_part (bstring_bytes name, inner) (parts children.old.items) }
 {
-    let _ = children.push(Child { name, open: inner });
+    let place = place_for(children, &name);
+    let _ = children.insert(place, Child { name, open: inner });
+}
+
+/// How many of the first directories come before that of a name.
+fn place_for(children: &[Child], name: &BString) -> usize
+    requires { AreOrdered (parts children.now) }
+    ensures { result ≡ prefix_len (is_child_before (bstring_bytes name.now)) children.now }
+{
+    match child_place(children, name) {
+        Ok(place) => place,
+        Err(place) => place,
+    }
 }
 
 /// The id of the entry of a name, where that is of a tree's mode.

@@ -15,7 +15,7 @@ ghost use Rattle.gixobj_directories.specs.Nested.{bases_of, dirs_of};
 ghost use Rattle.gixobj_directories.specs.Openings.{AreTreesOf, EndsBefore, NamesTree, RefusesAt, RefusesDirectory};
 ghost use Rattle.gixobj_directories.specs.declared.opening.Unasked.TheVariants.{Left};
 
-use crate::open::{Open, child_at, copy_tree, push_child, room_for, tree_id};
+use crate::open::{Open, child_at, copy_tree, put_child, room_for, tree_id};
 use bstr::BString;
 use gixobj_data::{Find, find};
 use gixobj_ids::hash::ObjectId;
@@ -206,7 +206,7 @@ impl Open {
         let (tree, base) = load(alloc, store, id, lookups)?;
         let mut inner = Open::with_base(alloc, tree, base);
         let opened = inner.open_along(alloc, rest, unasked, store, lookups);
-        push_child(&mut self.children, own_name, inner);
+        put_child(&mut self.children, own_name, inner);
         opened
     }
 }

@@ -11,7 +11,7 @@ ghost use Rattle.gixobj_files.specs.Opening.{in_path};
 ghost use Rattle.gixobj_files.specs.Tables.{Pair};
 ghost use Rattle.gixobj_directories.specs.Calls.{IsCallableOnTrees, IsStorable, names_of};
 ghost use Rattle.gixobj_directories.specs.Handing.{Stopped, Visits, kept_with};
-ghost use Rattle.gixobj_directories.specs.Nested.{bases_in, bases_of, dirs_of, in_part, opened, parts};
+ghost use Rattle.gixobj_directories.specs.Nested.{AreOrdered, bases_in, bases_of, dirs_of, in_part, opened, parts};
 ghost use Rattle.gixobj_directories.specs.OwnTrees.{IsBeside, so_far};
 
 use crate::open::{Child, Open, child_at, copy_tree};
@@ -109,6 +109,7 @@ fn visit<E, F: FnMut(&Tree) -> Result<ObjectId, E>>(
     pairs: &mut Vec<(ObjectId, Tree)>,
     saved: &mut usize,
 ) -> Result<Option<ObjectId>, WriteError<E>>
+    requires ordered { AreOrdered (parts children.now) }
     requires callable { IsCallableOnTrees F.pre (λ f p g. CalledAt F.FnMut f p.1 (Ok p.0) g) out.old }
     ensures ok { IfOk result (λ id. (inner : List Pair) × (count : ℕ)
         × Visits (in_part entry.now.name (parts children.now)) (bases_in entry.now.name (parts children.now))

@@ -13,6 +13,7 @@ use Rattle.gixobj_files.specs.Opening.{Dirs, in_dir}
 use Rattle.gixobj_directories.proofs.Handing.{counts, in_both, raised_then, some_based, visit_unchanged, FoldsTo-append, FoldsTo-one, callable_after, err_weaker, is_empty_list, is_filled_list, none_inside, some_inside, stopped_after, stopped_here, visit_emptied, visit_open, visit_shut, visit_written, walk_ends, walk_goes, walk_on, walk_step, walk_storable}
 use Rattle.gixobj_directories.proofs.Levels.{level_root}
 use Rattle.gixobj_directories.proofs.Steps.{in_dir_based, in_dir_is}
+use Rattle.gixobj_directories.proofs.Ordered.{level_apart}
 use Rattle.gixobj_directories.proofs.write.+walk.Goals as goal
 
 pub leaves-loop-entry-init : goal.leaves-loop-entry-init
@@ -31,9 +32,9 @@ leaves-loop-entry-preserved g t c =
     let bases = bases_of node in
     let items = c.entries_of-entry-items.result.now in
     let inside = in_part e.name (parts c.deref.result.now) in
-    let same : in_dir e.name dirs ≡ inside = in_dir_is node c.node.inside.tree (parts c.node.inside.children.items) c.node.view_is c.node.invariant.apart e.name ∙ ap (λ cs. in_part e.name (parts cs)) (sym c.deref.ensures.value) in
+    let same : in_dir e.name dirs ≡ inside = in_dir_is node c.node.inside.tree (parts c.node.inside.children.items) c.node.view_is (level_apart c.node.invariant) e.name ∙ ap (λ cs. in_part e.name (parts cs)) (sym c.deref.ensures.value) in
     let based = bases_in e.name (parts c.deref.result.now) in
-    let base : in_dir e.name bases ≡ based = in_dir_based node c.node.inside.tree (parts c.node.inside.children.items) c.node.view_is c.node.invariant.apart e.name ∙ ap (λ cs. bases_in e.name (parts cs)) (sym c.deref.ensures.value) in
+    let base : in_dir e.name bases ≡ based = in_dir_based node c.node.inside.tree (parts c.node.inside.children.items) c.node.view_is (level_apart c.node.invariant) e.name ∙ ap (λ cs. bases_in e.name (parts cs)) (sym c.deref.ensures.value) in
     let ok = c.in_ok-id.ensures.ok in
     let kept = c.in_ok-keep.ensures in
     record {
@@ -58,9 +59,9 @@ leaves-returns-in_err-id-clause-stopped g t c =
     let bases = bases_of node in
     let items = c.entries_of-entry-items.result.now in
     let inside = in_part e.name (parts c.deref.result.now) in
-    let same : in_dir e.name dirs ≡ inside = in_dir_is node c.node.inside.tree (parts c.node.inside.children.items) c.node.view_is c.node.invariant.apart e.name ∙ ap (λ cs. in_part e.name (parts cs)) (sym c.deref.ensures.value) in
+    let same : in_dir e.name dirs ≡ inside = in_dir_is node c.node.inside.tree (parts c.node.inside.children.items) c.node.view_is (level_apart c.node.invariant) e.name ∙ ap (λ cs. in_part e.name (parts cs)) (sym c.deref.ensures.value) in
     let based = bases_in e.name (parts c.deref.result.now) in
-    let base : in_dir e.name bases ≡ based = in_dir_based node c.node.inside.tree (parts c.node.inside.children.items) c.node.view_is c.node.invariant.apart e.name ∙ ap (λ cs. bases_in e.name (parts cs)) (sym c.deref.ensures.value) in
+    let base : in_dir e.name bases ≡ based = in_dir_based node c.node.inside.tree (parts c.node.inside.children.items) c.node.view_is (level_apart c.node.invariant) e.name ∙ ap (λ cs. bases_in e.name (parts cs)) (sym c.deref.ensures.value) in
     let root : dirs [] ≡ Some items = level_root node c.node.inside.tree (parts c.node.inside.children.items) c.node.view_is ∙ ap Some (sym c.entries_of-entry-items.ensures) in
     let rest = walk_on node (drop (c.loop-entry.entry-index + 1) items) in
     err_weaker c.from_residual.result _ _ c.from_residual.ensures.1
@@ -79,9 +80,9 @@ leaves-returns-in_err-keep-clause-stopped g t c =
     let bases = bases_of node in
     let items = c.entries_of-entry-items.result.now in
     let inside = in_part e.name (parts c.deref.result.now) in
-    let same : in_dir e.name dirs ≡ inside = in_dir_is node c.node.inside.tree (parts c.node.inside.children.items) c.node.view_is c.node.invariant.apart e.name ∙ ap (λ cs. in_part e.name (parts cs)) (sym c.deref.ensures.value) in
+    let same : in_dir e.name dirs ≡ inside = in_dir_is node c.node.inside.tree (parts c.node.inside.children.items) c.node.view_is (level_apart c.node.invariant) e.name ∙ ap (λ cs. in_part e.name (parts cs)) (sym c.deref.ensures.value) in
     let based = bases_in e.name (parts c.deref.result.now) in
-    let base : in_dir e.name bases ≡ based = in_dir_based node c.node.inside.tree (parts c.node.inside.children.items) c.node.view_is c.node.invariant.apart e.name ∙ ap (λ cs. bases_in e.name (parts cs)) (sym c.deref.ensures.value) in
+    let base : in_dir e.name bases ≡ based = in_dir_based node c.node.inside.tree (parts c.node.inside.children.items) c.node.view_is (level_apart c.node.invariant) e.name ∙ ap (λ cs. bases_in e.name (parts cs)) (sym c.deref.ensures.value) in
     let root : dirs [] ≡ Some items = level_root node c.node.inside.tree (parts c.node.inside.children.items) c.node.view_is ∙ ap Some (sym c.entries_of-entry-items.ensures) in
     let ok = c.in_ok-id.ensures.ok in
     let kept = kept_with e c.in_ok-id.id in

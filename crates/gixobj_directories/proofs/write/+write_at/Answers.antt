@@ -14,6 +14,7 @@ use Rattle.gixobj_directories.proofs.OpeningSteps.{names_none, only_is}
 use Rattle.gixobj_directories.proofs.Steps.{path_based, path_down, place_down, place_shut, written_deeper}
 use Rattle.gixobj_files.specs.Bases.{base_edited}
 use Rattle.gixobj_directories.proofs.BaseSteps.{editing, set_moved}
+use Rattle.gixobj_directories.proofs.Ordered.{level_apart}
 use Rattle.gixobj_directories.proofs.write.+write_at.Goals as goal
 
 pub returns-in_default-clause-ok : goal.returns-in_default-clause-ok
@@ -41,13 +42,13 @@ invariant_of-node g t c = level_set c.node.inside.tree c.node.inside.children.it
 
 pub write_at-requires : goal.write_at-requires
 write_at-requires g t c =
-    let there = place_down c.args.node.now c.node.inside.tree c.node.inside.children.items c.deref.result.now c.node.view_is c.node.invariant.apart (names_of c.args.path.now) (bstring_bytes c.in-Some.name.now) (names_of c.in-Some.rest.now) (ap names_of c.in-Some.ensures.cases.0) c.deref.ensures.value
+    let there = place_down c.args.node.now c.node.inside.tree c.node.inside.children.items c.deref.result.now c.node.view_is (level_apart c.node.invariant) (names_of c.args.path.now) (bstring_bytes c.in-Some.name.now) (names_of c.in-Some.rest.now) (ap names_of c.in-Some.ensures.cases.0) c.deref.ensures.value
     c.in-Some-child_at.place c.index_mut-child.result.now (c.in-Some-child_at.ensures {u = tt}) c.index_mut-child.ensures.value in
     λ κs lives. (search rules, (search rules, (search rules, (c.requires.callable, λ none. c.requires.is_open (there ∙ none)))))
 
 pub unreachable-requires : goal.unreachable-requires
 unreachable-requires g t c = c.requires.is_open
-    (place_shut c.args.node.now c.node.inside.tree c.node.inside.children.items c.deref.result.now c.node.view_is c.node.invariant.apart (names_of c.args.path.now) (bstring_bytes c.in-Some.name.now) (names_of c.in-Some.rest.now) (ap names_of c.in-Some.ensures.cases.0) c.deref.ensures.value
+    (place_shut c.args.node.now c.node.inside.tree c.node.inside.children.items c.deref.result.now c.node.view_is (level_apart c.node.invariant) (names_of c.args.path.now) (bstring_bytes c.in-Some.name.now) (names_of c.in-Some.rest.now) (ap names_of c.in-Some.ensures.cases.0) c.deref.ensures.value
     (c.in_default-child_at.ensures {u = tt}))
 
 pub returns-clause-ok : goal.returns-clause-ok
@@ -61,9 +62,9 @@ returns-clause-ok g t c = MatchResult-weaker c.write_at.result c.write_at.ensure
     let level = level_set c.node.inside.tree cs c.in-Some-child_at.place child (record { name = child.name; «open» = c.write_at.new.node }) c.index_mut-child.ensures.value refl c.node.invariant in
     let was : in_part name (parts cs) ≡ dirs_of child.open = λ i at. found name cs c.deref.result.now c.in-Some-child_at.place child c.deref.ensures.value here c.index_mut-child.ensures.value at i in
     let same : in_path (names_of c.args.path.now) (dirs_of c.args.node.now) ≡ in_path rest (dirs_of child.open) =
-    λ i at. path_down c.args.node.now c.node.inside.tree cs c.deref.result.now c.node.view_is c.node.invariant.apart (names_of c.args.path.now) name rest path c.deref.ensures.value c.in-Some-child_at.place child here c.index_mut-child.ensures.value at i in
+    λ i at. path_down c.args.node.now c.node.inside.tree cs c.deref.result.now c.node.view_is (level_apart c.node.invariant) (names_of c.args.path.now) name rest path c.deref.ensures.value c.in-Some-child_at.place child here c.index_mut-child.ensures.value at i in
     let same_bases : in_path (names_of c.args.path.now) (bases_of c.args.node.now) ≡ in_path rest (bases_of child.open) =
-    λ i at. path_based c.args.node.now c.node.inside.tree cs c.deref.result.now c.node.view_is c.node.invariant.apart (names_of c.args.path.now) name rest path c.deref.ensures.value c.in-Some-child_at.place child here c.index_mut-child.ensures.value at i in (
+    λ i at. path_based c.args.node.now c.node.inside.tree cs c.deref.result.now c.node.view_is (level_apart c.node.invariant) (names_of c.args.path.now) name rest path c.deref.ensures.value c.in-Some-child_at.place child here c.index_mut-child.ensures.value at i in (
       ok.0,
       ok.1,
       (ok.2.0, in_both _ _ _ _ (sym same) (sym same_bases) ok.0 ok.1 ok.2.0 ok.2.1, ok.2.2),
@@ -71,7 +72,7 @@ returns-clause-ok g t c = MatchResult-weaker c.write_at.result c.write_at.ensure
       ok.4,
       ok.5,
       rw path
-          (written_deeper c.args.node.now c.node.inside.tree c.node.inside.tree (parts cs) _ c.node.view_is c.node.invariant.apart level.apart name (dirs_of c.write_at.new.node)
+          (written_deeper c.args.node.now c.node.inside.tree c.node.inside.tree (parts cs) _ c.node.view_is (level_apart c.node.invariant) (level_apart level) name (dirs_of c.write_at.new.node)
           (set_becomes name cs c.deref.result.now c.in-Some-child_at.place child _ c.deref.ensures.value here c.index_mut-child.ensures.value refl)
           rest (only ok.1) refl (λ at. rw was (ok.6 at))),
     )) (λ _ u. u)
@@ -81,10 +82,10 @@ returns-clause-stopped g t c = MatchResult-weaker c.write_at.result c.write_at.e
     let child = c.index_mut-child.result.now in
     let rest = names_of c.in-Some.rest.now in
     let same : in_path rest (dirs_of child.open) ≡ in_path (names_of c.args.path.now) (dirs_of c.args.node.now) =
-    λ i at. sym (path_down c.args.node.now c.node.inside.tree c.node.inside.children.items c.deref.result.now c.node.view_is c.node.invariant.apart (names_of c.args.path.now) (bstring_bytes c.in-Some.name.now) rest (ap names_of c.in-Some.ensures.cases.0) c.deref.ensures.value
+    λ i at. sym (path_down c.args.node.now c.node.inside.tree c.node.inside.children.items c.deref.result.now c.node.view_is (level_apart c.node.invariant) (names_of c.args.path.now) (bstring_bytes c.in-Some.name.now) rest (ap names_of c.in-Some.ensures.cases.0) c.deref.ensures.value
     c.in-Some-child_at.place child (c.in-Some-child_at.ensures {u = tt}) c.index_mut-child.ensures.value at) i in
     let same_bases : in_path rest (bases_of child.open) ≡ in_path (names_of c.args.path.now) (bases_of c.args.node.now) =
-    λ i at. sym (path_based c.args.node.now c.node.inside.tree c.node.inside.children.items c.deref.result.now c.node.view_is c.node.invariant.apart (names_of c.args.path.now) (bstring_bytes c.in-Some.name.now) rest (ap names_of c.in-Some.ensures.cases.0) c.deref.ensures.value
+    λ i at. sym (path_based c.args.node.now c.node.inside.tree c.node.inside.children.items c.deref.result.now c.node.view_is (level_apart c.node.invariant) (names_of c.args.path.now) (bstring_bytes c.in-Some.name.now) rest (ap names_of c.in-Some.ensures.cases.0) c.deref.ensures.value
     c.in-Some-child_at.place child (c.in-Some-child_at.ensures {u = tt}) c.index_mut-child.ensures.value at) i in
     stopped_same (λ f p h. CalledAt g.F.FnMut f p.1 (Ok p.0) h) (λ f tree x h. CalledAt g.F.FnMut f tree (Err x) h) (in_path rest (dirs_of child.open)) (in_path (names_of c.args.path.now) (dirs_of c.args.node.now))
     (in_path rest (bases_of child.open)) (in_path (names_of c.args.path.now) (bases_of c.args.node.now)) same same_bases c.args.out.now c.write_at.new.out error stopped)
@@ -96,4 +97,4 @@ returns-clause-bases g t c = MatchResult-weaker c.write_at.result c.write_at.ens
     let child = c.index_mut-child.result.now in
     let here = c.in-Some-child_at.ensures {u = tt} in
     let level = level_set c.node.inside.tree cs c.in-Some-child_at.place child (record { name = child.name; «open» = c.write_at.new.node }) c.index_mut-child.ensures.value refl c.node.invariant in
-    set_moved base_edited editing c.args.node.now c.node.inside.tree cs c.deref.result.now c.node.view_is c.node.invariant.apart name c.in-Some-child_at.place child _ level.apart c.deref.ensures.value here c.index_mut-child.ensures.value refl bases) (λ _ u. u)
+    set_moved base_edited editing c.args.node.now c.node.inside.tree cs c.deref.result.now c.node.view_is (level_apart c.node.invariant) name c.in-Some-child_at.place child _ (level_apart level) c.deref.ensures.value here c.index_mut-child.ensures.value refl bases) (λ _ u. u)

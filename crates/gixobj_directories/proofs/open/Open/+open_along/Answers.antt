@@ -8,7 +8,7 @@ use Rattle.gixobj_files.specs.Halting.{Halts}
 use Rattle.gixobj_files.specs.Opening.{IsOpened}
 use Rattle.gixobj_files.specs.Tables.{IsEmptyId}
 use Rattle.gixobj_directories.specs.Calls.{names_of}
-use Rattle.gixobj_directories.specs.Nested.{Opened, bases_of, dirs_of, opened, parts}
+use Rattle.gixobj_directories.specs.Nested.{Opened, bases_of, dirs_of, opened, parts, with_part}
 use Rattle.gixobj_directories.specs.Openings.{EndsBefore, RefusesDirectory}
 use Rattle.gixobj_directories.specs.declared.open.Child.{Child}
 use Rattle.gixobj_directories.proofs.Handing.{err_weaker}
@@ -17,6 +17,7 @@ use Rattle.gixobj_directories.proofs.OpeningSteps.{HaltsAt, IsFormedList, OpensA
 use Rattle.gixobj_trees.specs.Entries.{EntryView}
 use Rattle.gixobj_files.specs.Bases.{base_opened}
 use Rattle.gixobj_directories.proofs.BaseSteps.{found_base, opened_moved, opening, set_moved, unmoved, unmoved_as}
+use Rattle.gixobj_directories.proofs.Ordered.{level_apart}
 use Rattle.gixobj_directories.proofs.open.Open.+open_along.Goals as goal
 
 pub returns-in_default-clause-opened : goal.returns-in_default-clause-opened
@@ -94,24 +95,26 @@ pub invariant_of-self-2 : goal.invariant_of-self-2
 invariant_of-self-2 g t c =
     let name = bstring_bytes c.in-Some.name.now in
     let cs = c.self.inside.children.items in
-    let inner : Child = record { name = c.in_ok-own_name.own_name; «open» = c.open_along-opened.new.self } in
-    let same : c.push_child.new.children.items ≡ cs ++ inner ∷ [] = c.push_child.ensures ∙ ap (λ (l : List Child). l ++ inner ∷ []) c.room_for.ensures.items in
+    let inner = c.open_along-opened.new.self in
+    let same : parts c.put_child.new.children.items ≡ with_part (name, inner) (parts cs) =
+    c.put_child.ensures ∙ ap (λ n. with_part (n, inner) (parts c.room_for.new.children.items)) (c.in_ok-own_name.ensures {u = tt}).ok.0 ∙ ap (λ (l : List Child). with_part (name, inner) (parts l)) c.room_for.ensures.items in
     let there = (c.in-Some-next_id.ensures {u = tt}).some in
-    level_new name c.self.inside.tree cs c.self.invariant (none_named name cs c.deref.result.now c.deref.ensures.value (c.in_default-child_at.ensures {u = tt})) there.0 there.1 there.2 inner (c.in_ok-own_name.ensures {u = tt}).ok.0 c.push_child.new.children.items same
+    level_new name c.self.inside.tree cs c.self.invariant (none_named name cs c.deref.result.now c.deref.ensures.value (c.in_default-child_at.ensures {u = tt})) there.0 there.1 there.2 inner c.put_child.new.children.items same
 
 pub returns-clause-opened : goal.returns-clause-opened
 returns-clause-opened g t c = MatchResult-weaker c.open_along-opened.result c.open_along-opened.ensures.opened (λ _ ok trees fits.
     let name = bstring_bytes c.in-Some.name.now in
     let cs = c.self.inside.children.items in
-    let inner : Child = record { name = c.in_ok-own_name.own_name; «open» = c.open_along-opened.new.self } in
-    let same : c.push_child.new.children.items ≡ cs ++ inner ∷ [] = c.push_child.ensures ∙ ap (λ (l : List Child). l ++ inner ∷ []) c.room_for.ensures.items in
+    let inner = c.open_along-opened.new.self in
+    let same : parts c.put_child.new.children.items ≡ with_part (name, inner) (parts cs) =
+    c.put_child.ensures ∙ ap (λ n. with_part (n, inner) (parts c.room_for.new.children.items)) (c.in_ok-own_name.ensures {u = tt}).ok.0 ∙ ap (λ (l : List Child). with_part (name, inner) (parts l)) c.room_for.ensures.items in
     let there = (c.in-Some-next_id.ensures {u = tt}).some in
     let below = ok trees fits in
     let finds = (c.in_ok-tree.ensures {u = tt}).found trees fits in (
       finds.0 ++ below.0,
       found_in (OpensAs (EndsBefore c.args.unasked) trees) (Opens (EndsBefore c.args.unasked) trees) (opens_down (EndsBefore c.args.unasked) trees) (opens_in (EndsBefore c.args.unasked) trees) c.self.inside.tree c.args.self.now (names_of c.args.path.now) name (names_of c.in-Some.rest.now) (ap names_of c.in-Some.ensures.cases.0)
           cs c.self.view_is c.self.invariant (none_named name cs c.deref.result.now c.deref.ensures.value (c.in_default-child_at.ensures {u = tt})) (not_found name cs c.deref.result.now c.deref.ensures.value (c.in_default-child_at.ensures {u = tt}))
-          there.0 there.1 there.2 c.in_ok-tree.tree finds.0 below.0 (there.3, subst (λ id. Finds trees id c.in_ok-tree.tree finds.0) (sym there.4) finds.1) inner (c.in_ok-own_name.ensures {u = tt}).ok.0 c.push_child.new.children.items same
+          there.0 there.1 there.2 c.in_ok-tree.tree finds.0 below.0 (there.3, subst (λ id. Finds trees id c.in_ok-tree.tree finds.0) (sym there.4) finds.1) inner c.put_child.new.children.items same
           (subst (λ (d : Opened). Opens (EndsBefore c.args.unasked) trees (names_of c.in-Some.rest.now) (dirs_of d) (dirs_of c.open_along-opened.new.self) below.0) c.with_base-inner.ensures below.1),
       below.2 ∙ ap (λ n. counted n below.0) finds.2 ∙ counted_more c.args.lookups.now finds.0 below.0,
     )) (λ _ u. u)
@@ -120,8 +123,9 @@ pub returns-clause-halted : goal.returns-clause-halted
 returns-clause-halted g t c = MatchResult-weaker c.open_along-opened.result c.open_along-opened.ensures.halted (λ _ u. u) (λ error bad trees fits.
     let name = bstring_bytes c.in-Some.name.now in
     let cs = c.self.inside.children.items in
-    let inner : Child = record { name = c.in_ok-own_name.own_name; «open» = c.open_along-opened.new.self } in
-    let same : c.push_child.new.children.items ≡ cs ++ inner ∷ [] = c.push_child.ensures ∙ ap (λ (l : List Child). l ++ inner ∷ []) c.room_for.ensures.items in
+    let inner = c.open_along-opened.new.self in
+    let same : parts c.put_child.new.children.items ≡ with_part (name, inner) (parts cs) =
+    c.put_child.ensures ∙ ap (λ n. with_part (n, inner) (parts c.room_for.new.children.items)) (c.in_ok-own_name.ensures {u = tt}).ok.0 ∙ ap (λ (l : List Child). with_part (name, inner) (parts l)) c.room_for.ensures.items in
     let there = (c.in-Some-next_id.ensures {u = tt}).some in
     let below = bad trees fits in
     let finds = (c.in_ok-tree.ensures {u = tt}).found trees fits in (
@@ -129,7 +133,7 @@ returns-clause-halted g t c = MatchResult-weaker c.open_along-opened.result c.op
       below.1,
       found_in (OpensAs (EndsBefore c.args.unasked) trees) (HaltsAt (EndsBefore c.args.unasked) trees below.1) (halts_down (EndsBefore c.args.unasked) trees below.1) (halts_in (EndsBefore c.args.unasked) trees below.1) c.self.inside.tree c.args.self.now (names_of c.args.path.now) name (names_of c.in-Some.rest.now) (ap names_of c.in-Some.ensures.cases.0)
           cs c.self.view_is c.self.invariant (none_named name cs c.deref.result.now c.deref.ensures.value (c.in_default-child_at.ensures {u = tt})) (not_found name cs c.deref.result.now c.deref.ensures.value (c.in_default-child_at.ensures {u = tt}))
-          there.0 there.1 there.2 c.in_ok-tree.tree finds.0 below.0 (there.3, subst (λ id. Finds trees id c.in_ok-tree.tree finds.0) (sym there.4) finds.1) inner (c.in_ok-own_name.ensures {u = tt}).ok.0 c.push_child.new.children.items same
+          there.0 there.1 there.2 c.in_ok-tree.tree finds.0 below.0 (there.3, subst (λ id. Finds trees id c.in_ok-tree.tree finds.0) (sym there.4) finds.1) inner c.put_child.new.children.items same
           (subst (λ (d : Opened). Halts (EndsBefore c.args.unasked) trees (names_of c.in-Some.rest.now) (dirs_of d) (dirs_of c.open_along-opened.new.self) below.0 below.1) c.with_base-inner.ensures below.2),
       below.3 ∙ ap (λ n. counted n below.0) finds.2 ∙ counted_more c.args.lookups.now finds.0 below.0,
       below.4,
@@ -152,12 +156,13 @@ pub returns-clause-still_opened : goal.returns-clause-still_opened
 returns-clause-still_opened g t c =
     let name = bstring_bytes c.in-Some.name.now in
     let cs = c.self.inside.children.items in
-    let inner : Child = record { name = c.in_ok-own_name.own_name; «open» = c.open_along-opened.new.self } in
-    let same : c.push_child.new.children.items ≡ cs ++ inner ∷ [] = c.push_child.ensures ∙ ap (λ (l : List Child). l ++ inner ∷ []) c.room_for.ensures.items in
+    let inner = c.open_along-opened.new.self in
+    let same : parts c.put_child.new.children.items ≡ with_part (name, inner) (parts cs) =
+    c.put_child.ensures ∙ ap (λ n. with_part (n, inner) (parts c.room_for.new.children.items)) (c.in_ok-own_name.ensures {u = tt}).ok.0 ∙ ap (λ (l : List Child). with_part (name, inner) (parts l)) c.room_for.ensures.items in
     let there = (c.in-Some-next_id.ensures {u = tt}).some in
     found_in IsFormedList StaysOpened stays_down stays_in c.self.inside.tree c.args.self.now (names_of c.args.path.now) name (names_of c.in-Some.rest.now) (ap names_of c.in-Some.ensures.cases.0)
     cs c.self.view_is c.self.invariant (none_named name cs c.deref.result.now c.deref.ensures.value (c.in_default-child_at.ensures {u = tt})) (not_found name cs c.deref.result.now c.deref.ensures.value (c.in_default-child_at.ensures {u = tt}))
-    there.0 there.1 there.2 c.in_ok-tree.tree [] [] (c.in_ok-tree.ensures {u = tt}).well_formed inner (c.in_ok-own_name.ensures {u = tt}).ok.0 c.push_child.new.children.items same
+    there.0 there.1 there.2 c.in_ok-tree.tree [] [] (c.in_ok-tree.ensures {u = tt}).well_formed inner c.put_child.new.children.items same
     (subst (λ (d : Opened). IsOpened (dirs_of d) → IsOpened (dirs_of c.open_along-opened.new.self)) c.with_base-inner.ensures c.open_along-opened.ensures.still_opened)
 
 pub returns-in_default-clause-root : goal.returns-in_default-clause-root
@@ -199,19 +204,19 @@ returns-in-Some-child_at-clause-bases g t c =
     let child = c.index_mut-child.result.now in
     let here = c.in-Some-child_at.ensures {u = tt} in
     let level = level_set c.self.inside.tree cs c.in-Some-child_at.place child (record { name = child.name; «open» = c.open_along.new.self }) c.index_mut-child.ensures.value refl c.self.invariant in
-    set_moved base_opened opening c.args.self.now c.self.inside.tree cs c.deref.result.now c.self.view_is c.self.invariant.apart name c.in-Some-child_at.place child _ level.apart c.deref.ensures.value here c.index_mut-child.ensures.value refl c.open_along.ensures.bases
+    set_moved base_opened opening c.args.self.now c.self.inside.tree cs c.deref.result.now c.self.view_is (level_apart c.self.invariant) name c.in-Some-child_at.place child _ (level_apart level) c.deref.ensures.value here c.index_mut-child.ensures.value refl c.open_along.ensures.bases
 
 pub returns-clause-bases : goal.returns-clause-bases
 returns-clause-bases g t c =
     let name = bstring_bytes c.in-Some.name.now in
     let cs = c.self.inside.children.items in
-    let new = c.open_along-opened.new.self in
-    let inner : Child = record { name = c.in_ok-own_name.own_name; «open» = new } in
-    let same : c.push_child.new.children.items ≡ cs ++ inner ∷ [] = c.push_child.ensures ∙ ap (λ (l : List Child). l ++ inner ∷ []) c.room_for.ensures.items in
+    let inner = c.open_along-opened.new.self in
+    let same : parts c.put_child.new.children.items ≡ with_part (name, inner) (parts cs) =
+    c.put_child.ensures ∙ ap (λ n. with_part (n, inner) (parts c.room_for.new.children.items)) (c.in_ok-own_name.ensures {u = tt}).ok.0 ∙ ap (λ (l : List Child). with_part (name, inner) (parts l)) c.room_for.ensures.items in
     let there = (c.in-Some-next_id.ensures {u = tt}).some in
     let tree = c.in_ok-tree.tree in
     let inner_is : _ ≡ opened tree tree [] = c.with_base-inner.ensures ∙ ap (λ (b : List EntryView). opened tree b []) (c.in_ok-tree.ensures {u = tt}).copied in
-    opened_moved c.args.self.now c.self.inside.tree cs c.push_child.new.children.items c.self.view_is c.self.invariant name (none_named name cs c.deref.result.now c.deref.ensures.value (c.in_default-child_at.ensures {u = tt})) (not_found name cs c.deref.result.now c.deref.ensures.value (c.in_default-child_at.ensures {u = tt}))
-    there.0 there.1 there.2 inner (c.in_ok-own_name.ensures {u = tt}).ok.0 same
-    (λ path. subst (λ (d : Opened). bases_of new path ≡ base_opened (dirs_of d path) (dirs_of new path) (bases_of d path)) inner_is (c.open_along-opened.ensures.bases path)
-    ∙ found_base tree path (dirs_of new) (c.open_along-opened.ensures.same_root ∙ ap (λ (d : Opened). dirs_of d []) inner_is))
+    opened_moved c.args.self.now c.self.inside.tree cs c.put_child.new.children.items c.self.view_is c.self.invariant name (none_named name cs c.deref.result.now c.deref.ensures.value (c.in_default-child_at.ensures {u = tt})) (not_found name cs c.deref.result.now c.deref.ensures.value (c.in_default-child_at.ensures {u = tt}))
+    there.0 there.1 there.2 inner same
+    (λ path. subst (λ (d : Opened). bases_of inner path ≡ base_opened (dirs_of d path) (dirs_of inner path) (bases_of d path)) inner_is (c.open_along-opened.ensures.bases path)
+    ∙ found_base tree path (dirs_of inner) (c.open_along-opened.ensures.same_root ∙ ap (λ (d : Opened). dirs_of d []) inner_is))

@@ -1,17 +1,18 @@
-use Rattle.std.proofs.Common.{◌≡◌, ◌∙◌, ◌++◌, [], ◌∷◌, None, ap, sym, refl, subst}
+use Rattle.std.proofs.Common.{◌≡◌, ◌∙◌, None, ap, sym, refl, subst}
 use Rattle.std.specs.List.{AllByRecursion}
 use Rattle.bstr.specs.Owned.{bstring_bytes}
 use Rattle.gixobj_trees.specs.Entries.{EntryView, IsEntryName}
 use Rattle.gixobj_trees.specs.Mode.{mode_bits}
 use Rattle.gixobj_files.specs.Editing.{with_entry}
 use Rattle.gixobj_files.specs.Edits.{upserted_dirs, with_directory}
-use Rattle.gixobj_directories.specs.Nested.{dirs_of, in_part, other_parts, parts}
+use Rattle.gixobj_directories.specs.Nested.{dirs_of, in_part, other_parts, parts, with_part}
 use Rattle.std.proofs.lemmas.Result.{MatchResult-weaker}
 use Rattle.gixobj_files.proofs.HasTrees.{directory_same}
-use Rattle.gixobj_directories.proofs.Levels.{child_above, found, level_put, level_set, level_added, none_named, not_found, others_becomes, push_becomes, set_becomes}
+use Rattle.gixobj_directories.proofs.Levels.{child_above, found, level_put, level_set, level_added, none_named, not_found, others_becomes, with_becomes, set_becomes}
 use Rattle.gixobj_directories.proofs.Steps.{fresh, more_left, one_left, put_deeper, put_last}
 use Rattle.gixobj_files.specs.Bases.{base_edited}
-use Rattle.gixobj_directories.proofs.BaseSteps.{dropped_moved, editing, made_base, pushed_moved, set_moved, unmoved}
+use Rattle.gixobj_directories.proofs.BaseSteps.{dropped_moved, editing, made_base, with_moved, set_moved, unmoved}
+use Rattle.gixobj_directories.proofs.Ordered.{level_apart}
 use Rattle.gixobj_directories.proofs.open.Open.+put.Goals as goal
 
 pub invariant_of-self-then-is_empty : goal.invariant_of-self-then-is_empty
@@ -28,7 +29,7 @@ returns-then-is_empty-clause-ok t c =
     let path = one_left c.args.path.now c.in-Some.name.now c.in-Some.rest.now c.in-Some.ensures.cases.0 (c.if-is_empty.ensures {u = tt}) in
     let level = level_put x c.self.inside.tree ps (subst (AllByRecursion IsEntryName) path c.requires).0 c.self.invariant in
     rw (path, c.in_ok-put_entry.ensures.ok, c.drop_child.ensures)
-    (put_last c.args.self.now c.self.inside.tree (with_entry x c.self.inside.tree) ps (other_parts name ps) c.self.view_is c.self.invariant.apart level.apart name (λ _. None) (others_becomes name ps) (mode_bits c.args.mode) c.args.id c.args.null refl (λ _. refl))
+    (put_last c.args.self.now c.self.inside.tree (with_entry x c.self.inside.tree) ps (other_parts name ps) c.self.view_is (level_apart c.self.invariant) (level_apart level) name (λ _. None) (others_becomes name ps) (mode_bits c.args.mode) c.args.id c.args.null refl (λ _. refl))
 
 pub invariant_of-self-2 : goal.invariant_of-self-2
 invariant_of-self-2 t c = level_set c.self.inside.tree c.self.inside.children.items c.in-Some-child_at.place c.index_mut-child.result.now _ c.index_mut-child.ensures.value refl c.self.invariant
@@ -52,8 +53,8 @@ returns-in_default-child_at-clause-ok t c =
     let none : in_part name (parts cs) ≡ (λ _. None) = λ i path. not_found name cs c.deref.result.now c.deref.ensures.value (c.in_default-child_at.ensures {u = tt}) path i in
     let inner = c.in_ok-put.ensures.ok in
     rw (m.path_is, c.in_ok-add_directory.ensures.ok.0, c.in_ok-add_directory.ensures.ok.1)
-    (put_deeper c.args.self.now c.self.inside.tree (with_directory name c.args.null c.self.inside.tree) (parts cs) (parts cs ++ (name, c.put.new.self) ∷ []) c.self.view_is c.self.invariant.apart level.apart name (dirs_of c.put.new.self)
-    (push_becomes name c.put.new.self (parts cs) others) m.next m.after (mode_bits c.args.mode) c.args.id c.args.null refl
+    (put_deeper c.args.self.now c.self.inside.tree (with_directory name c.args.null c.self.inside.tree) (parts cs) (with_part (name, c.put.new.self) (parts cs)) c.self.view_is (level_apart c.self.invariant) (level_apart level) name (dirs_of c.put.new.self)
+    (with_becomes name c.put.new.self (parts cs) others) m.next m.after (mode_bits c.args.mode) c.args.id c.args.null refl
     (λ path. rw none ((rw (c.new-inner.ensures, c.empty.ensures, m.rest_is) at inner) path ∙ fresh m.next m.after (mode_bits c.args.mode) c.args.id c.args.null path)))
 
 pub returns-clause-ok : goal.returns-clause-ok
@@ -66,7 +67,7 @@ returns-clause-ok t c = MatchResult-weaker c.put-2.result c.put-2.ensures.ok (λ
     let level = level_set c.self.inside.tree cs c.in-Some-child_at.place child (record { name = child.name; «open» = c.put-2.new.self }) c.index_mut-child.ensures.value refl c.self.invariant in
     let was : in_part name (parts cs) ≡ dirs_of child.open = λ i path. found name cs c.deref.result.now c.in-Some-child_at.place child c.deref.ensures.value here c.index_mut-child.ensures.value path i in
     rw m.path_is
-    (put_deeper c.args.self.now c.self.inside.tree c.self.inside.tree (parts cs) _ c.self.view_is c.self.invariant.apart level.apart name (dirs_of c.put-2.new.self)
+    (put_deeper c.args.self.now c.self.inside.tree c.self.inside.tree (parts cs) _ c.self.view_is (level_apart c.self.invariant) (level_apart level) name (dirs_of c.put-2.new.self)
     (set_becomes name cs c.deref.result.now c.in-Some-child_at.place child _ c.deref.ensures.value here c.index_mut-child.ensures.value refl)
     m.next m.after (mode_bits c.args.mode) c.args.id c.args.null (sym (directory_same name c.args.null c.self.inside.tree (child_above c.self.inside.tree name cs c.deref.result.now c.in-Some-child_at.place c.deref.ensures.value here c.self.invariant.above)))
     (λ path. rw was (ok path ∙ ap (λ p. upserted_dirs p (mode_bits c.args.mode) c.args.id c.args.null (dirs_of child.open) path) m.rest_is)))) (λ _ u. u)
@@ -81,7 +82,7 @@ returns-then-is_empty-clause-bases t c =
     let ps = parts c.self.inside.children.items in
     let path = one_left c.args.path.now c.in-Some.name.now c.in-Some.rest.now c.in-Some.ensures.cases.0 (c.if-is_empty.ensures {u = tt}) in
     let level = level_put x c.self.inside.tree ps (subst (AllByRecursion IsEntryName) path c.requires).0 c.self.invariant in
-    rw (c.in_ok-put_entry.ensures.ok, c.drop_child.ensures) (dropped_moved c.args.self.now c.self.inside.tree (with_entry x c.self.inside.tree) ps c.self.view_is c.self.invariant.apart name level.apart)
+    rw (c.in_ok-put_entry.ensures.ok, c.drop_child.ensures) (dropped_moved c.args.self.now c.self.inside.tree (with_entry x c.self.inside.tree) ps c.self.view_is (level_apart c.self.invariant) name (level_apart level))
 
 pub returns-in_default-child_at-clause-bases : goal.returns-in_default-child_at-clause-bases
 returns-in_default-child_at-clause-bases t c =
@@ -92,7 +93,7 @@ returns-in_default-child_at-clause-bases t c =
     let level = level_added name c.args.null c.put.new.self c.self.inside.tree (parts cs) (subst (AllByRecursion IsEntryName) m.path_is c.requires).0 others c.self.invariant in
     let inner = c.in_ok-put.ensures.bases in
     rw (c.in_ok-add_directory.ensures.ok.0, c.in_ok-add_directory.ensures.ok.1)
-    (pushed_moved base_edited editing c.args.self.now c.self.inside.tree (with_directory name c.args.null c.self.inside.tree) (parts cs) c.self.view_is c.self.invariant.apart name c.put.new.self level.apart others
+    (with_moved base_edited editing c.args.self.now c.self.inside.tree (with_directory name c.args.null c.self.inside.tree) (parts cs) c.self.view_is (level_apart c.self.invariant) name c.put.new.self (level_apart level) others
     (not_found name cs c.deref.result.now c.deref.ensures.value (c.in_default-child_at.ensures {u = tt}))
     (λ path. (rw (c.new-inner.ensures, c.empty.ensures) at inner) path ∙ made_base path (dirs_of c.put.new.self path) None))
 
@@ -103,4 +104,4 @@ returns-clause-bases t c = MatchResult-weaker c.put-2.result c.put-2.ensures.bas
     let child = c.index_mut-child.result.now in
     let here = c.in-Some-child_at.ensures {u = tt} in
     let level = level_set c.self.inside.tree cs c.in-Some-child_at.place child (record { name = child.name; «open» = c.put-2.new.self }) c.index_mut-child.ensures.value refl c.self.invariant in
-    set_moved base_edited editing c.args.self.now c.self.inside.tree cs c.deref.result.now c.self.view_is c.self.invariant.apart name c.in-Some-child_at.place child _ level.apart c.deref.ensures.value here c.index_mut-child.ensures.value refl bases) (λ _ u. u)
+    set_moved base_edited editing c.args.self.now c.self.inside.tree cs c.deref.result.now c.self.view_is (level_apart c.self.invariant) name c.in-Some-child_at.place child _ (level_apart level) c.deref.ensures.value here c.index_mut-child.ensures.value refl bases) (λ _ u. u)

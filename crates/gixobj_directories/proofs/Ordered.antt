@@ -1,0 +1,109 @@
+-- Open directories in the order of their entries.
+use Rattle.std.proofs.Common.{◌≡◌, ◌≢◌, ◌∙◌, ◌+◌, ℕ, Bool, true, false, cond, List, [], ◌∷◌, MatchResult, Less, Equal, Greater, Ordering, Result, Ok, Err, get_or, length, refl, sym, ap, one-add}
+use mathlib.Core.Bool.{true≢false}
+use Rattle.std.specs.Cmp.Lexicographic.{bytes_decides, slice_cmp}
+use Rattle.std.specs.List.{AllByRecursion, insert, position, prefix_len}
+use Rattle.std.specs.List.Sorted.{IsBinarySearchResult, IsSearchInRange}
+use Rattle.std.specs.Ordering.{is_lt, nat_cmp, ordering_reverse}
+use Rattle.std.specs.Result.{result_ok}
+use Rattle.std.proofs.lemmas.Bool.{false_from_ne_true}
+use Rattle.std.proofs.lemmas.Cmp.{nat_list_cmp_total}
+use Rattle.std.proofs.lemmas.List.{append_cancel_right}
+use Rattle.bstr.specs.Owned.{bstring_bytes}
+use Rattle.gixobj_files.proofs.Sublists.{all_weaker}
+use Rattle.gixobj_files.specs.Editing.{same_name}
+use Rattle.gixobj_trees.proofs.WellFormed.{same_key}
+use Rattle.gixobj_trees.specs.Entries.{EachLater, EntryView, key_of}
+use Rattle.gixobj_directories.specs.declared.open.Child.{Child}
+use Rattle.gixobj_directories.specs.Nested.{AreOrdered, IsLevel, Part, is_child_before, is_part_before, part, part_key, parts, with_part}
+use Rattle.gixobj_directories.proofs.Halves.{Ascends, compared, first, halved_key, halved_none, halved_place, later_at, position_at, position_none, tied_keys}
+
+abbrev pub Before : Part → Part → Type 0
+Before p q = slice_cmp nat_cmp (part_key p) (part_key q) ≡ Less
+
+lt_is : (o : Ordering) → is_lt o ≡ true → o ≡ Less
+lt_is Less h = refl
+lt_is Equal h = absurd (true≢false (sym h))
+lt_is Greater h = absurd (true≢false (sym h))
+
+-- a key has one name
+same_part : (p q : Part) → slice_cmp nat_cmp (part_key p) (part_key q) ≡ Equal → p.0 ≡ q.0
+same_part p q tie = append_cancel_right p.0 q.0 (47 ∷ []) (same_key (part_key p) (part_key q) tie)
+
+pub differ : (p q : Part) → Before p q → p.0 ≢ q.0
+differ p q before same = true≢false (ap is_lt (sym before ∙ tied_keys (part_key p) (part_key q) (ap (λ (n : List ℕ). key_of n true) same)))
+
+-- of two names, where the first doesn't come before the second
+later : (p q : Part) → is_part_before q p ≡ false → q.0 ≢ p.0 → Before p q
+later p q fails other =
+    elim (slice_cmp nat_cmp (part_key q) (part_key p)) as (λ o. slice_cmp nat_cmp (part_key q) (part_key p) ≡ o → is_lt o ≡ false → Before p q) [
+      | Less ↦ λ is f. absurd (true≢false f)
+      | Equal ↦ λ is f. absurd (other (same_part q p is))
+      | Greater ↦ λ is f. nat_list_cmp_total.antisymm (part_key p) (part_key q) ∙ ap ordering_reverse is
+    ] refl fails
+
+-- no two of them have one name
+pub apart_of : (ps : List Part) → AreOrdered ps → EachLater (λ x y. x.0 ≢ y.0) ps
+apart_of [] up = tt
+apart_of (p ∷ ps) up = (all_weaker (Before p) (λ q. p.0 ≢ q.0) (λ q before. differ p q before) ps up.0, apart_of ps up.1)
+
+pub level_apart : {es : List EntryView} {ps : List Part} → IsLevel es ps → EachLater (λ x y. x.0 ≢ y.0) ps
+level_apart {es} {ps} level = apart_of ps level.ordered
+
+-- with one more
+pub all_with : (P : Part → Type 0) (p : Part) (ps : List Part) → P p → AllByRecursion P ps → AllByRecursion P (with_part p ps)
+all_with P p [] here h = (here, tt)
+all_with P p (q ∷ qs) here h = elim (is_part_before q p) as (λ b. AllByRecursion P (cond b (q ∷ with_part p qs) (p ∷ q ∷ qs))) [ true ↦ (h.0, all_with P p qs here h.1) | false ↦ (here, h) ]
+
+pub ordered_with : (p : Part) (ps : List Part) → AllByRecursion (λ q. q.0 ≢ p.0) ps → AreOrdered ps → AreOrdered (with_part p ps)
+ordered_with p [] others up = (tt, tt)
+ordered_with p (q ∷ qs) others up =
+    elim (is_part_before q p) as (λ b. is_part_before q p ≡ b → AreOrdered (cond b (q ∷ with_part p qs) (p ∷ q ∷ qs))) [
+      | true ↦ λ is. (all_with (Before q) p qs (lt_is (slice_cmp nat_cmp (part_key q) (part_key p)) is) up.0, ordered_with p qs others.1 up.1)
+      | false ↦ λ is. let here = later p q is others.0 in ((here, all_weaker (Before q) (Before p) (λ r before. nat_list_cmp_total.trans (part_key p) (part_key q) (part_key r) here before) qs up.0), up)
+    ] refl
+
+-- a child at the place where the first comes later
+pub inserted : (cs : List Child) (child : Child) → parts (insert cs (prefix_len (is_child_before (bstring_bytes child.name)) cs) child) ≡ with_part (part child) (parts cs)
+inserted [] child = refl
+inserted (c ∷ cs) child =
+    elim (is_part_before (part c) (part child)) as (λ b. parts (insert (c ∷ cs) (cond b (1 + prefix_len (is_child_before (bstring_bytes child.name)) cs) 0) child) ≡ cond b (part c ∷ with_part (part child) (parts cs)) (part child ∷ part c ∷ parts cs)) [
+      | true ↦ rw one-add (ap (λ ps. part c ∷ ps) (inserted cs child))
+      | false ↦ refl
+    ]
+
+-- what a search by halves finds among them
+abbrev pub child_key : Child → List ℕ
+child_key c = key_of (bstring_bytes c.name) true
+
+ascends_of : (cs : List Child) → AreOrdered (parts cs) → Ascends child_key cs
+ascends_of [] up = tt
+ascends_of (c ∷ cs) up = (each cs up.0, ascends_of cs up.1)
+  where
+    each : (ds : List Child) → AllByRecursion (Before (part c)) (parts ds) → AllByRecursion (λ d. slice_cmp nat_cmp (child_key c) (child_key d) ≡ Less) ds
+    each [] h = tt
+    each (d ∷ ds) h = (h.0, each ds h.1)
+
+module _ (cs : List Child) (up : AreOrdered (parts cs)) (name : List ℕ) where
+  abbrev is_called : Child → Bool
+  is_called c = same_name (bstring_bytes c.name) name
+
+  abbrev pub by_key : Child → Ordering
+  by_key = compared child_key (key_of name true)
+
+  -- by its key
+  keyed : (c : Child) → is_called c ≡ true → child_key c ≡ key_of name true
+  keyed c is = ap (λ (n : List ℕ). key_of n true) ((bytes_decides (bstring_bytes c.name) name).0 is)
+
+  pub child_found : (r : Result ℕ ℕ) → IsSearchInRange r (length cs) → IsBinarySearchResult by_key cs r → result_ok r ≡ position is_called cs
+  child_found (Ok i) range is =
+      let d = first cs i range in
+      let here : child_key (get_or cs i d) ≡ key_of name true = halved_key child_key cs (key_of name true) i d is in
+      sym (position_at is_called cs i d range ((bytes_decides (bstring_bytes (get_or cs i d).name) name).1 (append_cancel_right (bstring_bytes (get_or cs i d).name) name (47 ∷ []) here))
+      (λ k low. false_from_ne_true (is_called (get_or cs k d)) (λ named. true≢false (ap is_lt
+      (sym (later_at (λ x y. slice_cmp nat_cmp (child_key x) (child_key y) ≡ Less) cs (ascends_of cs up) k i d low range) ∙ tied_keys (child_key (get_or cs k d)) (child_key (get_or cs i d)) (keyed (get_or cs k d) named ∙ sym here))))))
+  child_found (Err i) range is = sym (position_none is_called cs (λ k d low. false_from_ne_true (is_called (get_or cs k d)) (λ named. halved_none child_key cs (ascends_of cs up) (key_of name true) i is k d low (keyed (get_or cs k d) named))))
+
+  pub child_before : (r : Result ℕ ℕ) → IsSearchInRange r (length cs) → IsBinarySearchResult by_key cs r
+      → MatchResult r (λ i. i ≡ prefix_len (is_child_before name) cs) (λ i. i ≡ prefix_len (is_child_before name) cs)
+  child_before r range is = halved_place child_key cs (ascends_of cs up) (key_of name true) r range is
