@@ -1,0 +1,44 @@
+use Rattle.std.proofs.Common.{ap, inr, refl, subst, sym, Bool, List, Some, false}
+use Rattle.std.specs.Prelude.{Contains}
+use Rattle.gixobj_commands.specs.declared.command.Edit.{Edit}
+use Rattle.gixobj_commands.specs.declared.command.Edit.TheVariants as edit
+use Rattle.gixobj_runs.specs.declared.reply.EditReply.TheVariants as reply
+use Rattle.gixobj_import.specs.Edited.{IsWriteBehind, meaning}
+use Rattle.gixobj_import.specs.Steps.{IsImported}
+use Rattle.gixobj_import.proofs.Adding.{step_adds}
+use Rattle.gixobj_import.proofs.Filing.{step_bases, step_files}
+use Rattle.gixobj_import.proofs.Known.{OfStores}
+use Rattle.gixobj_import.proofs.Stepping.{free_of, refuses_step}
+use Rattle.gixobj_import.proofs.import.Importer.step.Goals as goal
+
+pub write_edits-requires : goal.write_edits-requires
+write_edits-requires g c = λ has.
+    free_of c.args.step.now.edits.items c.deref.result.now c.hold_a_write.result c.deref.ensures.value c.if-hold_a_write.false c.hold_a_write.ensures
+    (subst (λ (es : List Edit). Contains es edit.Write) c.deref-2.ensures.value has)
+
+pub returns : goal.returns
+returns g c =
+    let means = meaning g.S.Store.objects g.S.Store.may_fail in
+    let laws : OfStores = record {
+      trees_of = c.every_store_names_trees.ensures;
+      put_in = record { there = c.an_object_is_put_in.ensures.there; elsewhere = c.an_object_is_put_in.ensures.elsewhere; same_or_not = c.ids_are_the_same_or_not.ensures };
+    } in
+    let old = c.args.self.now in
+    let new = record old { editor = c.keep_commit_of-kept.new.editor; last = Some c.in-Ok-kept.commit; failed = false } in
+    let it = record { commit = c.in-Ok-kept.commit; written = c.in-Ok.written } in
+    let one : IsImported means old c.args.step.now it new = record {
+      ready = c.if-self.false;
+      no_write = free_of c.args.step.now.edits.items c.deref.result.now c.hold_a_write.result c.deref.ensures.value c.if-hold_a_write.false c.hold_a_write.ensures;
+      between = c.write_edits.new.editor;
+      trees = subst (λ (es : List Edit). IsWriteBehind means old.hash old.editor es (reply.Written c.in-Ok.written) c.write_edits.new.editor) c.deref-2.ensures.value (c.in-Ok.ensures {u = tt}).written;
+      root = (c.in-Ok.ensures {u = tt}).root;
+      commit = (c.in-Ok-kept.ensures {u = tt}).kept;
+      rest = ap (λ (b : Bool). record old { editor = c.keep_commit_of-kept.new.editor; last = Some c.in-Ok-kept.commit; failed = b }) (sym c.if-self.false);
+    } in
+    record {
+      imported = one;
+      refused = tt;
+      adds = step_adds means laws old c.args.step.now it new one;
+      files = λ T n agrees. step_files means laws old c.args.step.now it new one T n agrees;
+      bases = step_bases means laws old c.args.step.now it new one;
+    }
