@@ -1,7 +1,9 @@
 -- The last of a list of imports.
 use Rattle.std.proofs.Common.{◌≡◌, ◌∙◌, ◌+◌, ℕ, zero, suc, List, [], ◌∷◌, ◌++◌, None, Option, Some, ap, arith, length, refl, subst, sym, take}
+use Rattle.std.proofs.lemmas.Bool.{false≢true, true≢false}
 use Rattle.std.proofs.lemmas.List.{length-append, take_all}
-use Rattle.std.specs.Prelude.{slice_get}
+use Rattle.std.specs.Option.{option_to_list}
+use Rattle.std.specs.Prelude.{◌<◌, ◌↔◌, IfSome, IsNone, IsSome, slice_get}
 use Rattle.gixobj_base.specs.ids.hash.kind.Kind as hash
 use Rattle.gixobj_base.specs.ids.hash.object_id.ObjectId.{ObjectId}
 use Rattle.gixobj_codec.specs.Stores.{Objects}
@@ -55,3 +57,20 @@ is_tip objects final hash steps imported earlier tip is commits files =
           subst (λ (ss : List Step). SameFiles (NamedFiles T n tip.written.id) (History T n (edits_of ss) no_files)) (take_all (suc (length earlier)) steps (omega (arith, count)))
           (subst (λ (all : List Imported). HaveFilesOfNothing objects steps all) is files T n agrees (length earlier) tip (found_last earlier tip));
     }
+
+-- of the item that was taken off the end of the list, if there was one
+pub is_tip_taken : (objects final : Objects) (hash : hash.Kind) (steps : List Step) (imported left : List Imported) (tip : Option Imported) → imported ≡ left ++ option_to_list tip → AreCommitsOf hash None steps imported final
+    → HaveFilesOfNothing objects steps imported → IfSome tip (IsTip objects hash steps)
+is_tip_taken objects final hash steps imported left None is commits files = tt
+is_tip_taken objects final hash steps imported left (Some tip) is commits files = is_tip objects final hash steps imported left tip is commits files
+
+-- there is none exactly where there are no steps
+pub none_of_none : (final : Objects) (hash : hash.Kind) (steps : List Step) (imported left : List Imported) (tip : Option Imported) (count : ℕ) → imported ≡ left ++ option_to_list tip → count ≡ length imported
+    → IsSome tip ↔ (0 < count) → AreCommitsOf hash None steps imported final → IsNone tip ↔ (steps ≡ [])
+none_of_none final hash [] [] left None count is counted some commits = ((λ none. refl), λ nothing. refl)
+none_of_none final hash (step ∷ steps) [] left None count is counted some commits = absurd commits
+none_of_none final hash steps (it ∷ imported) left None count is counted some commits = absurd (false≢true (some.1 (omega (arith, counted))))
+none_of_none final hash steps imported left (Some tip) count is counted some commits = (
+  (λ none. absurd (true≢false none)),
+  λ nothing. absurd (omega (arith, ap length is, length-append left (tip ∷ []), as_many hash None steps imported final commits, ap length nothing)),
+)

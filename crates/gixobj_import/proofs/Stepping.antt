@@ -1,15 +1,17 @@
 -- Steps that are imported one after the other, and what they come to.
-use Rattle.std.proofs.Common.{◌≡◌, ◌≢◌, ◌∙◌, ◌<◌, ◌≤◌, ◌+◌, ⊎_elim, ℕ, zero, suc, List, [], ◌∷◌, ◌++◌, Option, Some, ap, arith, get_or, inl, inr, length, refl, subst, sym, take}
+use Rattle.std.proofs.Common.{◌≡◌, ◌≢◌, ◌∙◌, ◌<◌, ◌≤◌, ◌+◌, ⊎_elim, ℕ, zero, suc, List, [], ◌∷◌, ◌++◌, Option, Some, ap, arith, get_or, inl, inr, length, refl, subst, sym, take, Err, Ok, Result}
 use Rattle.std.proofs.lemmas.Bool.{true≢false}
 use Rattle.std.proofs.lemmas.List.{take_all, take_more}
-use Rattle.std.specs.Prelude.{◌↔◌, Bool, true, false, Contains, IsTrue, slice_get}
+use Rattle.std.specs.Prelude.{◌↔◌, Bool, true, false, Contains, IfErr, IfOk, IsTrue, slice_get}
 use Rattle.gixobj_commands.specs.declared.command.Edit.{Edit}
 use Rattle.gixobj_commands.specs.declared.command.Edit.TheVariants as edit
+use Rattle.gixobj_directories.specs.declared.write.Written.{Written}
 use Rattle.gixobj_files.specs.State.{State}
 use Rattle.gixobj_ids.specs.declared.hash.kind.Kind as hash
 use Rattle.gixobj_ids.specs.declared.hash.object_id.ObjectId.{ObjectId}
 use Rattle.gixobj_runs.specs.Replies.{Meaning}
-use Rattle.gixobj_import.specs.Edited.{AreDone}
+use Rattle.gixobj_runs.specs.declared.reply.EditReply.TheVariants as reply
+use Rattle.gixobj_import.specs.Edited.{AreDone, IsWriteBehind, IsWriteReplied}
 use Rattle.gixobj_import.specs.Steps.{AreImported, IsFailed, IsImported, RefusesCommit, RefusesEdits, RefusesStep, RefusesText, RefusesWrite, Stops}
 use Rattle.gixobj_import.specs.declared.import.ImportError.{ImportError}
 use Rattle.gixobj_import.specs.declared.import.ImportError.TheVariants as import
@@ -22,6 +24,10 @@ found [] zero it within is = absurd (omega arith)
 found [] (suc index) it within is = absurd (omega arith)
 found (step ∷ steps) zero it within is = ap Some (sym is)
 found (step ∷ steps) (suc index) it within is = found steps index it (omega arith) is
+
+-- one of the edits is a write, by the test of the list that was lent
+pub has_a_write : (items lent : List Edit) (b : Bool) → lent ≡ items → b ≡ true → IsTrue b ↔ Contains lent edit.Write → Contains items edit.Write
+has_a_write items lent b same is iff = subst (λ (es : List Edit). Contains es edit.Write) same (iff.0 is)
 
 -- none of the edits is a write, by the test of the list that was lent
 pub free_of : (items lent : List Edit) (b : Bool) → lent ≡ items → b ≡ false → IsTrue b ↔ Contains lent edit.Write → ¬ Contains items edit.Write
@@ -78,6 +84,17 @@ module _ {S : Type 0} (means : Meaning S) where
   edits_refused hash edits old edited new (import.Commit error) done refused = absurd refused
   edits_refused hash edits old edited new import.OutOfMemory done refused = absurd refused
   edits_refused hash edits old edited new import.Failed done refused = absurd refused
+
+  -- a write behind edits that came through, as what the call returned says
+  pub write_behind : (hash : hash.Kind) (edits : List Edit) (old edited new : State S) (done : Result Written ImportError) → AreDone means old edits edited
+      → IfOk done (λ it. IsWriteReplied means hash edited (reply.Written it) new) → IfOk done (λ it. IsWriteBehind means hash old edits (reply.Written it) new)
+  write_behind hash edits old edited new (Ok it) done write = record { edited = edited; done = done; write = write }
+  write_behind hash edits old edited new (Err error) done write = tt
+
+  pub write_refused_behind : (hash : hash.Kind) (edits : List Edit) (old edited new : State S) (done : Result Written ImportError) → AreDone means old edits edited
+      → IfErr done (λ error. RefusesWrite means hash edited error new) → IfErr done (λ error. RefusesEdits means hash edits old error new)
+  write_refused_behind hash edits old edited new (Ok it) done refusal = tt
+  write_refused_behind hash edits old edited new (Err error) done refusal = edits_refused hash edits old edited new error done refusal
 
   -- a commit that isn't written
   pub text_refused : (hash : hash.Kind) (step : Step) (tree : ObjectId) (parent : Option ObjectId) (old new : State S) (error : ImportError) → RefusesText step error → new ≡ old → RefusesCommit means hash step tree parent old error new

@@ -153,6 +153,9 @@ impl<S: Keep + KeepCommit> Importer<S> {
     ///
     /// Whatever comes of it, each id names in the store what it named before, or an object whose
     /// digest it is.
+    ///
+    /// It takes memory for the directories that the edits open and the trees that go out, for each
+    /// tree's bytes, for a copy of the step's actors and message, and for the commit's bytes.
     pub fn step(&mut self, step: &Step) -> Result<Imported, ImportError>
         ensures imported { IfOk result (λ it. IsImported (meaning S.objects S.may_fail)
             self.old step.now it self.new) }
@@ -196,7 +199,8 @@ impl<S: Keep + KeepCommit> Importer<S> {
 /// Imports the steps in order, and answers what was imported, one for each step.
 ///
 /// It stops at the first step that is refused, and answers what was imported before. `OutOfMemory`
-/// also where there was no memory for the list: then nothing was done.
+/// also where there was no memory for the list: then nothing was done. It takes memory for the
+/// list before the first step, and then that of each step.
 ///
 /// Of a new importer: each commit's id is the digest of a text that is the step's author, committer
 /// and message, with the commit before it as only parent; the store names this commit by it then, or

@@ -1,11 +1,13 @@
-use Rattle.std.proofs.Common.{ap, refl, ◌∙◌, ℕ, List}
+use Rattle.std.proofs.Common.{ap, refl, subst, ◌∙◌, ℕ, List}
 use Rattle.gixobj_ids.specs.Hash.{id_of}
 use Rattle.gixobj_ids.specs.declared.kind.Kind.TheVariants.{Commit}
-use Rattle.gixobj_keeping.specs.Keeping.{with_commit}
+use Rattle.gixobj_ids.specs.declared.hash.object_id.ObjectId.{ObjectId}
+use Rattle.gixobj_keeping.specs.Keeping.{RefusesKeepCommit, with_commit}
 use Rattle.gixobj_import.specs.Commits.{step_text}
 use Rattle.gixobj_import.specs.Edited.{meaning}
 use Rattle.gixobj_import.proofs.Digests.{hex_of_id, kind_of_digest}
 use Rattle.gixobj_import.proofs.Legal.{step_text_reads}
+use Rattle.gixobj_import.proofs.Stepping.{text_refused}
 use Rattle.gixobj_import.proofs.commits.keep_commit_of.Goals as goal
 
 pub returns-in-Ok-clause-kept : goal.returns-in-Ok-clause-kept
@@ -22,5 +24,23 @@ returns-in-Ok-clause-kept g c =
       rest = refl;
       kept = c.in-Ok.ensures.kept ∙ ap (λ (bytes : List ℕ). with_commit commit bytes (means.objects c.store_mut.result.now)) (c.deref-2.ensures.value ∙ c.in_ok-text.ensures.text)
           ∙ ap (λ (s : g.row.S.Denot). with_commit commit text (means.objects s)) c.store_mut.ensures.value;
+      may_fail = λ id. c.keep_commit.ensures.may_fail id ∙ ap (λ (s : g.row.S.Denot). means.may_fail s id) c.store_mut.ensures.value;
+    }
+
+pub returns-in_err-text-clause-refusal : goal.returns-in_err-text-clause-refusal
+returns-in_err-text-clause-refusal g c =
+    text_refused (meaning g.S.Store.objects g.S.Store.may_fail) c.args.hash c.args.step.now c.args.tree c.args.parent c.args.editor.now c.args.editor.now c.in_err-text.error c.in_err-text.ensures.refusal refl
+
+pub returns-in-Err-clause-refusal : goal.returns-in-Err-clause-refusal
+returns-in-Err-clause-refusal g c =
+    let means = meaning g.S.Store.objects g.S.Store.may_fail in
+    let commit = c.compute_hash-commit.result in
+    record {
+      refusal =
+          subst (λ (id : ObjectId). RefusesKeepCommit (means.may_fail c.args.editor.now.store) id c.in-Err.error)
+          (c.compute_hash-commit.ensures ∙ ap (λ (bytes : List ℕ). id_of c.args.hash Commit bytes) (c.deref.ensures.value ∙ c.in_ok-text.ensures.text))
+          (subst (λ (s : g.row.S.Denot). RefusesKeepCommit (means.may_fail s) commit c.in-Err.error) c.store_mut.ensures.value c.in-Err.ensures.refusal);
+      rest = refl;
+      unchanged = c.in-Err.ensures.unchanged ∙ ap (λ (s : g.row.S.Denot). means.objects s) c.store_mut.ensures.value;
       may_fail = λ id. c.keep_commit.ensures.may_fail id ∙ ap (λ (s : g.row.S.Denot). means.may_fail s id) c.store_mut.ensures.value;
     }

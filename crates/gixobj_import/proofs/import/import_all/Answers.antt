@@ -1,7 +1,7 @@
 use Rattle.std.proofs.Common.{◌+◌, ◌∷◌, ◌∙◌, [], arith, ap, inr, length, refl, subst, sym, take, ℕ, List}
 use Rattle.std.proofs.lemmas.List.{length-append}
 use Rattle.gixobj_import.specs.Edited.{meaning}
-use Rattle.gixobj_import.specs.Steps.{AreImported}
+use Rattle.gixobj_import.specs.Steps.{AreImported, Stops}
 use Rattle.gixobj_import.specs.declared.import.Imported.{Imported}
 use Rattle.gixobj_import.proofs.Committing.{commits_of_new}
 use Rattle.gixobj_import.proofs.Digests.{adds_none}
@@ -23,6 +23,27 @@ loop-step-preserved g c =
       count = ap length c.push_reserved.ensures.items ∙ length-append c.loop-step.imported.items (c.in-Ok-step.it ∷ []) ∙ ap (λ n. n + 1) inv.count;
       as_many = c.push_reserved.ensures.len ∙ ap (λ n. n + 1) inv.as_many;
       room = omega (arith, inv.room, c.push_reserved.ensures.capacity);
+    }
+
+pub returns-in-Err : goal.returns-in-Err
+returns-in-Err g c =
+    let means = meaning g.S.Store.objects g.S.Store.may_fail in
+    let laws : OfStores = record {
+      trees_of = c.every_store_names_trees.ensures;
+      put_in = record { there = c.an_object_is_put_in.ensures.there; elsewhere = c.an_object_is_put_in.ensures.elsewhere; same_or_not = c.ids_are_the_same_or_not.ensures };
+    } in
+    let old = c.args.importer.now in
+    let done = c.no_list.result.done.items in
+    let error = c.no_list.result.error in
+    let stops : Stops means old c.args.steps.now done error old = inr (record { nothing = c.no_list.ensures.done; memory = c.no_list.ensures.error; unchanged = refl }) in
+    record {
+      imported = tt;
+      stopped = stops;
+      adds = stopped_adds means laws old old c.args.steps.now done error stops;
+      commits = tt;
+      files = tt;
+      commits_done = commits_of_stopped means laws old old c.args.steps.now done error stops;
+      files_done = files_of_stopped means laws old old c.args.steps.now done error stops;
     }
 
 pub returns-in-Err-step : goal.returns-in-Err-step

@@ -24,3 +24,6 @@ returns-in-Err-keep_all-clause-refusal g c =
       not_kept means c.args.hash c.args.editor.now c.write_by_digests.new.editor _ c.store_mut.result.now c.keep_all.new.store c.in-Ok.written c.deref.result.now (c.in-Ok.ensures {u = tt}).written
           c.store_mut.ensures.value c.deref.ensures.value refl c.keep_all.ensures.may_fail c.in-Err-keep_all._count c.in-Err-keep_all.error (c.in-Err-keep_all.ensures {u = tt}).stopped,
     )
+
+pub returns-in-Err-clause-refusal : goal.returns-in-Err-clause-refusal
+returns-in-Err-clause-refusal g c = record { stopped = (c.in-Err.ensures {u = tt}).stopped; unchanged = (c.in-Err.ensures {u = tt}).unchanged }
