@@ -1,6 +1,5 @@
 //! The edits of a step.
 ghost use Rattle.std.specs.Prelude.{◌≢◌, ◌↔◌, Contains, IfErr, IsTrue, OnOk};
-ghost use Rattle.gixobj_commands.specs.declared.command.Edit.TheVariants as edit;
 ghost use Rattle.gixobj_import.specs.Edited.{AreDone, IsRefusedAt, IsReplied, meaning};
 ghost use Rattle.gixobj_runs.specs.Replies.{reply_to};
 
@@ -10,7 +9,7 @@ use gixobj_editor::editor::{Editor, Error};
 
 /// Whether one of the edits is a write.
 pub(crate) fn hold_a_write(edits: &[Edit]) -> bool
-    ensures { IsTrue result ↔ Contains edits.now edit.Write }
+    ensures { IsTrue result ↔ Contains edits.now Edit.Write }
 {
     edits.iter().any(|edit| matches!(edit, Edit::Write))
 }
@@ -21,7 +20,7 @@ pub(crate) fn do_edits<S: Find>(
     editor: &mut Editor<S>,
     edits: &[Edit],
 ) -> Result<(), (usize, Error)>
-    requires no_write { ¬ Contains edits.now edit.Write }
+    requires no_write { ¬ Contains edits.now Edit.Write }
     ensures done { OnOk result (AreDone (meaning S.objects S.may_fail)
         editor.old edits.now editor.new) }
     ensures refused { IfErr result (λ it. IsRefusedAt (meaning S.objects S.may_fail)
@@ -38,7 +37,7 @@ pub(crate) fn do_edits<S: Find>(
 
 /// Does an edit, which may not be a write.
 fn do_edit<S: Find>(editor: &mut Editor<S>, edit: &Edit) -> Result<(), Error>
-    requires { edit.now ≢ edit.Write }
+    requires { edit.now ≢ Edit.Write }
     ensures { IsReplied (meaning S.objects S.may_fail)
         editor.old edit.now (reply_to result) editor.new }
 {

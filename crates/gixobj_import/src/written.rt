@@ -1,6 +1,5 @@
 //! The write behind the edits of a step: each tree by the digest of its written bytes.
 ghost use Rattle.std.specs.Prelude.{◌≡◌, ◌∷◌, [], Contains, IfErr, IfOk, OnErr};
-ghost use Rattle.gixobj_commands.specs.declared.command.Edit.TheVariants as edit;
 ghost use Rattle.gixobj_directories.specs.Handing.{Stopped};
 ghost use Rattle.gixobj_editor.specs.Writes.{IsWritten};
 ghost use Rattle.gixobj_files.specs.HandingOut.{HandsOutSome};
@@ -32,7 +31,7 @@ pub(crate) fn write_edits<S: Keep>(
     hash: hash::Kind,
     edits: &[Edit],
 ) -> Result<Written, ImportError>
-    requires no_write { ¬ Contains edits.now edit.Write }
+    requires no_write { ¬ Contains edits.now Edit.Write }
     ensures written { IfOk result (λ it. IsWriteBehind (meaning S.objects S.may_fail)
         hash editor.old edits.now (EditReply.Written it) editor.new) }
     ensures root { IfOk result (λ it. HaveHex hash (it.id ∷ [])) }

@@ -29,10 +29,10 @@ returns-in-Ok-clause-kept g c =
 
 pub returns-in_err-text-clause-refusal : goal.returns-in_err-text-clause-refusal
 returns-in_err-text-clause-refusal g c =
-    text_refused (meaning g.S.Store.objects g.S.Store.may_fail) c.args.hash c.args.step.now c.args.tree c.args.parent c.args.editor.now c.args.editor.now c.in_err-text.error c.in_err-text.ensures.refusal refl
+    text_refused (meaning g.S.Store.objects g.S.Store.may_fail) c.args.hash c.args.step.now c.args.tree c.args.parent c.args.editor.now c.args.editor.now c.in_err-text.field-0 c.in_err-text.ensures.refusal refl
 
-pub returns-in-Err-clause-refusal : goal.returns-in-Err-clause-refusal
-returns-in-Err-clause-refusal g c =
+pub returns-clause-refusal : goal.returns-clause-refusal
+returns-clause-refusal g c =
     let means = meaning g.S.Store.objects g.S.Store.may_fail in
     let commit = c.compute_hash-commit.result in
     record {

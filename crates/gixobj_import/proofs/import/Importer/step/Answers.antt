@@ -5,6 +5,8 @@ use Rattle.gixobj_commands.specs.declared.command.Edit.TheVariants as edit
 use Rattle.gixobj_runs.specs.declared.reply.EditReply.TheVariants as reply
 use Rattle.gixobj_import.specs.Edited.{IsWriteBehind, meaning}
 use Rattle.gixobj_import.specs.Steps.{IsImported, RefusesEdits}
+use Rattle.gixobj_import.specs.declared.import.Imported.{Imported}
+use Rattle.gixobj_import.specs.declared.import.Importer.{Importer}
 use Rattle.gixobj_import.proofs.Adding.{refused_adds, step_adds}
 use Rattle.gixobj_import.proofs.Digests.{adds_none}
 use Rattle.gixobj_import.proofs.Filing.{step_bases, step_files}
@@ -13,9 +15,11 @@ use Rattle.gixobj_import.proofs.Stepping.{free_of, has_a_write, refuses_step}
 use Rattle.gixobj_import.proofs.import.Importer.step.Goals as goal
 
 pub write_edits-requires : goal.write_edits-requires
-write_edits-requires g c = λ has.
-    free_of c.args.step.now.edits.items c.deref.result.now c.hold_a_write.result c.deref.ensures.value c.if-hold_a_write.false c.hold_a_write.ensures
-    (subst (λ (es : List Edit). Contains es edit.Write) c.deref-2.ensures.value has)
+write_edits-requires g c = record {
+  no_write = λ has.
+      free_of c.args.step.now.edits.items c.deref.result.now c.hold_a_write.result c.deref.ensures.value c.if-hold_a_write.false c.hold_a_write.ensures
+      (subst (λ (es : List Edit). Contains es edit.Write) c.deref-2.ensures.value has);
+}
 
 pub returns-then-self : goal.returns-then-self
 returns-then-self g c =
@@ -47,7 +51,7 @@ returns-in-Err g c =
       put_in = record { there = c.an_object_is_put_in.ensures.there; elsewhere = c.an_object_is_put_in.ensures.elsewhere; same_or_not = c.ids_are_the_same_or_not.ensures };
     } in
     let old = c.args.self.now in
-    let new = record old { editor = c.write_edits.new.editor; failed = true } in
+    let new : Importer g.row.S.Denot = record old { editor = c.write_edits.new.editor; failed = true } in
     let refused = refuses_step means old new c.args.step.now c.in-Err.error (record {
       ready = c.if-self.false;
       no_write = free_of c.args.step.now.edits.items c.deref.result.now c.hold_a_write.result c.deref.ensures.value c.if-hold_a_write.false c.hold_a_write.ensures;
@@ -64,7 +68,7 @@ returns-in-Err-kept g c =
       put_in = record { there = c.an_object_is_put_in.ensures.there; elsewhere = c.an_object_is_put_in.ensures.elsewhere; same_or_not = c.ids_are_the_same_or_not.ensures };
     } in
     let old = c.args.self.now in
-    let new = record old { editor = c.keep_commit_of-kept.new.editor; failed = true } in
+    let new : Importer g.row.S.Denot = record old { editor = c.keep_commit_of-kept.new.editor; failed = true } in
     let refused = refuses_step means old new c.args.step.now c.in-Err-kept.error (record {
       ready = c.if-self.false;
       no_write = free_of c.args.step.now.edits.items c.deref.result.now c.hold_a_write.result c.deref.ensures.value c.if-hold_a_write.false c.hold_a_write.ensures;
@@ -86,8 +90,8 @@ returns g c =
       put_in = record { there = c.an_object_is_put_in.ensures.there; elsewhere = c.an_object_is_put_in.ensures.elsewhere; same_or_not = c.ids_are_the_same_or_not.ensures };
     } in
     let old = c.args.self.now in
-    let new = record old { editor = c.keep_commit_of-kept.new.editor; last = Some c.in-Ok-kept.commit; failed = false } in
-    let it = record { commit = c.in-Ok-kept.commit; written = c.in-Ok.written } in
+    let new : Importer g.row.S.Denot = record old { editor = c.keep_commit_of-kept.new.editor; last = Some c.in-Ok-kept.commit; failed = false } in
+    let it : Imported = record { commit = c.in-Ok-kept.commit; written = c.in-Ok.written } in
     let one : IsImported means old c.args.step.now it new = record {
       ready = c.if-self.false;
       no_write = free_of c.args.step.now.edits.items c.deref.result.now c.hold_a_write.result c.deref.ensures.value c.if-hold_a_write.false c.hold_a_write.ensures;
