@@ -36,7 +36,10 @@ pub(crate) fn keep_commit_of<S: KeepCommit>(
         hash step.now tree parent editor.old error editor.new) }
 {
     hex_reads_back();
-    let text = text_of(alloc, step, tree, parent)?;
+    let text = match text_of(alloc, step, tree, parent) {
+        Ok(text) => text,
+        Err(error) => return Err(error),
+    };
     let commit = compute_hash(hash, Kind::Commit, &text);
     is_an_id(&commit);
     names_actor(&step.author);
