@@ -1,5 +1,5 @@
 -- What steps put into the store, whatever comes of them: objects under their digests.
-use Rattle.std.proofs.Common.{◌≡◌, ◌∙◌, ◌⊎◌, ⊎_elim, ℕ, List, [], ◌∷◌, Option, Some, ap, refl, subst, sym, take}
+use Rattle.std.proofs.Common.{◌≡◌, ◌∙◌, ⊎_elim, List, [], ◌∷◌, Option, ap, subst, sym, take}
 use Rattle.std.proofs.lemmas.List.Elements.{All-take}
 use Rattle.gixobj_commands.specs.declared.command.Edit.{Edit}
 use Rattle.gixobj_data.specs.Stores.{Objects}

@@ -1,5 +1,5 @@
 -- The commits of steps that are imported one after the other.
-use Rattle.std.proofs.Common.{◌≡◌, inr, List, [], ◌∷◌, Option, None, Some, ap, refl, subst, sym}
+use Rattle.std.proofs.Common.{◌≡◌, inr, List, [], ◌∷◌, Option, None, Some, ap, subst, sym}
 use Rattle.std.proofs.lemmas.List.Elements.{All-cons, All-head, All-nil}
 use Rattle.gixobj_data.specs.Stores.{Objects}
 use Rattle.gixobj_ids.specs.Hash.{hex_text}

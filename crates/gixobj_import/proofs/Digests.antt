@@ -1,5 +1,5 @@
 -- Objects that are put into a store under their digests.
-use Rattle.std.proofs.Common.{◌≡◌, ◌⊎◌, ◌∙◌, ◌*◌, inl, inr, ⊎_elim, ℕ, All, List, [], ◌∷◌, ◌++◌, Some, ap, refl, subst, sym}
+use Rattle.std.proofs.Common.{◌≡◌, ◌∙◌, ◌*◌, inl, inr, ⊎_elim, ℕ, All, List, [], ◌∷◌, ◌++◌, ap, refl, subst, sym}
 use Rattle.std.proofs.lemmas.List.Elements.{All-cons, All-head, All-nil, All-tail}
 use Rattle.std.specs.FinMap as finite
 use Rattle.std.specs.List.{FoldsTo}

@@ -1,15 +1,14 @@
 -- Actors that can be written, and commits that were.
-use Rattle.std.proofs.Common.{◌≡◌, ◌≢◌, ◌⊎◌, ◌*◌, inl, inr, ⊎_elim, ◌==◌, ◌∙◌, ap, sym, subst, refl, ℕ, Bool, true, false, All, List, [], ◌∷◌, Option, Some, None, arith}
+use Rattle.std.proofs.Common.{◌≡◌, ◌≢◌, ◌⊎◌, inl, inr, ⊎_elim, ◌==◌, sym, subst, refl, ℕ, true, false, All, List, [], ◌∷◌, Option, Some, None, arith}
 use Rattle.std.proofs.lemmas.Bool.Decides.{nat_tests}
 use Rattle.std.proofs.lemmas.List.Elements.{All-cons, All-head, All-nil, All-tail}
 use Rattle.std.specs.Prelude.{map}
-use Rattle.std.specs.List.{AllPass}
 use Rattle.bstr.specs.Owned.{bstring_bytes}
 use Rattle.gixobj_actors.specs.Actor.{IsWritable}
-use Rattle.gixobj_actors.specs.ActorWriting.{IsLegal, IsLegalActor, owned_text}
+use Rattle.gixobj_actors.specs.ActorWriting.{IsLegal, owned_text}
 use Rattle.gixobj_actors.specs.declared.actor.Signature.{Signature}
 use Rattle.gixobj_commits.specs.CommitViews.{owned_lines}
-use Rattle.gixobj_commits.specs.CommitWriting.{RefusesEncoding, RefusesOwned, before_author, before_committer, commit_text}
+use Rattle.gixobj_commits.specs.CommitWriting.{RefusesEncoding, RefusesOwned, before_author, before_committer}
 use Rattle.gixobj_commits.specs.declared.commit.Commit.{Commit}
 use Rattle.gixobj_fields.specs.Writing.{RefusesNothing, illegal_actor}
 use Rattle.gixobj_ids.specs.Hash.{hex_text}

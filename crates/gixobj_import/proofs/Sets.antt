@@ -1,12 +1,12 @@
 -- Sets of the same files, what steps make of them, and the files of an editor that has none.
-use Rattle.std.proofs.Common.{◌≡◌, ◌∙◌, ℕ, zero, suc, List, [], ◌∷◌, ◌++◌, None, Option, Some, ⊎_elim, inl, inr, ap, subst, sym}
+use Rattle.std.proofs.Common.{◌≡◌, ◌∙◌, ℕ, zero, suc, List, [], ◌∷◌, ◌++◌, None, Option, Some, ⊎_elim, inl, inr, subst, sym}
 use Rattle.std.specs.Cmp.Lexicographic.{lists_total, nat_list_cmp_total, slice_cmp}
 use Rattle.std.specs.FinMap as map
 use Rattle.std.specs.Ordering.{nat_cmp}
 use Rattle.gixobj_files.specs.Bases.{HasBases}
 use Rattle.gixobj_files.specs.Files.{Assured, FileSet, Path, Removed, SameFiles, Table, Upserted}
 use Rattle.gixobj_files.specs.History.{History, Step, after_step, assure, remove, set_root, upsert}
-use Rattle.gixobj_files.specs.Opening.{Dirs, HasAt, OpenFiles}
+use Rattle.gixobj_files.specs.Opening.{HasAt, OpenFiles}
 use Rattle.gixobj_files.specs.State.{DirMap, EditorFiles, State, open_bases, open_dirs, root_alone}
 use Rattle.gixobj_ids.specs.declared.hash.object_id.ObjectId.{ObjectId}
 use Rattle.gixobj_trees.specs.Entries.{EntryView}

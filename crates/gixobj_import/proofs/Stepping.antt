@@ -1,5 +1,5 @@
 -- Steps that are imported one after the other, and what they come to.
-use Rattle.std.proofs.Common.{◌≡◌, ◌≢◌, ◌∙◌, ◌<◌, ◌≤◌, ◌+◌, ⊎_elim, ℕ, zero, suc, List, [], ◌∷◌, ◌++◌, Option, Some, ap, arith, get_or, inl, inr, length, refl, subst, sym, take, Err, Ok, Result}
+use Rattle.std.proofs.Common.{◌≡◌, ◌∙◌, ◌<◌, ◌≤◌, ◌+◌, ⊎_elim, ℕ, zero, suc, List, [], ◌∷◌, ◌++◌, Option, Some, ap, arith, get_or, inl, length, refl, subst, sym, take, Err, Ok, Result}
 use Rattle.std.proofs.lemmas.Bool.{true≢false}
 use Rattle.std.proofs.lemmas.List.{take_all, take_more}
 use Rattle.std.specs.Prelude.{◌↔◌, Bool, true, false, Contains, IfErr, IfOk, IsTrue, slice_get}

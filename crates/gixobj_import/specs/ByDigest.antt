@@ -1,5 +1,5 @@
 -- Objects that a store names by their digests.
-use Rattle.std.specs.Prelude.{◌≡◌, ◌⊎◌, ℕ, List, Some}
+use Rattle.std.specs.Prelude.{◌≡◌, ◌⊎◌, ℕ, List}
 use Rattle.gixobj_data.specs.Stores.{Names, Objects, StoredObject, named}
 use Rattle.gixobj_ids.specs.Hash.{id_of}
 use Rattle.gixobj_ids.specs.declared.hash.object_id.ObjectId.{ObjectId}

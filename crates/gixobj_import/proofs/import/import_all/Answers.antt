@@ -1,4 +1,4 @@
-use Rattle.std.proofs.Common.{◌+◌, ◌∷◌, ◌∙◌, [], arith, ap, inr, length, refl, subst, sym, take, ℕ, List}
+use Rattle.std.proofs.Common.{◌+◌, ◌∷◌, ◌∙◌, [], arith, ap, inr, length, refl, subst, sym, take, List}
 use Rattle.std.proofs.lemmas.List.{length-append}
 use Rattle.gixobj_import.specs.Edited.{meaning}
 use Rattle.gixobj_import.specs.Steps.{AreImported, Stops}
