@@ -9,7 +9,7 @@ use std::alloc::Global;
 
 /// Imports the steps of a history into a store, and answers what was imported last: its commit, and the root that was written
 /// for it. None of no steps. The first refusal of a step ends it.
-pub fn tip_of<S: Keep + KeepCommit>(
+pub fn tip_of<S: Keep + KeepCommit + Drop>(
     alloc: Global,
     store: S,
     hash: Kind,

@@ -40,9 +40,9 @@ fn nothing_changed_by_a_write_in_a_step(rt: HostRuntime) -> Result<(), Fail> {
     let mut importer = Importer::new(alloc, Memory::new(alloc), HashKind::Sha1);
     let edits = vec![in alloc; upsert(alloc, "a", FILE)?, Edit::Write]?;
     let first = importer.step(&step(alloc, edits)?);
-    assert!(rt; matches!(first, Err(error) if number(&error) == 1));
+    assert!(rt; matches!(&first, Err(error) if number(error) == 1));
     let imported = import_all(&mut importer, &plain_steps(alloc)?);
-    assert!(rt; matches!(imported, Ok(imported) if are_commits(&imported, &COMMITS)));
+    assert!(rt; matches!(&imported, Ok(imported) if are_commits(imported, &COMMITS)));
     Ok(())
 }
 
@@ -51,7 +51,7 @@ fn refused_edit(alloc: Global, edits: Vec<Edit>) -> Result<Option<(usize, u8)>, 
     let Some(stopped) = stopped_by(alloc, step(alloc, edits)?)? else {
         return Ok(None);
     };
-    let ImportError::Edit { index, error } = stopped.error else {
+    let ImportError::Edit { index, error } = &stopped.error else {
         return Ok(None);
     };
     let number = match error {
@@ -62,7 +62,7 @@ fn refused_edit(alloc: Global, edits: Vec<Edit>) -> Result<Option<(usize, u8)>, 
         Error::MalformedTree => 5,
         Error::OutOfMemory => 6,
     };
-    Ok(Some((index, number)))
+    Ok(Some((*index, number)))
 }
 
 #[test]
@@ -114,11 +114,11 @@ fn a_failed_importer(rt: HostRuntime) -> Result<(), Fail> {
     let mut importer = Importer::new(alloc, Memory::new(alloc), HashKind::Sha1);
     let edits = vec![in alloc; upsert(alloc, "", FILE)?]?;
     let first = importer.step(&step(alloc, edits)?);
-    assert!(rt; matches!(first, Err(error) if number(&error) == 2));
+    assert!(rt; matches!(&first, Err(error) if number(error) == 2));
     // Also a step that holds a write, and a list of steps.
     let write = vec![in alloc; Edit::Write]?;
     let second = importer.step(&step(alloc, write)?);
-    assert!(rt; matches!(second, Err(error) if number(&error) == 7));
+    assert!(rt; matches!(&second, Err(error) if number(error) == 7));
     let stopped = import_all(&mut importer, &plain_steps(alloc)?).err();
     let told = stopped.is_some_and(|it| it.done.is_empty() && number(&it.error) == 7);
     assert!(rt; told);
@@ -130,6 +130,6 @@ fn no_steps(rt: HostRuntime) -> Result<(), Fail> {
     let alloc = rt.alloc();
     let mut importer = Importer::new(alloc, Memory::new(alloc), HashKind::Sha1);
     let imported = import_all(&mut importer, &[]);
-    assert!(rt; matches!(imported, Ok(imported) if imported.is_empty()));
+    assert!(rt; matches!(&imported, Ok(imported) if imported.is_empty()));
     Ok(())
 }

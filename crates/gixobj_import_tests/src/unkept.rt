@@ -29,7 +29,7 @@ fn stops(alloc: Global, refused: u64, before: usize, counts: (u64, u64)) -> Resu
     let told = number(&stopped.error) == 4 && are_commits(&stopped.done, commits);
     let kept = importer.store_mut().counts() == counts;
     let next = importer.step(&step(alloc, Vec::new(alloc))?);
-    let failed = matches!(next, Err(error) if number(&error) == 7);
+    let failed = matches!(&next, Err(error) if number(error) == 7);
     let still = importer.store_mut().counts() == counts;
     let all_there = stopped.done.iter().all(|it| kept_commit(
         alloc,
