@@ -1,4 +1,5 @@
 //! A store that counts what it keeps, and refuses at one place.
+ghost use Rattle.std.specs.Prelude.{◌≡◌};
 ghost use Rattle.gixobj_store.specs.Memory.{memory_objects};
 
 use bstr::BString;
@@ -37,7 +38,9 @@ impl Failing {
     }
 
     /// Counts a call, and refuses the one at the place.
-    fn count(&mut self) -> Result<(), KeepError> {
+    fn count(&mut self) -> Result<(), KeepError>
+        ensures { self.new.objects ≡ self.old.objects }
+    {
         self.keeps = self.keeps.saturating_add(1);
         if self.keeps == self.refused {
             return Err(KeepError::Store(BString::from_slice(self.alloc, b"offline")?));
