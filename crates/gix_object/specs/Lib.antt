@@ -15,6 +15,9 @@ pub use Rattle.gixobj_files.specs.Opening
 pub use Rattle.gixobj_files.specs.State
 pub use Rattle.gixobj_files.specs.Tables
 pub use Rattle.gixobj_files.specs.Unopened
+pub use Rattle.gixobj_import.specs.ByDigest
+pub use Rattle.gixobj_import.specs.Imports
+pub use Rattle.gixobj_import.specs.Steps
 pub use Rattle.gixobj_keeping.specs.Keeping
 pub use Rattle.gixobj_lookups.specs.Existing
 pub use Rattle.gixobj_lookups.specs.Nothing

@@ -2,7 +2,8 @@
 //!
 //! It hands on what the crates below have for users: ids, kinds, loose headers, actors and times, trees, blobs,
 //! commits, tags and objects of any kind, how they are read and written, how they are looked up in stores and kept
-//! by them, and in [`tree::editor`] the editor of nested trees, with whole runs of it.
+//! by them, in [`tree::editor`] the editor of nested trees, with whole runs of it, and in [`import`] histories imported
+//! from lists of edits.
 #![tactic(auto)]
 
 pub mod laws;
@@ -17,6 +18,7 @@ pub use gixobj_codec::{
     LooseDecodeError, Object, ObjectRef, Store, Tag, TagRef, TagRefIter, TreeRef, TreeRefIter,
     commit, data, tag,
 };
-pub use gixobj_keeping::{Keep, KeepError};
+pub use gixobj_import::import;
+pub use gixobj_keeping::{Keep, KeepCommit, KeepError};
 pub use gixobj_lookups::{FindExt, HeaderExt, Write, find, write};
 pub use gixobj_text::signature;

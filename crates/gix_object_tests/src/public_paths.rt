@@ -3,10 +3,10 @@
 mod root {
     pub use gix_object::{
         Blob, BlobRef, Commit, CommitRef, CommitRefIter, Data, Exists, Find, FindExt, FindHeader,
-        FindObjectOrHeader, Header, HeaderExt, Keep, KeepError, Kind, LooseDecodeError, Object,
-        ObjectRef, OutOfMemory, Store, Tag, TagRef, TagRefIter, Tree, TreeRef, TreeRefIter, Write,
-        WriteTo, actor, commit, compute_hash, compute_stream_hash, data, date, decode, encode,
-        find, hash, kind, laws, signature, stream_hash, streams, tag, tree, write,
+        FindObjectOrHeader, Header, HeaderExt, Keep, KeepCommit, KeepError, Kind, LooseDecodeError,
+        Object, ObjectRef, OutOfMemory, Store, Tag, TagRef, TagRefIter, Tree, TreeRef, TreeRefIter,
+        Write, WriteTo, actor, commit, compute_hash, compute_stream_hash, data, date, decode,
+        encode, find, hash, import, kind, laws, signature, stream_hash, streams, tag, tree, write,
     };
 }
 
@@ -70,6 +70,12 @@ mod of_hash {
     pub use gix_object::hash::{Kind, ObjectId, oid, verify};
 }
 
+mod of_import {
+    pub use gix_object::import::{
+        ImportError, Imported, Importer, KeepCommit, Step, Stopped, import_all,
+    };
+}
+
 mod of_kind {
     pub use gix_object::kind::{Error, Kind};
 }
@@ -78,7 +84,8 @@ mod of_laws {
     pub use gix_object::laws::{
         a_file_looked_up_is_there, a_plain_history_needs_no_table, a_root_alone_is_opened,
         every_list_makes_a_table, every_store_has_its_own_table, every_store_names_trees,
-        fitting_pairs_have_a_table, fitting_runs_have_a_table, trees_read_as_themselves,
+        fitting_imports_have_a_table, fitting_pairs_have_a_table, fitting_runs_have_a_table,
+        trees_read_as_themselves,
     };
 }
 

@@ -9,5 +9,6 @@ mod Planned
 mod PutIn
 mod Rebuilt
 mod Refusals
+mod Tips
 mod Told
 mod Uploaded

@@ -1,4 +1,5 @@
 pub mod Ancestors
+pub mod Archives
 pub mod Checkouts
 pub mod Copies
 pub mod Imports

@@ -1,8 +1,10 @@
 //! Callers of the public calls, each proved on their contracts and laws alone: what a store of objects, a walker of
-//! commits, a planner of checkouts and of uploads, an auditor and a publisher of releases, a verifier of tags, a reader
-//! and an importer of history, a rebuilder of trees, and who writes a store of objects, can rely on.
+//! commits, an archive of history, a planner of checkouts and of uploads, an auditor and a publisher of releases, a
+//! verifier of tags, a reader and an importer of history, a rebuilder of trees, and who writes a store of objects, can
+//! rely on.
 #![tactic(auto)]
 
+pub mod archive;
 pub mod auditor;
 pub mod checkout;
 pub mod history;

@@ -1,0 +1,93 @@
+-- Objects that are put into a store under their digests.
+use Rattle.std.proofs.Common.{◌≡◌, ◌∙◌, ◌*◌, inl, inr, ⊎_elim, ℕ, All, List, [], ◌∷◌, ◌++◌, ap, refl, subst, sym}
+use Rattle.std.proofs.lemmas.List.Elements.{All-cons, All-head, All-nil, All-tail}
+use Rattle.std.specs.FinMap as finite
+use Rattle.std.specs.List.{FoldsTo}
+use Rattle.gixobj_data.specs.Stores.{Objects, StoredObject, named}
+use Rattle.gixobj_directories.specs.declared.write.Written.{Written}
+use Rattle.gixobj_editor.specs.Writes.{IsWritten}
+use Rattle.gixobj_files.specs.State.{State}
+use Rattle.gixobj_files.specs.Tables.{Pair}
+use Rattle.gixobj_ids.specs.Hash.{IsHexOfAnId, IsId, Spells, hash_len, hex_text, id_from, id_kind, id_of}
+use Rattle.gixobj_ids.specs.Hash.Hex.{IsHexOf}
+use Rattle.gixobj_ids.specs.declared.hash.kind.Kind as hash
+use Rattle.gixobj_ids.specs.declared.hash.kind.Kind.TheVariants as hash_kind
+use Rattle.gixobj_ids.specs.declared.hash.object_id.ObjectId.{ObjectId}
+use Rattle.gixobj_ids.specs.declared.kind.Kind as kind
+use Rattle.gixobj_ids.specs.declared.kind.Kind.TheVariants.{Commit, Tree}
+use Rattle.gixobj_keeping.specs.Keeping.{commit_object, tree_object, with_commit, with_tree, with_trees}
+use Rattle.gixobj_trees.specs.TreeText.{tree_text}
+use Rattle.gixobj_runs.specs.Replies.{Gives}
+use Rattle.gixobj_import.specs.ByDigest.{AddsByDigest, NamesByDigest, digest_id}
+use Rattle.gixobj_import.specs.Edited.{Digests}
+use Rattle.gixobj_import.specs.Steps.{HaveHex}
+use Rattle.gixobj_import.proofs.Known.{PutIn}
+
+kind_of_made : (k : hash.Kind) (bytes : List ℕ) → id_kind (id_from k bytes) ≡ k
+kind_of_made hash_kind.Sha1 bytes = refl
+kind_of_made hash_kind.Sha256 bytes = refl
+
+-- an id that is a digest is of the digest's kind
+pub kind_of_digest : (k : hash.Kind) (o : kind.Kind) (bytes : List ℕ) (it : ObjectId) → it ≡ id_of k o bytes → id_kind it ≡ k
+kind_of_digest k o bytes it is = ap id_kind is ∙ kind_of_made k _
+
+-- the hex text of an id of this kind
+pub hex_of_id : (k : hash.Kind) (id : ObjectId) → ((it : ObjectId) → IsId it → IsHexOfAnId (hex_text it)) → ((it : ObjectId) → IsId it → Spells (hex_text it) it) → IsId id → id_kind id ≡ k → HaveHex k (id ∷ [])
+hex_of_id k id reads spells is same =
+    let P : ObjectId → Type 0 = λ it. IsHexOf k (hex_text it) in
+    All-cons P id [] ((spells id is).len ∙ ap (λ (h : hash.Kind). 2 * hash_len h) same, (reads id is).1) (All-nil P)
+
+digests_itself : (k : hash.Kind) (o : kind.Kind) (bytes : List ℕ) (it : ObjectId) → it ≡ id_of k o bytes → digest_id (record { kind = o; object_hash = id_kind it; bytes = bytes }) ≡ it
+digests_itself k o bytes it is = ap (λ (h : hash.Kind). id_of h o bytes) (kind_of_digest k o bytes it is) ∙ sym is
+
+pub adds_none : (before after : Objects) → after ≡ before → AddsByDigest before after
+adds_none before after same id = inl (ap (λ (objects : Objects). named objects id) same)
+
+pub adds_then : (before between after : Objects) → AddsByDigest before between → AddsByDigest between after → AddsByDigest before after
+adds_then before between after first then id =
+    ⊎_elim
+    (λ same. ⊎_elim (λ as_before. inl (same ∙ as_before)) (λ named_so. inr (record { it = named_so.it; named_so = same ∙ named_so.named_so; digest = named_so.digest })) (first id))
+    inr
+    (then id)
+
+pub stays_named : (before after : Objects) (id : ObjectId) → AddsByDigest before after → NamesByDigest before id → NamesByDigest after id
+stays_named before after id adds names = ⊎_elim (λ same. record { it = names.it; named_so = same ∙ names.named_so; digest = names.digest }) (λ it. it) (adds id)
+
+abbrev pub IsDigest : hash.Kind → Pair → Type 0
+IsDigest hash pair = pair.0 ≡ id_of hash Tree (tree_text pair.1)
+
+module _ (laws : PutIn) where
+  adds_one : (objects : Objects) (id : ObjectId) (it : StoredObject) → digest_id it ≡ id → AddsByDigest objects (finite.insert objects id it)
+  adds_one objects id it digest other =
+      ⊎_elim (λ same. inr (record { it = it; named_so = ap (named (finite.insert objects id it)) same ∙ laws.there objects id it; digest = digest ∙ sym same }))
+      (λ differ. inl (laws.elsewhere objects id other it differ))
+      (laws.same_or_not other id)
+
+  pub adds_trees : (hash : hash.Kind) (pairs : List Pair) (objects : Objects) → All (IsDigest hash) pairs → AddsByDigest objects (with_trees pairs objects)
+  adds_trees hash [] objects all = adds_none objects objects refl
+  adds_trees hash (pair ∷ pairs) objects all =
+      adds_then objects (with_tree pair objects) (with_trees pairs (with_tree pair objects))
+      (adds_one objects pair.0 (tree_object pair.0 pair.1) (digests_itself hash Tree (tree_text pair.1) pair.0 (All-head (IsDigest hash) pair pairs all)))
+      (adds_trees hash pairs (with_tree pair objects) (All-tail (IsDigest hash) pair pairs all))
+
+  pub adds_commit : (hash : hash.Kind) (commit : ObjectId) (text : List ℕ) (objects : Objects) → commit ≡ id_of hash Commit text → AddsByDigest objects (with_commit commit text objects)
+  adds_commit hash commit text objects is = adds_one objects commit (commit_object commit text) (digests_itself hash Commit text commit is)
+
+  pub names_commit : (hash : hash.Kind) (commit : ObjectId) (text : List ℕ) (objects : Objects) → commit ≡ id_of hash Commit text → NamesByDigest (with_commit commit text objects) commit
+  names_commit hash commit text objects is =
+      record { it = commit_object commit text; named_so = laws.there objects commit (commit_object commit text); digest = digests_itself hash Commit text commit is }
+
+-- the trees that went out have their digests
+pub all_digests : (hash : hash.Kind) (pairs : List Pair) → FoldsTo (Gives (Digests hash)) tt pairs tt → All (IsDigest hash) pairs
+all_digests hash [] folded = All-nil (IsDigest hash)
+all_digests hash (pair ∷ pairs) (next, one, rest) = All-cons (IsDigest hash) pair pairs one.1 (all_digests hash pairs rest)
+
+last_has : (P : Pair → Type 0) (xs : List Pair) (x : Pair) → All P (xs ++ x ∷ []) → P x
+last_has P [] x all = All-head P x [] all
+last_has P (y ∷ xs) x all = last_has P xs x (All-tail P y (xs ++ x ∷ []) all)
+
+-- the id of the root is a digest of this kind
+pub root_kind : {S : Type 0} (k : hash.Kind) (old new : State S) (it : Written) → IsWritten (Gives (Digests k)) tt old it new tt → id_kind it.id ≡ k
+root_kind k old new it wrote =
+    let all = subst (All (IsDigest k)) wrote.last (all_digests k it.trees.items wrote.called) in
+    kind_of_digest k Tree (tree_text wrote.own) it.id (last_has (IsDigest k) wrote.below (it.id, wrote.own) all)

@@ -1,0 +1,18 @@
+-- What the laws that a body calls tell of stores.
+use Rattle.std.proofs.Common.{◌≡◌, ◌≢◌, ◌⊎◌, Some}
+use Rattle.std.specs.FinMap as finite
+use Rattle.gixobj_data.specs.Stores.{Objects, StoredObject, named}
+use Rattle.gixobj_directories.specs.Openings.{AreTreesOf}
+use Rattle.gixobj_files.specs.Files.{Trees}
+use Rattle.gixobj_ids.specs.declared.hash.object_id.ObjectId.{ObjectId}
+
+-- of an object that is put in
+pub record PutIn : Type 0 where
+  pub there : (objects : Objects) (id : ObjectId) (it : StoredObject) → named (finite.insert objects id it) id ≡ Some it
+  pub elsewhere : (objects : Objects) (id other : ObjectId) (it : StoredObject) → other ≢ id → named (finite.insert objects id it) other ≡ named objects other
+  pub same_or_not : (id other : ObjectId) → (id ≡ other) ⊎ (id ≢ other)
+
+-- of every store
+pub record OfStores : Type 0 where
+  pub trees_of : (objects : Objects) → (trees : Trees) × AreTreesOf objects trees
+  pub put_in : PutIn

@@ -1,0 +1,98 @@
+-- Actors that can be written, and commits that were.
+use Rattle.std.proofs.Common.{◌≡◌, ◌≢◌, ◌⊎◌, inl, inr, ⊎_elim, ◌==◌, sym, subst, refl, ℕ, true, false, All, List, [], ◌∷◌, Option, Some, None, arith}
+use Rattle.std.proofs.lemmas.Bool.Decides.{nat_tests}
+use Rattle.std.proofs.lemmas.List.Elements.{All-cons, All-head, All-nil, All-tail}
+use Rattle.std.specs.Prelude.{map}
+use Rattle.bstr.specs.Owned.{bstring_bytes}
+use Rattle.gixobj_actors.specs.Actor.{IsWritable}
+use Rattle.gixobj_actors.specs.ActorWriting.{IsLegal, owned_text}
+use Rattle.gixobj_actors.specs.declared.actor.Signature.{Signature}
+use Rattle.gixobj_commits.specs.CommitViews.{owned_lines}
+use Rattle.gixobj_commits.specs.CommitWriting.{RefusesEncoding, RefusesOwned, before_author, before_committer}
+use Rattle.gixobj_commits.specs.declared.commit.Commit.{Commit}
+use Rattle.gixobj_fields.specs.Writing.{RefusesNothing, illegal_actor}
+use Rattle.gixobj_ids.specs.Hash.{hex_text}
+use Rattle.gixobj_ids.specs.Hash.Hex.{IsHexOf}
+use Rattle.gixobj_ids.specs.declared.hash.kind.Kind as hash
+use Rattle.gixobj_ids.specs.declared.hash.object_id.ObjectId.{ObjectId}
+use Rattle.gixobj_lines.specs.Commit.{CommitLines, IsCommitText}
+use Rattle.gixobj_texts.specs.Parse.{IsFree}
+use Rattle.gixobj_import.specs.Commits.{NamesSignature, SameActor, only_parent, step_commit, step_text}
+use Rattle.gixobj_import.specs.Steps.{HaveHex}
+use Rattle.gixobj_import.specs.declared.import.Step.{Step}
+
+same_or_not : (byte other : ℕ) → (byte ≡ other) ⊎ (byte ≢ other)
+same_or_not byte other = elim (byte == other) as (λ b. (byte == other) ≡ b → (byte ≡ other) ⊎ (byte ≢ other)) [
+  | true ↦ λ passes. inl (grind (arith, nat_tests, passes))
+  | false ↦ λ fails. inr (λ same. grind (arith, nat_tests, fails, same))
+] refl
+
+free_or_not : (byte : ℕ) (text : List ℕ) → IsFree byte text ⊎ ¬ (IsFree byte text)
+free_or_not byte [] = inl (All-nil (λ it. it ≢ byte))
+free_or_not byte (first ∷ text) =
+    let P : ℕ → Type 0 = λ it. it ≢ byte in
+    ⊎_elim (λ same. inr (λ free. All-head P first text free same))
+    (λ other. ⊎_elim (λ free. inl (All-cons P first text other free)) (λ has. inr (λ free. has (All-tail P first text free))) (free_or_not byte text))
+    (same_or_not first byte)
+
+both : {A B : Type 0} → A ⊎ ¬ A → B ⊎ ¬ B → (A × B) ⊎ ¬ (A × B)
+both (inl a) (inl b) = inl (a, b)
+both (inl a) (inr never) = inr (λ it. never it.1)
+both (inr never) b = inr (λ it. never it.0)
+
+three : {A B C : Type 0} → A ⊎ ¬ A → B ⊎ ¬ B → C ⊎ ¬ C → (A × B × C) ⊎ ¬ (A × B × C)
+three (inl a) (inl b) (inl c) = inl (a, b, c)
+three (inl a) (inl b) (inr never) = inr (λ it. never it.2)
+three (inl a) (inr never) c = inr (λ it. never it.1)
+three (inr never) b c = inr (λ it. never it.0)
+
+writable_or_not : (text : List ℕ) → IsWritable text ⊎ ¬ (IsWritable text)
+writable_or_not text = three (free_or_not 60 text) (free_or_not 62 text) (free_or_not 10 text)
+
+legal_or_not : (actor : Signature) → IsLegal actor ⊎ ¬ (IsLegal actor)
+legal_or_not actor = both (writable_or_not (bstring_bytes actor.name)) (writable_or_not (bstring_bytes actor.email))
+
+copied_legal : (actor copy : Signature) → SameActor actor copy → IsLegal copy → IsLegal actor
+copied_legal actor copy same legal = (subst IsWritable same.name legal.0, subst IsWritable same.email legal.1)
+
+legal_copied : (actor copy : Signature) → SameActor actor copy → IsLegal actor → IsLegal copy
+legal_copied actor copy same legal = (subst IsWritable (sym same.name) legal.0, subst IsWritable (sym same.email) legal.1)
+
+-- of a commit that was written both actors can be
+written_legal : (commit : Commit) → RefusesNothing (RefusesOwned commit) → IsLegal commit.author × IsLegal commit.committer
+written_legal commit nothing =
+    ⊎_elim
+    (λ author. ⊎_elim (λ committer. (author, committer)) (λ other. absurd (nothing illegal_actor (before_committer (owned_lines commit)) (inr (inl (author, other, refl, refl))))) (legal_or_not commit.committer))
+    (λ other. absurd (nothing illegal_actor (before_author (owned_lines commit)) (inl (other, refl, refl))))
+    (legal_or_not commit.author)
+
+module _ (step : Step) (commit : Commit) (author : SameActor step.author commit.author) (committer : SameActor step.committer commit.committer) where
+  pub actors_legal : RefusesNothing (RefusesOwned commit) → IsLegal step.author × IsLegal step.committer
+  actors_legal nothing =
+      let legal = written_legal commit nothing in
+      (copied_legal step.author commit.author author legal.0, copied_legal step.committer commit.committer committer legal.1)
+
+  pub actor_refused : (tree : ObjectId) (parent : Option ObjectId) (parts : List ℕ) → owned_lines commit ≡ step_commit step tree parent → RefusesOwned commit illegal_actor parts → ¬ (IsLegal step.author) ⊎ ¬ (IsLegal step.committer)
+  actor_refused tree parent parts lines (inl (other, is, before)) = inl (λ legal. other (legal_copied step.author commit.author author legal))
+  actor_refused tree parent parts lines (inr (inl (legal, other, is, before))) = inr (λ it. other (legal_copied step.committer commit.committer committer it))
+  actor_refused tree parent parts lines (inr (inr (legal, other, refused))) = absurd (subst (λ (it : CommitLines). RefusesEncoding it.encoding illegal_actor) lines refused.0)
+
+parents_hex : (k : hash.Kind) (parent : Option ObjectId) → HaveHex k (only_parent parent) → All (IsHexOf k) (map hex_text (only_parent parent))
+parents_hex k None all = All-nil (IsHexOf k)
+parents_hex k (Some id) all = let P : ObjectId → Type 0 = λ it. IsHexOf k (hex_text it) in All-cons (IsHexOf k) (hex_text id) [] (All-head P id [] all) (All-nil (IsHexOf k))
+
+-- what is written of a step's commit is its text
+pub step_text_reads : (k : hash.Kind) (step : Step) (tree : ObjectId) (parent : Option ObjectId) → NamesSignature (owned_text step.author) step.author → NamesSignature (owned_text step.committer) step.committer
+    → HaveHex k (tree ∷ only_parent parent) → IsCommitText k (step_text step tree parent) (step_commit step tree parent)
+step_text_reads k step tree parent author committer hex =
+    let P : ObjectId → Type 0 = λ it. IsHexOf k (hex_text it) in
+    record {
+      headers_text = [];
+      joined = refl;
+      tree = All-head P tree (only_parent parent) hex;
+      parents = parents_hex k parent (All-tail P tree (only_parent parent) hex);
+      author = (_, _, _, author);
+      committer = (_, _, _, committer);
+      encoding = tt;
+      extra_headers = refl;
+    }

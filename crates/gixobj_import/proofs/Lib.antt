@@ -1,0 +1,14 @@
+mod Adding
+mod Calling
+mod Committing
+mod Digests
+mod Doing
+mod Filing
+mod Kept
+mod Known
+mod Legal
+mod Replied
+mod Sets
+mod Stopping
+mod Stepping
+mod Tables

@@ -1,0 +1,7 @@
+use Rattle.std.proofs.Common.{take}
+use Rattle.gixobj_import.specs.Edited.{AreDone, meaning}
+use Rattle.gixobj_import.proofs.edits.do_edits.Given as goal
+
+-- so many edits came through
+abbrev pub invariant-loop-index : goal.invariant-loop-index
+invariant-loop-index g l = AreDone (meaning g.S.Store.objects g.S.Store.may_fail) l.fn.editor (take l.index l.edits) l.editor

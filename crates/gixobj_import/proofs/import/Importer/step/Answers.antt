@@ -1,0 +1,110 @@
+use Rattle.std.proofs.Common.{ap, inl, inr, refl, subst, sym, Bool, List, Some, false, true}
+use Rattle.std.specs.Prelude.{Contains}
+use Rattle.gixobj_commands.specs.declared.command.Edit.{Edit}
+use Rattle.gixobj_commands.specs.declared.command.Edit.TheVariants as edit
+use Rattle.gixobj_runs.specs.declared.reply.EditReply.TheVariants as reply
+use Rattle.gixobj_import.specs.Edited.{IsWriteBehind, meaning}
+use Rattle.gixobj_import.specs.Steps.{IsImported, RefusesEdits}
+use Rattle.gixobj_import.specs.declared.import.Imported.{Imported}
+use Rattle.gixobj_import.specs.declared.import.Importer.{Importer}
+use Rattle.gixobj_import.proofs.Adding.{refused_adds, step_adds}
+use Rattle.gixobj_import.proofs.Digests.{adds_none}
+use Rattle.gixobj_import.proofs.Filing.{step_bases, step_files}
+use Rattle.gixobj_import.proofs.Known.{OfStores}
+use Rattle.gixobj_import.proofs.Stepping.{free_of, has_a_write, refuses_step}
+use Rattle.gixobj_import.proofs.import.Importer.step.Goals as goal
+
+pub write_edits-requires : goal.write_edits-requires
+write_edits-requires g c = record {
+  no_write = λ has.
+      free_of c.args.step.now.edits.items c.deref.result.now c.hold_a_write.result c.deref.ensures.value c.if-hold_a_write.false c.hold_a_write.ensures
+      (subst (λ (es : List Edit). Contains es edit.Write) c.deref-2.ensures.value has);
+}
+
+pub returns-then-self : goal.returns-then-self
+returns-then-self g c =
+    let means = meaning g.S.Store.objects g.S.Store.may_fail in
+    let objects = means.objects c.args.self.now.editor.store in
+    record { imported = tt; refused = (c.if-self.true, refl); adds = adds_none objects objects refl; files = tt; bases = tt }
+
+pub returns-then-hold_a_write : goal.returns-then-hold_a_write
+returns-then-hold_a_write g c =
+    let means = meaning g.S.Store.objects g.S.Store.may_fail in
+    let objects = means.objects c.args.self.now.editor.store in
+    record {
+      imported = tt;
+      refused = (
+        c.if-self.false,
+        has_a_write c.args.step.now.edits.items c.deref.result.now c.hold_a_write.result c.deref.ensures.value c.if-hold_a_write.true c.hold_a_write.ensures,
+        refl,
+      );
+      adds = adds_none objects objects refl;
+      files = tt;
+      bases = tt;
+    }
+
+pub returns-in-Err : goal.returns-in-Err
+returns-in-Err g c =
+    let means = meaning g.S.Store.objects g.S.Store.may_fail in
+    let laws : OfStores = record {
+      trees_of = c.every_store_names_trees.ensures;
+      put_in = record { there = c.an_object_is_put_in.ensures.there; elsewhere = c.an_object_is_put_in.ensures.elsewhere; same_or_not = c.ids_are_the_same_or_not.ensures };
+    } in
+    let old = c.args.self.now in
+    let new : Importer g.row.S.Denot = record old { editor = c.write_edits.new.editor; failed = true } in
+    let refused = refuses_step means old new c.args.step.now c.in-Err.error (record {
+      ready = c.if-self.false;
+      no_write = free_of c.args.step.now.edits.items c.deref.result.now c.hold_a_write.result c.deref.ensures.value c.if-hold_a_write.false c.hold_a_write.ensures;
+      refusal = inl (subst (λ (es : List Edit). RefusesEdits means old.hash es old.editor c.in-Err.error c.write_edits.new.editor) c.deref-2.ensures.value (c.in-Err.ensures {u = tt}).refusal);
+      rest = refl;
+    }) in
+    record { imported = tt; refused = refused; adds = refused_adds means laws old new c.args.step.now c.in-Err.error refused; files = tt; bases = tt }
+
+pub returns-in-Err-kept : goal.returns-in-Err-kept
+returns-in-Err-kept g c =
+    let means = meaning g.S.Store.objects g.S.Store.may_fail in
+    let laws : OfStores = record {
+      trees_of = c.every_store_names_trees.ensures;
+      put_in = record { there = c.an_object_is_put_in.ensures.there; elsewhere = c.an_object_is_put_in.ensures.elsewhere; same_or_not = c.ids_are_the_same_or_not.ensures };
+    } in
+    let old = c.args.self.now in
+    let new : Importer g.row.S.Denot = record old { editor = c.keep_commit_of-kept.new.editor; failed = true } in
+    let refused = refuses_step means old new c.args.step.now c.in-Err-kept.error (record {
+      ready = c.if-self.false;
+      no_write = free_of c.args.step.now.edits.items c.deref.result.now c.hold_a_write.result c.deref.ensures.value c.if-hold_a_write.false c.hold_a_write.ensures;
+      refusal = inr (record {
+        it = c.in-Ok.written;
+        between = c.write_edits.new.editor;
+        trees = subst (λ (es : List Edit). IsWriteBehind means old.hash old.editor es (reply.Written c.in-Ok.written) c.write_edits.new.editor) c.deref-2.ensures.value (c.in-Ok.ensures {u = tt}).written;
+        refusal = (c.in-Err-kept.ensures {u = tt}).refusal;
+      });
+      rest = refl;
+    }) in
+    record { imported = tt; refused = refused; adds = refused_adds means laws old new c.args.step.now c.in-Err-kept.error refused; files = tt; bases = tt }
+
+pub returns : goal.returns
+returns g c =
+    let means = meaning g.S.Store.objects g.S.Store.may_fail in
+    let laws : OfStores = record {
+      trees_of = c.every_store_names_trees.ensures;
+      put_in = record { there = c.an_object_is_put_in.ensures.there; elsewhere = c.an_object_is_put_in.ensures.elsewhere; same_or_not = c.ids_are_the_same_or_not.ensures };
+    } in
+    let old = c.args.self.now in
+    let new : Importer g.row.S.Denot = record old { editor = c.keep_commit_of-kept.new.editor; last = Some c.in-Ok-kept.commit; failed = false } in
+    let it : Imported = record { commit = c.in-Ok-kept.commit; written = c.in-Ok.written } in
+    let one : IsImported means old c.args.step.now it new = record {
+      ready = c.if-self.false;
+      no_write = free_of c.args.step.now.edits.items c.deref.result.now c.hold_a_write.result c.deref.ensures.value c.if-hold_a_write.false c.hold_a_write.ensures;
+      between = c.write_edits.new.editor;
+      trees = subst (λ (es : List Edit). IsWriteBehind means old.hash old.editor es (reply.Written c.in-Ok.written) c.write_edits.new.editor) c.deref-2.ensures.value (c.in-Ok.ensures {u = tt}).written;
+      root = (c.in-Ok.ensures {u = tt}).root;
+      commit = (c.in-Ok-kept.ensures {u = tt}).kept;
+      rest = ap (λ (b : Bool). record old { editor = c.keep_commit_of-kept.new.editor; last = Some c.in-Ok-kept.commit; failed = b }) (sym c.if-self.false);
+    } in
+    record {
+      imported = one;
+      refused = tt;
+      adds = step_adds means laws old c.args.step.now it new one;
+      files = λ T n agrees. step_files means laws old c.args.step.now it new one T n agrees;
+      bases = step_bases means laws old c.args.step.now it new one;
+    }

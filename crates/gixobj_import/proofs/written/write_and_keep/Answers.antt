@@ -1,0 +1,29 @@
+use Rattle.std.proofs.Common.{refl}
+use Rattle.gixobj_import.specs.Edited.{meaning}
+use Rattle.gixobj_import.proofs.Digests.{hex_of_id, root_kind}
+use Rattle.gixobj_import.proofs.Kept.{kept_all, not_kept}
+use Rattle.gixobj_import.proofs.written.write_and_keep.Goals as goal
+
+pub returns-in-Ok-keep_all-clause-written : goal.returns-in-Ok-keep_all-clause-written
+returns-in-Ok-keep_all-clause-written g c =
+    let means = meaning g.S.Store.objects g.S.Store.may_fail in
+    let kept = c.in-Ok-keep_all.ensures {u = tt} in
+    kept_all means c.args.hash c.args.editor.now c.write_by_digests.new.editor _ c.store_mut.result.now c.keep_all.new.store c.in-Ok.written c.deref.result.now (c.in-Ok.ensures {u = tt}).written
+    c.store_mut.ensures.value c.deref.ensures.value refl c.keep_all.ensures.may_fail kept.kept kept.have_texts
+
+pub returns-in-Ok-keep_all-clause-root : goal.returns-in-Ok-keep_all-clause-root
+returns-in-Ok-keep_all-clause-root g c =
+    hex_of_id c.args.hash c.in-Ok.written.id c.hex_reads_back.ensures.read c.hex_reads_back.ensures.same_id c.is_an_id.ensures
+    (root_kind c.args.hash c.args.editor.now c.write_by_digests.new.editor c.in-Ok.written (c.in-Ok.ensures {u = tt}).written)
+
+pub returns-in-Err-keep_all-clause-refusal : goal.returns-in-Err-keep_all-clause-refusal
+returns-in-Err-keep_all-clause-refusal g c =
+    let means = meaning g.S.Store.objects g.S.Store.may_fail in (
+      c.in-Ok.written,
+      c.in-Err-keep_all._count,
+      not_kept means c.args.hash c.args.editor.now c.write_by_digests.new.editor _ c.store_mut.result.now c.keep_all.new.store c.in-Ok.written c.deref.result.now (c.in-Ok.ensures {u = tt}).written
+          c.store_mut.ensures.value c.deref.ensures.value refl c.keep_all.ensures.may_fail c.in-Err-keep_all._count c.in-Err-keep_all.error (c.in-Err-keep_all.ensures {u = tt}).stopped,
+    )
+
+pub returns-in-Err-clause-refusal : goal.returns-in-Err-clause-refusal
+returns-in-Err-clause-refusal g c = record { stopped = (c.in-Err.ensures {u = tt}).stopped; unchanged = (c.in-Err.ensures {u = tt}).unchanged }

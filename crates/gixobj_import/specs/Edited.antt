@@ -1,0 +1,73 @@
+-- Edits of a step, which come through one after the other, and the write behind them.
+use Rattle.std.specs.Prelude.{◌≡◌, ℕ, Bool, List, [], ◌∷◌, Err, Ok, Some, slice_get, take, ⊤}
+use Rattle.gixobj_commands.specs.declared.command.Edit.{Edit}
+use Rattle.gixobj_commands.specs.declared.command.Edit.TheVariants as edit
+use Rattle.gixobj_data.specs.Stores.{Objects}
+use Rattle.gixobj_directories.specs.Calls.{names_of}
+use Rattle.gixobj_editor.specs.declared.editor.error.Error.{Error}
+use Rattle.gixobj_fields.specs.declared.encode.Error as encode
+use Rattle.gixobj_fields.specs.declared.encode.Error.TheVariants.{Writer}
+use Rattle.gixobj_files.specs.History.{Step, remove, upsert}
+use Rattle.gixobj_files.specs.State.{State}
+use Rattle.gixobj_ids.specs.Hash.{id_of}
+use Rattle.gixobj_ids.specs.declared.hash.kind.Kind as hash
+use Rattle.gixobj_ids.specs.declared.hash.object_id.ObjectId.{ObjectId}
+use Rattle.gixobj_ids.specs.declared.kind.Kind.TheVariants.{Tree}
+use Rattle.gixobj_keeping.specs.Keeping.{HasNoText, HasText}
+use Rattle.gixobj_runs.specs.Commands.{at_root}
+use Rattle.gixobj_runs.specs.Replies.{Answers, IsEditReply, Meaning}
+use Rattle.gixobj_runs.specs.declared.reply.EditReply.{EditReply}
+use Rattle.gixobj_runs.specs.declared.reply.EditReply.TheVariants as reply
+use Rattle.gixobj_trees.specs.Mode.{mode_of_kind}
+use Rattle.gixobj_trees.specs.TreeText.{tree_text}
+
+-- what an edit does to the files; a write does nothing
+abbrev pub steps_of_edit : Edit → List Step
+steps_of_edit (edit.Upsert path kind id) = upsert (names_of path.items) (mode_of_kind kind) id ∷ []
+steps_of_edit (edit.Remove path) = remove (names_of path.items) ∷ []
+steps_of_edit (edit.RemoveLeaf path) = remove (names_of path.items) ∷ []
+steps_of_edit edit.Write = []
+
+-- the answer to a tree is the digest of its written bytes; or there was no memory for them, or it
+-- can't be written
+abbrev pub Digests : hash.Kind → Answers encode.Error
+Digests hash tree (Ok id) = HasText tree × (id ≡ id_of hash Tree (tree_text tree))
+Digests hash tree (Err (Writer cause)) = ⊤
+Digests hash tree (Err other) = HasNoText tree
+
+-- no tree is handed out
+abbrev pub NoAnswers : Answers encode.Error
+NoAnswers tree answer = ⊥
+
+-- what the objects of a store, and the ids for which its lookups may fail, are
+abbrev pub meaning : {S : Type 0} → (S → Objects) → (S → ObjectId → Bool) → Meaning S
+meaning objects may_fail = record { objects = objects; may_fail = may_fail }
+
+module _ {S : Type 0} (means : Meaning S) where
+  -- the edit may get this reply, as in a run
+  abbrev pub IsReplied : State S → Edit → EditReply encode.Error → State S → Type 0
+  IsReplied = IsEditReply means NoAnswers at_root
+
+  -- a write by digests, whose trees the store then keeps, may get this reply, as in a run
+  abbrev pub IsWriteReplied : hash.Kind → State S → EditReply encode.Error → State S → Type 0
+  IsWriteReplied hash old its_reply new = IsEditReply means (Digests hash) at_root old edit.Write its_reply new
+
+  -- the edits come through, one after the other
+  abbrev pub AreDone : State S → List Edit → State S → Type 0
+  AreDone old [] new = new ≡ old
+  AreDone old (it ∷ edits) new =
+      (between : State S) × IsReplied old it reply.Done between × AreDone between edits new
+
+  -- the edit of this number is refused, and those before it come through
+  pub record IsRefusedAt (old : State S) (edits : List Edit) (index : ℕ) (error : Error) (new : State S) : Type 0 where
+    pub refused : Edit
+    pub at : slice_get edits index ≡ Some refused
+    pub reached : State S
+    pub done : AreDone old (take index edits) reached
+    pub refusal : IsReplied reached refused (reply.Refused error) new
+
+  -- the edits come through, and the write behind them gets this reply
+  pub record IsWriteBehind (hash : hash.Kind) (old : State S) (edits : List Edit) (its_reply : EditReply encode.Error) (new : State S) : Type 0 where
+    pub edited : State S
+    pub done : AreDone old edits edited
+    pub write : IsWriteReplied hash edited its_reply new

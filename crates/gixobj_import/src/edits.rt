@@ -1,0 +1,50 @@
+//! The edits of a step.
+ghost use Rattle.std.specs.Prelude.{◌≢◌, ◌↔◌, Contains, IfErr, IsTrue, OnOk};
+ghost use Rattle.gixobj_import.specs.Edited.{AreDone, IsRefusedAt, IsReplied, meaning};
+ghost use Rattle.gixobj_runs.specs.Replies.{reply_to};
+
+use gixobj_commands::Edit;
+use gixobj_data::Find;
+use gixobj_editor::editor::{Editor, Error};
+
+/// Whether one of the edits is a write.
+pub(crate) fn hold_a_write(edits: &[Edit]) -> bool
+    ensures { IsTrue result ↔ Contains edits.now Edit.Write }
+{
+    edits.iter().any(|edit| matches!(edit, Edit::Write))
+}
+
+/// Does the edits in order, none of which may be a write. The first that is refused ends it, and is
+/// told with its number.
+pub(crate) fn do_edits<S: Find>(
+    editor: &mut Editor<S>,
+    edits: &[Edit],
+) -> Result<(), (usize, Error)>
+    requires no_write { ¬ Contains edits.now Edit.Write }
+    ensures done { OnOk result (AreDone (meaning S.objects S.may_fail)
+        editor.old edits.now editor.new) }
+    ensures refused { IfErr result (λ it. IsRefusedAt (meaning S.objects S.may_fail)
+        editor.old edits.now it.0 it.1 editor.new) }
+{
+    for (index, edit) in edits.iter().enumerate() {
+        match do_edit(editor, edit) {
+            Ok(()) => {}
+            Err(error) => return Err((index, error)),
+        }
+    }
+    Ok(())
+}
+
+/// Does an edit, which may not be a write.
+fn do_edit<S: Find>(editor: &mut Editor<S>, edit: &Edit) -> Result<(), Error>
+    requires { edit.now ≢ Edit.Write }
+    ensures { IsReplied (meaning S.objects S.may_fail)
+        editor.old edit.now (reply_to result) editor.new }
+{
+    match edit {
+        Edit::Upsert { path, kind, id } => editor.try_upsert(path, *kind, *id),
+        Edit::Remove { path } => editor.try_remove(path),
+        Edit::RemoveLeaf { path } => editor.try_remove_leaf(path),
+        Edit::Write => unreachable!(),
+    }
+}

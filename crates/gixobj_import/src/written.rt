@@ -1,0 +1,113 @@
+//! The write behind the edits of a step: each tree by the digest of its written bytes.
+ghost use Rattle.std.specs.Prelude.{◌≡◌, ◌∷◌, [], Contains, IfErr, IfOk, OnErr};
+ghost use Rattle.gixobj_directories.specs.Handing.{Stopped};
+ghost use Rattle.gixobj_editor.specs.Writes.{IsWritten};
+ghost use Rattle.gixobj_files.specs.HandingOut.{HandsOutSome};
+ghost use Rattle.gixobj_files.specs.State.{open_bases, open_dirs};
+ghost use Rattle.gixobj_ids.specs.Hash.{IsId};
+ghost use Rattle.gixobj_import.specs.Edited.{Digests, IsWriteBehind, IsWriteReplied, meaning};
+ghost use Rattle.gixobj_import.specs.Steps.{HaveHex, RefusesEdits, RefusesWrite};
+ghost use Rattle.gixobj_runs.specs.Replies.{Denies, Gives};
+ghost use Rattle.hex.specs.Hex.{IsBytes};
+
+use crate::edits::do_edits;
+use crate::import::ImportError;
+use gixobj_commands::Edit;
+use gixobj_editor::editor::{Editor, WriteError, Written};
+use gixobj_fields::{WriteTo, encode};
+use gixobj_ids::hash::{self, ObjectId};
+use gixobj_ids::laws::hex_reads_back;
+use gixobj_ids::{Kind, compute_hash};
+use gixobj_keeping::{Keep, keep_all};
+use gixobj_runs::EditReply;
+use gixobj_trees::Tree;
+use std::alloc::Global;
+
+/// Does the edits, none of which may be a write, writes the root by digests, and has the store keep
+/// the trees.
+pub(crate) fn write_edits<S: Keep>(
+    alloc: Global,
+    editor: &mut Editor<S>,
+    hash: hash::Kind,
+    edits: &[Edit],
+) -> Result<Written, ImportError>
+    requires no_write { ¬ Contains edits.now Edit.Write }
+    ensures written { IfOk result (λ it. IsWriteBehind (meaning S.objects S.may_fail)
+        hash editor.old edits.now (EditReply.Written it) editor.new) }
+    ensures root { IfOk result (λ it. HaveHex hash (it.id ∷ [])) }
+    ensures refusal { IfErr result (λ error. RefusesEdits (meaning S.objects S.may_fail)
+        hash edits.now editor.old error editor.new) }
+{
+    if let Err((index, error)) = do_edits(editor, edits) {
+        return Err(ImportError::Edit { index, error });
+    }
+    write_and_keep(alloc, editor, hash)
+}
+
+/// Writes the root, each tree by the digest of its written bytes, and has the store keep the trees.
+fn write_and_keep<S: Keep>(
+    alloc: Global,
+    editor: &mut Editor<S>,
+    hash: hash::Kind,
+) -> Result<Written, ImportError>
+    ensures written { IfOk result (λ it. IsWriteReplied (meaning S.objects S.may_fail)
+        hash editor.old (EditReply.Written it) editor.new) }
+    ensures root { IfOk result (λ it. HaveHex hash (it.id ∷ [])) }
+    ensures refusal { IfErr result (λ error. RefusesWrite (meaning S.objects S.may_fail)
+        hash editor.old error editor.new) }
+{
+    hex_reads_back();
+    let written = match write_by_digests(alloc, editor, hash) {
+        Ok(written) => written,
+        Err(error) => return Err(ImportError::Write(error)),
+    };
+    is_an_id(&written.id);
+    match keep_all(editor.store_mut(), &written.trees) {
+        Ok(()) => Ok(written),
+        Err((_count, error)) => Err(ImportError::NotKept(error)),
+    }
+}
+
+/// An id has as many bytes as its kind.
+pub(crate) fn is_an_id(id: &ObjectId)
+    ensures { IsId id.now }
+{
+    are_bytes(id.as_bytes());
+}
+
+/// What a slice holds are bytes.
+fn are_bytes(bytes: &[u8])
+    ensures { IsBytes bytes.now }
+{
+    let _length = bytes.len();
+}
+
+/// Writes the root, each tree by the digest of its written bytes.
+fn write_by_digests<S>(
+    alloc: Global,
+    editor: &mut Editor<S>,
+    hash: hash::Kind,
+) -> Result<Written, WriteError<encode::Error>>
+    ensures written { IfOk result (λ it.
+        IsWritten (Gives (Digests hash)) tt editor.old it editor.new tt) }
+    ensures stopped { IfErr result (λ error. Stopped (Gives (Digests hash)) (Denies (Digests hash))
+        (HandsOutSome (open_dirs editor.old) (open_bases editor.old)) tt tt error) }
+    ensures unchanged { OnErr result (editor.new ≡ editor.old) }
+{
+    let digest = |tree: &Tree|
+        ensures { Digests hash tree.now result }
+    { digest_of(alloc, tree, hash) };
+    match editor.write(digest) {
+        Ok(written) => Ok(written),
+        Err(error) => Err(error),
+    }
+}
+
+/// The digest of the tree as it is written.
+fn digest_of(alloc: Global, tree: &Tree, hash: hash::Kind) -> Result<ObjectId, encode::Error>
+    ensures { Digests hash tree.now result }
+{
+    let mut text = Vec::new(alloc);
+    tree.write_to_vec(alloc, &mut text)?;
+    Ok(compute_hash(hash, Kind::Tree, &text))
+}

@@ -1,0 +1,71 @@
+//! The three steps, where a growth is refused on the way: the steps before it are imported as ever, and a new importer
+//! imports all of them.
+
+use crate::samples::{COMMITS, are_commits, kept_commit, number, plain_steps, step};
+use gixobj_editor::editor::{Error, WriteError};
+use gixobj_fields::encode;
+use gixobj_ids::hash::Kind as HashKind;
+use gixobj_import::{ImportError, Importer, Step, Stopped, import_all};
+use gixobj_keeping::KeepError;
+use gixobj_store::Memory;
+use std::alloc::Global;
+use std::test::Fail;
+
+/// Whether it is told that memory was wanting, where it may be.
+fn is_for_memory(error: &ImportError) -> bool {
+    match error {
+        ImportError::Edit { error, .. } => matches!(error, Error::OutOfMemory),
+        ImportError::Write(WriteError::OutOfMemory) => true,
+        ImportError::Write(WriteError::Out(cause)) => matches!(cause, encode::Error::Writer(_)),
+        ImportError::NotKept(cause) => matches!(cause, KeepError::OutOfMemory),
+        ImportError::OutOfMemory => true,
+        ImportError::WriteInStep | ImportError::Commit(_) | ImportError::Failed => false,
+    }
+}
+
+/// Whether an import stopped for want of memory alone, behind commits that are as ever.
+fn is_cut_off(stopped: &Stopped) -> bool {
+    let before = stopped.done.len();
+    before <= COMMITS.len()
+        && are_commits(&stopped.done, COMMITS.split_at(before).0)
+        && is_for_memory(&stopped.error)
+}
+
+/// Whether a new importer imports all of the steps.
+fn imports_all(alloc: Global, steps: &[Step]) -> bool {
+    let mut importer = Importer::new(alloc, Memory::new(alloc), HashKind::Sha1);
+    match import_all(&mut importer, steps) {
+        Ok(imported) => are_commits(&imported, &COMMITS),
+        Err(_) => false,
+    }
+}
+
+#[test]
+fn three_steps_whatever_is_refused(rt: HostRuntime) -> Result<(), Fail> {
+    let alloc = rt.alloc();
+    let steps = match plain_steps(alloc) {
+        Ok(steps) => steps,
+        Err(_) => plain_steps(alloc)?,
+    };
+    let nothing = match step(alloc, Vec::new(alloc)) {
+        Ok(nothing) => nothing,
+        Err(_) => step(alloc, Vec::new(alloc))?,
+    };
+    let mut importer = Importer::new(alloc, Memory::new(alloc), HashKind::Sha1);
+    match import_all(&mut importer, &steps) {
+        Ok(imported) => assert!(rt; are_commits(&imported, &COMMITS)),
+        Err(stopped) => {
+            assert!(rt; is_cut_off(&stopped));
+            // No growth is refused any more.
+            let behind = importer.step(&nothing);
+            let failed = matches!(&behind, Err(error) if number(error) == 7);
+            // Where the list had no memory nothing was done, and the importer goes on.
+            assert!(rt; failed || (behind.is_ok() && stopped.done.is_empty()));
+            for it in &stopped.done {
+                assert!(rt; kept_commit(alloc, importer.store_mut(), it.commit).is_some());
+            }
+            assert!(rt; imports_all(alloc, &steps));
+        }
+    }
+    Ok(())
+}

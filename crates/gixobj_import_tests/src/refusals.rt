@@ -1,0 +1,135 @@
+//! Every refusal of a step, and what comes behind it.
+
+use crate::samples::{COMMITS, are_commits, number, path_of, plain_steps, step, step_by, upsert};
+use gixobj_commands::Edit;
+use gixobj_editor::editor::Error;
+use gixobj_ids::hash::{Kind as HashKind, ObjectId};
+use gixobj_import::{ImportError, Importer, Step, Stopped, import_all};
+use gixobj_store::Memory;
+use gixobj_trees::tree::EntryKind;
+use std::alloc::{AllocError, Global};
+use std::test::Fail;
+
+const FILE: ObjectId = ObjectId::Sha1([1; 20]);
+
+/// Where the three steps and this one, and then the third again, come to a stop.
+fn stopped_by(alloc: Global, it: Step) -> Result<Option<Stopped>, AllocError> {
+    let mut steps = plain_steps(alloc)?;
+    steps.push(it)?;
+    let mut importer = Importer::new(alloc, Memory::new(alloc), HashKind::Sha1);
+    Ok(import_all(&mut importer, &steps).err())
+}
+
+/// The number of the refusal of this step behind the three, which are imported.
+fn refused(alloc: Global, edits: Vec<Edit>) -> Result<Option<u8>, AllocError> {
+    let stopped = stopped_by(alloc, step(alloc, edits)?)?;
+    Ok(stopped.and_then(|it| are_commits(&it.done, &COMMITS).then_some(number(&it.error))))
+}
+
+#[test]
+fn a_write_in_a_step(rt: HostRuntime) -> Result<(), Fail> {
+    let alloc = rt.alloc();
+    let edits = vec![in alloc; upsert(alloc, "a", FILE)?, Edit::Write]?;
+    assert!(rt; refused(alloc, edits)? == Some(1));
+    Ok(())
+}
+
+#[test]
+fn nothing_changed_by_a_write_in_a_step(rt: HostRuntime) -> Result<(), Fail> {
+    let alloc = rt.alloc();
+    let mut importer = Importer::new(alloc, Memory::new(alloc), HashKind::Sha1);
+    let edits = vec![in alloc; upsert(alloc, "a", FILE)?, Edit::Write]?;
+    let first = importer.step(&step(alloc, edits)?);
+    assert!(rt; matches!(&first, Err(error) if number(error) == 1));
+    let imported = import_all(&mut importer, &plain_steps(alloc)?);
+    assert!(rt; matches!(&imported, Ok(imported) if are_commits(imported, &COMMITS)));
+    Ok(())
+}
+
+/// The number of the edit that was refused, of those of a step, and the number of its refusal.
+fn refused_edit(alloc: Global, edits: Vec<Edit>) -> Result<Option<(usize, u8)>, AllocError> {
+    let Some(stopped) = stopped_by(alloc, step(alloc, edits)?)? else {
+        return Ok(None);
+    };
+    let ImportError::Edit { index, error } = &stopped.error else {
+        return Ok(None);
+    };
+    let number = match error {
+        Error::EmptyPathComponent => 1,
+        Error::SlashInPathComponent => 2,
+        Error::FindExistingObject(_) => 3,
+        Error::CannotRemoveNonLeaf { .. } => 4,
+        Error::MalformedTree => 5,
+        Error::OutOfMemory => 6,
+    };
+    Ok(Some((*index, number)))
+}
+
+#[test]
+fn the_edit_of_this_number(rt: HostRuntime) -> Result<(), Fail> {
+    let alloc = rt.alloc();
+    let first = vec![in alloc; upsert(alloc, "a//b", FILE)?, upsert(alloc, "a", FILE)?]?;
+    assert!(rt; refused_edit(alloc, first)? == Some((0, 1)));
+    let path = path_of(alloc, "bak")?;
+    let leaf = vec![in alloc; upsert(alloc, "a", FILE)?, Edit::RemoveLeaf { path }]?;
+    assert!(rt; refused_edit(alloc, leaf)? == Some((1, 4)));
+    let submodule = Edit::Upsert {
+        path: path_of(alloc, "sub")?,
+        kind: EntryKind::Tree,
+        id: FILE,
+    };
+    let unknown = vec![in alloc;
+        submodule,
+        upsert(alloc, "a", FILE)?,
+        upsert(alloc, "sub/b", FILE)?,
+    ]?;
+    assert!(rt; refused_edit(alloc, unknown)? == Some((2, 3)));
+    Ok(())
+}
+
+#[test]
+fn a_name_with_a_zero_byte(rt: HostRuntime) -> Result<(), Fail> {
+    let alloc = rt.alloc();
+    let edits = vec![in alloc; upsert(alloc, "a\0b", FILE)?]?;
+    assert!(rt; refused(alloc, edits)? == Some(3));
+    Ok(())
+}
+
+#[test]
+fn an_author_that_no_commit_may_have(rt: HostRuntime) -> Result<(), Fail> {
+    let alloc = rt.alloc();
+    for author in ["A>", "<A", "A\nB"] {
+        let stopped = stopped_by(alloc, step_by(alloc, author, Vec::new(alloc))?)?;
+        let told = stopped.is_some_and(|it| {
+            are_commits(&it.done, &COMMITS) && number(&it.error) == 5
+        });
+        assert!(rt; told, "{author}");
+    }
+    Ok(())
+}
+
+#[test]
+fn a_failed_importer(rt: HostRuntime) -> Result<(), Fail> {
+    let alloc = rt.alloc();
+    let mut importer = Importer::new(alloc, Memory::new(alloc), HashKind::Sha1);
+    let edits = vec![in alloc; upsert(alloc, "", FILE)?]?;
+    let first = importer.step(&step(alloc, edits)?);
+    assert!(rt; matches!(&first, Err(error) if number(error) == 2));
+    // Also a step that holds a write, and a list of steps.
+    let write = vec![in alloc; Edit::Write]?;
+    let second = importer.step(&step(alloc, write)?);
+    assert!(rt; matches!(&second, Err(error) if number(error) == 7));
+    let stopped = import_all(&mut importer, &plain_steps(alloc)?).err();
+    let told = stopped.is_some_and(|it| it.done.is_empty() && number(&it.error) == 7);
+    assert!(rt; told);
+    Ok(())
+}
+
+#[test]
+fn no_steps(rt: HostRuntime) -> Result<(), Fail> {
+    let alloc = rt.alloc();
+    let mut importer = Importer::new(alloc, Memory::new(alloc), HashKind::Sha1);
+    let imported = import_all(&mut importer, &[]);
+    assert!(rt; matches!(&imported, Ok(imported) if imported.is_empty()));
+    Ok(())
+}

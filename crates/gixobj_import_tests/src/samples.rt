@@ -1,0 +1,131 @@
+//! Steps, and what several tests ask of an import.
+
+use bstr::BString;
+use gixobj_actors::actor::Signature;
+use gixobj_actors::date::Time;
+use gixobj_commands::Edit;
+use gixobj_data::Find;
+use gixobj_ids::hash::ObjectId;
+use gixobj_ids::{Kind, compute_hash};
+use gixobj_import::{ImportError, Imported, Step};
+use gixobj_trees::tree::EntryKind;
+use std::alloc::{AllocError, Global};
+
+/// The id that the hex digits spell; of others the null id.
+pub(crate) fn id(hex: &str) -> ObjectId {
+    ObjectId::from_hex(hex.as_bytes()).unwrap_or(ObjectId::null(gixobj_ids::hash::Kind::Sha1))
+}
+
+/// The path of the names between slashes.
+pub(crate) fn path_of(alloc: Global, text: &str) -> Result<Vec<BString>, AllocError> {
+    let mut path = Vec::new(alloc);
+    for name in text.as_bytes().split(|byte| *byte == b'/') {
+        path.push(BString::from_slice(alloc, name)?)?;
+    }
+    Ok(path)
+}
+
+/// An edit that puts a blob in.
+pub(crate) fn upsert(alloc: Global, path: &str, id: ObjectId) -> Result<Edit, AllocError> {
+    Ok(Edit::Upsert {
+        path: path_of(alloc, path)?,
+        kind: EntryKind::Blob,
+        id,
+    })
+}
+
+/// An actor at the beginning of time.
+pub(crate) fn actor(alloc: Global, name: &str) -> Result<Signature, AllocError> {
+    Ok(Signature {
+        name: BString::from_slice(alloc, name.as_bytes())?,
+        email: BString::from_slice(alloc, b"a@b")?,
+        time: Time::default(),
+    })
+}
+
+/// A step of these edits by this author, committed by `A`, with the message `hi` and a newline.
+pub(crate) fn step_by(alloc: Global, author: &str, edits: Vec<Edit>) -> Result<Step, AllocError> {
+    Ok(Step {
+        edits,
+        author: actor(alloc, author)?,
+        committer: actor(alloc, "A")?,
+        message: BString::from_slice(alloc, b"hi\n")?,
+    })
+}
+
+/// A step of these edits by `A`.
+pub(crate) fn step(alloc: Global, edits: Vec<Edit>) -> Result<Step, AllocError> {
+    step_by(alloc, "A", edits)
+}
+
+/// The ids of three blobs.
+#[derive(Drop)]
+pub(crate) struct Blobs {
+    pub(crate) old: ObjectId,
+    pub(crate) new: ObjectId,
+    pub(crate) other: ObjectId,
+}
+
+/// A file; then another one, and a new version of it; then the first version in a directory.
+pub(crate) fn three_steps(alloc: Global, blobs: &Blobs) -> Result<Vec<Step>, AllocError> {
+    let first = vec![in alloc; upsert(alloc, "test.txt", blobs.old)?]?;
+    let second = vec![in alloc;
+        upsert(alloc, "new.txt", blobs.other)?,
+        upsert(alloc, "test.txt", blobs.new)?,
+    ]?;
+    let third = vec![in alloc; upsert(alloc, "bak/test.txt", blobs.old)?]?;
+    Ok(vec![in alloc;
+        step(alloc, first)?,
+        step(alloc, second)?,
+        step(alloc, third)?,
+    ]?)
+}
+
+/// The three steps with ids by SHA-1.
+pub(crate) fn plain_steps(alloc: Global) -> Result<Vec<Step>, AllocError> {
+    let blobs = Blobs {
+        old: id("83baae61804e65cc73a7201a7252750c76066a30"),
+        new: id("1f7a7a472abf3dd9643fd615f6da379c4acb3e3a"),
+        other: id("fa49b077972391ad58037050f2a75f74e3671e92"),
+    };
+    three_steps(alloc, &blobs)
+}
+
+/// What `git commit-tree` answers for the trees of the three steps: the commits.
+pub(crate) const COMMITS: [&str; 3] = [
+    "8101fb84348a61a9b06d3e3c905f1ff7a24b53d9",
+    "20167b493033505114eaa28805c52661bd76839e",
+    "fe539a6ab0adcb87272ce01296f0adc5e148a1d6",
+];
+
+/// The number of a refusal.
+pub(crate) fn number(error: &ImportError) -> u8 {
+    match error {
+        ImportError::WriteInStep => 1,
+        ImportError::Edit { .. } => 2,
+        ImportError::Write(_) => 3,
+        ImportError::NotKept(_) => 4,
+        ImportError::Commit(_) => 5,
+        ImportError::OutOfMemory => 6,
+        ImportError::Failed => 7,
+    }
+}
+
+/// The size of the commit that the store has under this id, whose digest it is. None for want of memory too.
+pub(crate) fn kept_commit<S: Find>(alloc: Global, store: &S, id: ObjectId) -> Option<usize> {
+    let mut buffer = Vec::new(alloc);
+    let Ok(Some(found)) = store.try_find(id.as_oid(), &mut buffer) else {
+        return None;
+    };
+    let digest = compute_hash(found.object_hash, found.kind, found.bytes);
+    (found.kind == Kind::Commit && digest == id).then_some(found.bytes.len())
+}
+
+/// Whether the first steps were imported as these commits.
+pub(crate) fn are_commits(imported: &[Imported], commits: &[&str]) -> bool {
+    imported.len() == commits.len()
+        && imported
+            .iter()
+            .zip(commits)
+            .all(|(it, hex)| it.commit == id(hex))
+}

@@ -1,0 +1,88 @@
+//! Three steps, a refused one and one behind it. The ids are those that `git hash-object`, `git mktree` and `git commit-tree`
+//! answer, in a repository of either object format.
+
+use crate::samples::{
+    Blobs, COMMITS, are_commits, id, kept_commit, number, plain_steps, step_by, three_steps,
+};
+use gixobj_ids::hash::Kind as HashKind;
+use gixobj_import::{Imported, Importer, import_all};
+use gixobj_store::Memory;
+use std::test::Fail;
+
+/// The trees, how many were handed out, and the size of the commit, of each step.
+const SHA1: [(&str, usize, usize); 3] = [
+    ("d8329fc1cc938780ffdd9f94e0d364e0ea74f579", 1, 99),
+    ("0155eb4229851634a0f03eb265b69f5a2d56f341", 1, 147),
+    ("3c4e9cd789d88d8d89c1073707c3585e41b0e614", 2, 147),
+];
+
+const SHA256: [(&str, usize, usize); 3] = [
+    (
+        "36704227b464fc81b5853b4e4d4e2aa15554712f915e8967f4220654d32afa46",
+        1,
+        123,
+    ),
+    (
+        "3175307f513a6708ea5f1f21a0762b064daa0f5d15b02b2d739b6ece20bccfaf",
+        1,
+        195,
+    ),
+    (
+        "951b6afd724a1cbaed50fab9dd174523471e0c951582cc5678940a7c5f66fd69",
+        2,
+        195,
+    ),
+];
+
+const COMMITS_256: [&str; 3] = [
+    "2e00c87cd217a620d0b8729ec62b6bccd7179db7bd44373b60d13dd00aa4badd",
+    "3c12ab5435312676e48baaf8d54c830853af0bd55ffa7187ba0c7fc775bb464e",
+    "053717575a828a7b6e1cdaaed7baa1e3d1552609f87e8e645014269041bcdc9e",
+];
+
+/// Whether the trees are these, and so many were handed out.
+fn are_trees(imported: &[Imported], rows: &[(&str, usize, usize)]) -> bool {
+    imported.iter().zip(rows).all(|(it, (tree, count, _))| {
+        it.written.id == id(tree) && it.written.trees.len() == *count
+    })
+}
+
+#[test]
+fn three_steps_and_two_refused(rt: HostRuntime) -> Result<(), Fail> {
+    let alloc = rt.alloc();
+    let mut importer = Importer::new(alloc, Memory::new(alloc), HashKind::Sha1);
+    let Ok(imported) = import_all(&mut importer, &plain_steps(alloc)?) else {
+        return Err(Fail::from("refused"));
+    };
+    assert!(rt; are_trees(&imported, &SHA1) && are_commits(&imported, &COMMITS));
+    let fourth = step_by(alloc, "A>", Vec::new(alloc))?;
+    let refused = importer.step(&fourth);
+    assert!(rt; matches!(&refused, Err(error) if number(error) == 5));
+    let fifth = step_by(alloc, "A", Vec::new(alloc))?;
+    let failed = importer.step(&fifth);
+    assert!(rt; matches!(&failed, Err(error) if number(error) == 7));
+    for (it, (_, _, size)) in imported.iter().zip(&SHA1) {
+        assert!(rt; kept_commit(alloc, importer.store_mut(), it.commit) == Some(*size));
+    }
+    Ok(())
+}
+
+#[test]
+fn three_steps_by_sha256(rt: HostRuntime) -> Result<(), Fail> {
+    let alloc = rt.alloc();
+    let blobs = Blobs {
+        old: id("58a67ed1c161a4e89a110968310fe31e39920ef68d4c7c7e0d6695797533f50d"),
+        new: id("bd965fae20eb0dd136c5fb90b7c99ea1863ab46bb9a2647be049f38751749e61"),
+        other: id("6d5fd291bb0f67444e99ab492f1bf1fcdf5dca09dab24cf331e05111b4cfc1a3"),
+    };
+    let mut importer = Importer::new(alloc, Memory::new(alloc), HashKind::Sha256);
+    let steps = three_steps(alloc, &blobs)?;
+    let Ok(imported) = import_all(&mut importer, &steps) else {
+        return Err(Fail::from("refused"));
+    };
+    assert!(rt; are_trees(&imported, &SHA256) && are_commits(&imported, &COMMITS_256));
+    for (it, (_, _, size)) in imported.iter().zip(&SHA256) {
+        assert!(rt; kept_commit(alloc, importer.store_mut(), it.commit) == Some(*size));
+    }
+    Ok(())
+}

@@ -1,0 +1,59 @@
+//! Each call to keep a tree or a commit refused in turn.
+
+use crate::failing::Failing;
+use crate::samples::{COMMITS, are_commits, kept_commit, number, plain_steps, step};
+use gixobj_ids::hash::Kind as HashKind;
+use gixobj_import::{Importer, import_all};
+use std::alloc::Global;
+use std::test::Fail;
+
+/// What is told where the call at this place is refused: how many steps were imported before, and the calls made, with those
+/// to keep a commit among them. The three steps keep one tree and a commit, again, and two trees and a commit.
+const ROWS: [(u64, usize, (u64, u64)); 7] = [
+    (1, 0, (1, 0)),
+    (2, 0, (2, 1)),
+    (3, 1, (3, 1)),
+    (4, 1, (4, 2)),
+    (5, 2, (5, 2)),
+    (6, 2, (6, 2)),
+    (7, 2, (7, 3)),
+];
+
+/// Whether an import stops so, and the importer refuses a step behind it.
+fn stops(alloc: Global, refused: u64, before: usize, counts: (u64, u64)) -> Result<bool, Fail> {
+    let mut importer = Importer::new(alloc, Failing::new(alloc, refused), HashKind::Sha1);
+    let Err(stopped) = import_all(&mut importer, &plain_steps(alloc)?) else {
+        return Ok(false);
+    };
+    let (commits, _) = COMMITS.split_at(before);
+    let told = number(&stopped.error) == 4 && are_commits(&stopped.done, commits);
+    let kept = importer.store_mut().counts() == counts;
+    let next = importer.step(&step(alloc, Vec::new(alloc))?);
+    let failed = matches!(&next, Err(error) if number(error) == 7);
+    let still = importer.store_mut().counts() == counts;
+    let all_there = stopped.done.iter().all(|it| kept_commit(
+        alloc,
+        importer.store_mut(),
+        it.commit,
+    ).is_some());
+    Ok(told && kept && failed && still && all_there)
+}
+
+#[test]
+fn each_keep_refused_in_turn(rt: HostRuntime) -> Result<(), Fail> {
+    let alloc = rt.alloc();
+    for (refused, before, counts) in &ROWS {
+        assert!(rt; stops(alloc, *refused, *before, *counts)?, "at {refused}");
+    }
+    Ok(())
+}
+
+#[test]
+fn no_keep_refused(rt: HostRuntime) -> Result<(), Fail> {
+    let alloc = rt.alloc();
+    let mut importer = Importer::new(alloc, Failing::new(alloc, 8), HashKind::Sha1);
+    let imported = import_all(&mut importer, &plain_steps(alloc)?);
+    assert!(rt; matches!(&imported, Ok(imported) if are_commits(imported, &COMMITS)));
+    assert!(rt; importer.store_mut().counts() == (7, 3));
+    Ok(())
+}
