@@ -1,5 +1,5 @@
 -- What a history comes to that was imported.
-use Rattle.std.specs.Prelude.{◌≡◌, ◌++◌, ◌∷◌, ◌+◌, ℕ, List, [], None, Option, length}
+use Rattle.std.specs.Prelude.{◌≡◌, ◌++◌, ◌∷◌, ℕ, List, [], None, Option, length}
 use Rattle.gixobj_base.specs.Hash.{id_of}
 use Rattle.gixobj_base.specs.ids.hash.kind.Kind as hash
 use Rattle.gixobj_base.specs.ids.hash.object_id.ObjectId.{ObjectId}
