@@ -24,6 +24,7 @@ const FILE: &[u8] = b"83baae61804e65cc73a7201a7252750c76066a30";
 const CASES: &[(Shape, u32)] = &[
     (Shape::Nested(3), 10_000),
     (Shape::Nested(100), 1_000),
+    (Shape::Nested(3), 100_000),
     (Shape::Wide, 1_000),
     (Shape::Wide, 5_000),
     (Shape::Wide, 20_000),

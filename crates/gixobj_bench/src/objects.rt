@@ -4,69 +4,23 @@ ghost use Rattle.gixobj_bench.specs.Parts.{AllOfParts};
 
 mod parts;
 
-use crate::clock::Each;
 use crate::corpus::texts_of;
 use crate::fault::Fault;
 use crate::rows::digesting::Digested;
 use crate::rows::looking::LookedUp;
+use crate::rows::messages::MessageRead;
 use crate::rows::owning::Owned;
 use crate::rows::reading::Whole;
+use crate::rows::subject::Subject;
 use crate::rows::telling::{CommitTold, TagTold, TreeTold};
 use crate::rows::writing::{SizeAsked, Written, WrittenToVec};
-use crate::rows::{Measured, Work, measure};
 use gixobj_base::Kind;
 use gixobj_codec::{Object, ObjectRef};
-use parts::{in_parts, own_parts, read_parts, sum_of_lengths};
-use std::io;
-use std::io::Write;
+use parts::{in_parts, length_of_messages, own_parts, read_parts, sum_of_lengths};
 use std::time::Clock;
 
 /// How many bytes there is room for before anything is written, so that what is measured takes no memory.
 const ROOM: usize = 65_536;
-
-/// What a row is about.
-#[derive(Clone, Copy)]
-struct Subject {
-    /// The word for the things.
-    word: &'static str,
-    /// How many rounds are timed.
-    rounds: u32,
-    /// How many things there are.
-    count: usize,
-    /// How many bytes they have.
-    bytes: u64,
-}
-
-impl Subject {
-    /// Measures the work, and prints a row.
-    fn row<R: Clock + Print + AllocGlobal, T, W: Work<T>>(
-        self,
-        rt: &R,
-        what: &str,
-        work: &mut W,
-        parts: &[Vec<T>],
-    ) -> Result<(), Fault>
-        requires { AllOfParts W.is_ready parts.now }
-    {
-        let Measured { nanos, sum } = measure(rt, self.rounds, work, parts)?;
-        let Subject {
-            word,
-            count,
-            bytes,
-            ..
-        } = self;
-        let each = Each {
-            nanos,
-            count: bytes,
-        };
-        let mut out = io::writer(rt);
-        writeln!(
-            out,
-            "{what} {word} objects {count} bytes {bytes} ns/byte {each} sum {sum}"
-        )?;
-        Ok(())
-    }
-}
 
 /// Measures all work on the objects of each kind.
 pub(crate) fn measure_all<R: Clock + Print + AllocGlobal>(
@@ -111,7 +65,8 @@ fn measure_kind<R: Clock + Print + AllocGlobal>(
     subject.row(rt, "hash", &mut Digested { kind }, &texts)?;
     match kind {
         Kind::Tree => subject.row(rt, "bisect", &mut LookedUp, &read),
-        Kind::Blob | Kind::Commit | Kind::Tag => Ok(()),
+        Kind::Commit => measure_messages(rt, subject, &read),
+        Kind::Blob | Kind::Tag => Ok(()),
     }
 }
 
@@ -147,6 +102,20 @@ fn measure_read<R: Clock + Print + AllocGlobal>(
     subject.row(rt, "write-back-vec", &mut WrittenToVec { alloc, out }, read)?;
     subject.row(rt, "size", &mut SizeAsked, read)?;
     subject.row(rt, "into-owned", &mut Owned { alloc }, read)
+}
+
+/// Measures the messages of commits, by their own bytes.
+fn measure_messages<R: Clock + Print + AllocGlobal>(
+    rt: &R,
+    subject: Subject,
+    commits: &[Vec<ObjectRef<'_>>],
+) -> Result<(), Fault> {
+    let alloc = rt.alloc();
+    let subject = Subject {
+        bytes: length_of_messages(commits),
+        ..subject
+    };
+    subject.row(rt, "message-trailers", &mut MessageRead { alloc }, commits)
 }
 
 /// Measures work on owned objects.

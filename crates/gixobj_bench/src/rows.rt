@@ -7,8 +7,10 @@ ghost use Rattle.gixobj_bench.specs.Parts.{AllOfParts};
 
 pub(crate) mod digesting;
 pub(crate) mod looking;
+pub(crate) mod messages;
 pub(crate) mod owning;
 pub(crate) mod reading;
+pub(crate) mod subject;
 pub(crate) mod telling;
 pub(crate) mod writing;
 

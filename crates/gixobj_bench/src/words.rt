@@ -14,6 +14,11 @@ pub(crate) enum Command {
         /// How often each piece of work is timed.
         rounds: u32,
     },
+    /// Trailers and messages of bodies that are made.
+    Bodies {
+        /// How often each is timed.
+        rounds: u32,
+    },
     /// Edits of trees.
     Editor {
         /// How often each is timed.
@@ -36,6 +41,9 @@ pub(crate) fn command_of_process<R: Env + AllocGlobal>(rt: &R) -> Result<Command
             let rounds = rounds_of(words.next())?;
             Command::Bench { file, rounds }
         }
+        "bodies" => Command::Bodies {
+            rounds: rounds_of(words.next())?,
+        },
         "editor" => Command::Editor {
             rounds: rounds_of(words.next())?,
         },

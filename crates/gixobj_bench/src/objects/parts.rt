@@ -19,6 +19,26 @@ pub(super) fn sum_of_lengths(texts: &[&[u8]]) -> u64 {
     sum
 }
 
+/// The sum of the lengths of the messages of commits.
+pub(super) fn length_of_messages(parts: &[Vec<ObjectRef<'_>>]) -> u64 {
+    let mut sum = 0u64;
+    for part in parts {
+        sum = sum.saturating_add(length_of_part(part));
+    }
+    sum
+}
+
+/// The sum of the lengths of the messages of a part.
+fn length_of_part(part: &[ObjectRef<'_>]) -> u64 {
+    let mut sum = 0u64;
+    for object in part {
+        if let Some(commit) = object.as_commit() {
+            sum = sum.saturating_add(commit.message.as_bytes().len() as u64);
+        }
+    }
+    sum
+}
+
 /// The texts in parts.
 pub(super) fn in_parts<'a>(
     alloc: Global,
