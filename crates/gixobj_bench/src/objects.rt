@@ -1,5 +1,5 @@
 //! Rows over the objects of a file.
-ghost use Rattle.gixobj_object_readers.specs.BorrowedObjects.{HasObjectIds, IsReadyToWrite};
+ghost use Rattle.gixobj_codec.specs.BorrowedObjects.{HasObjectIds, IsReadyToWrite};
 ghost use Rattle.gixobj_bench.specs.Parts.{AllOfParts};
 
 mod parts;

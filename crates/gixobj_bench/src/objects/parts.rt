@@ -1,6 +1,6 @@
 //! Texts and objects, in parts.
 ghost use Rattle.std.specs.Prelude.{All, IfOk};
-ghost use Rattle.gixobj_object_readers.specs.BorrowedObjects.{HasObjectIds, IsReadyToWrite};
+ghost use Rattle.gixobj_codec.specs.BorrowedObjects.{HasObjectIds, IsReadyToWrite};
 ghost use Rattle.gixobj_bench.specs.Parts.{AllOfParts};
 
 use crate::fault::Fault;

@@ -14,7 +14,7 @@ pub(crate) struct Owned {
 }
 
 impl<'a> Work<ObjectRef<'a>> for Owned {
-    ghost use Rattle.gixobj_object_readers.specs.BorrowedObjects.{HasObjectIds};
+    ghost use Rattle.gixobj_codec.specs.BorrowedObjects.{HasObjectIds};
 
     ghost is_ready = { HasObjectIds };
 

@@ -1,5 +1,5 @@
 use Rattle.std.specs.Prelude.{All}
-use Rattle.gixobj_object_readers.specs.BorrowedObjects.{HasObjectIds, IsReadyToWrite}
+use Rattle.gixobj_codec.specs.BorrowedObjects.{HasObjectIds, IsReadyToWrite}
 use Rattle.gixobj_bench.proofs.objects.parts.read_part.Given as goal
 
 -- the objects read so far have ids, and may be written

@@ -1,4 +1,4 @@
-use Rattle.gixobj_object_readers.specs.BorrowedObjects.{HasObjectIds, IsReadyToWrite}
+use Rattle.gixobj_codec.specs.BorrowedObjects.{HasObjectIds, IsReadyToWrite}
 use Rattle.gixobj_bench.specs.Parts.{AllOfParts}
 use Rattle.gixobj_bench.proofs.objects.parts.read_parts.Given as goal
 
