@@ -16,6 +16,7 @@ pub(crate) mod writing;
 
 use crate::clock::nanos_since;
 use crate::fault::Fault;
+use std::alloc::Global;
 use std::time::{Clock, Instant};
 
 /// How many things a part has at most.
@@ -64,28 +65,50 @@ pub(crate) fn measure<R: Clock + AllocGlobal, T, W: Work<T>>(
 ) -> Result<Measured, Fault>
     requires { AllOfParts W.is_ready parts.now }
 {
-    let mut least = Vec::new(rt.alloc());
+    let mut least = warm_up(rt.alloc(), work, parts)?;
     let mut sum = 0u64;
+    for _ in 0..rounds {
+        sum = sum.wrapping_add(timed_round(rt, work, parts, &mut least)?);
+    }
+    let nanos = total(least.as_slice());
+    Ok(Measured { nanos, sum })
+}
+
+/// Does the work on each thing of each part, untimed, and gives the greatest time for each part.
+fn warm_up<T, W: Work<T>>(alloc: Global, work: &mut W, parts: &[Vec<T>]) -> Result<Vec<u64>, Fault>
+    requires { AllOfParts W.is_ready parts.now }
+{
+    let mut least = Vec::new(alloc);
     for part in parts {
         let Some(_) = sum_of(work, part) else {
             return Err(Fault::Refused);
         };
         least.push(u64::MAX)?;
     }
-    for _ in 0..rounds {
-        for (at, part) in parts.iter().enumerate() {
-            let start = Instant::now(rt)?;
-            let done = sum_of(work, part);
-            let nanos = nanos_since(rt, start)?;
-            let Some(done) = done else {
-                return Err(Fault::Refused);
-            };
-            sum = sum.wrapping_add(done);
-            keep_least(&mut least, at, nanos);
-        }
+    Ok(least)
+}
+
+/// Does the work on each thing of each part, keeps the lesser time of each part, and gives the sum of the numbers.
+fn timed_round<R: Clock, T, W: Work<T>>(
+    rt: &R,
+    work: &mut W,
+    parts: &[Vec<T>],
+    least: &mut Vec<u64>,
+) -> Result<u64, Fault>
+    requires { AllOfParts W.is_ready parts.now }
+{
+    let mut sum = 0u64;
+    for (at, part) in parts.iter().enumerate() {
+        let start = Instant::now(rt)?;
+        let done = sum_of(work, part);
+        let nanos = nanos_since(rt, start)?;
+        let Some(done) = done else {
+            return Err(Fault::Refused);
+        };
+        sum = sum.wrapping_add(done);
+        keep_least(least, at, nanos);
     }
-    let nanos = total(least.as_slice());
-    Ok(Measured { nanos, sum })
+    Ok(sum)
 }
 
 /// Keeps the lesser of two times at a place.
