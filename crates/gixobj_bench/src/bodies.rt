@@ -1,6 +1,5 @@
 //! Rows over bodies of messages that are made, each in three lengths: where reading takes time that grows with the
 //! length alone, the time a byte stays.
-ghost use Rattle.gixobj_bench.specs.Parts.{AllOfParts};
 
 use crate::fault::Fault;
 use crate::rows::messages::{BlocksRead, TrailersRead};
