@@ -56,7 +56,8 @@ fn sum_of<T, W: Work<T>>(work: &mut W, part: &[T]) -> Option<u64>
     Some(sum)
 }
 
-/// Does the work on each thing of each part once untimed, and then for this many rounds. `Refused` where a call refuses.
+/// Does the work on each thing of each part once untimed, and then for this many rounds. `Refused` where a call
+/// refuses.
 pub(crate) fn measure<R: Clock + AllocGlobal, T, W: Work<T>>(
     rt: &R,
     rounds: u32,
