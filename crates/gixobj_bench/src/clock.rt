@@ -1,0 +1,28 @@
+//! Times.
+
+use std::time::{Clock, Instant};
+use std::{fmt, io};
+
+/// How many nanoseconds have passed since then.
+pub(crate) fn nanos_since(clock: &impl Clock, start: Instant) -> io::Result<u64> {
+    let nanos = start.elapsed(clock)?.as_nanos();
+    Ok(u64::try_from(nanos).unwrap_or(u64::MAX))
+}
+
+/// A time divided by a count, as it is printed: with four digits behind the point.
+#[derive(Clone, Copy)]
+pub(crate) struct Each {
+    /// The time, in nanoseconds.
+    pub(crate) nanos: u64,
+    /// How many it is divided by; none count as one.
+    pub(crate) count: u64,
+}
+
+impl fmt::Display for Each {
+    fn fmt<W: fmt::Write>(&self, f: &mut fmt::Formatter<W>) -> fmt::Result {
+        let scaled = self.nanos.saturating_mul(10_000) / self.count.max(1);
+        let whole = scaled / 10_000;
+        let behind = scaled % 10_000;
+        write!(f, "{whole}.{behind:04}")
+    }
+}

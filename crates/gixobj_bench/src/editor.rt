@@ -1,0 +1,132 @@
+//! Rows of the editor: files put into an editor of an empty tree, and its trees written.
+
+mod paths;
+
+use crate::clock::{Each, nanos_since};
+use crate::fault::Fault;
+use bstr::BString;
+use gixobj_base::hash::Kind::Sha1;
+use gixobj_base::hash::ObjectId;
+use gixobj_base::tree::EntryKind;
+use gixobj_base::{Kind, Tree, WriteTo, compute_hash, encode};
+use gixobj_editor::editor::Editor;
+use gixobj_lookups::find::Never;
+use paths::{Shape, paths_of};
+use std::alloc::Global;
+use std::io;
+use std::io::Write;
+use std::time::{Clock, Instant};
+
+/// The id of each file.
+const FILE: &[u8] = b"83baae61804e65cc73a7201a7252750c76066a30";
+
+/// What is measured: where the files lie, and how many there are.
+const CASES: &[(Shape, u32)] = &[
+    (Shape::Nested(3), 10_000),
+    (Shape::Nested(100), 1_000),
+    (Shape::Nested(3), 100_000),
+    (Shape::Wide, 1_000),
+    (Shape::Wide, 5_000),
+    (Shape::Wide, 20_000),
+    (Shape::Alone, 5_000),
+    (Shape::Alone, 10_000),
+    (Shape::Alone, 20_000),
+];
+
+/// What came of a round.
+#[derive(Clone, Copy)]
+struct Round {
+    /// How long the edits took, in nanoseconds.
+    upserts: u64,
+    /// How long the write took.
+    write: u64,
+    /// How many trees were handed out.
+    trees: usize,
+    /// The id of the root.
+    root: ObjectId,
+}
+
+/// The id of a tree: that of its bytes.
+fn id_of(alloc: Global, tree: &Tree) -> Result<ObjectId, encode::Error> {
+    let mut bytes = Vec::new(alloc);
+    tree.write_to_vec(alloc, &mut bytes)?;
+    Ok(compute_hash(Sha1, Kind::Tree, &bytes))
+}
+
+/// Measures all cases.
+pub(crate) fn measure_all<R: Clock + Print + AllocGlobal>(
+    rt: &R,
+    rounds: u32,
+) -> Result<(), Fault> {
+    for (shape, files) in CASES {
+        measure_case(rt, rounds, *shape, *files)?;
+    }
+    Ok(())
+}
+
+/// Measures a case, and prints its two rows: the least time of the edits, and of the write.
+fn measure_case<R: Clock + Print + AllocGlobal>(
+    rt: &R,
+    rounds: u32,
+    shape: Shape,
+    files: u32,
+) -> Result<(), Fault> {
+    let Some(id) = ObjectId::from_hex(FILE) else {
+        return Err(Fault::Refused);
+    };
+    let paths = paths_of(rt.alloc(), shape, files)?;
+    let mut least = measure_round(rt, &paths, id)?;
+    for _ in 1..rounds {
+        let round = measure_round(rt, &paths, id)?;
+        least.upserts = least.upserts.min(round.upserts);
+        least.write = least.write.min(round.write);
+    }
+    let Round { trees, root, .. } = least;
+    let count = u64::from(files);
+    let upserts = Each {
+        nanos: least.upserts,
+        count,
+    };
+    let write = Each {
+        nanos: least.write,
+        count,
+    };
+    let mut out = io::writer(rt);
+    writeln!(
+        out,
+        "upserts {shape} files {files} trees {trees} ns/file {upserts} root {root}"
+    )?;
+    writeln!(
+        out,
+        "write {shape} files {files} trees {trees} ns/file {write} root {root}"
+    )?;
+    Ok(())
+}
+
+/// Puts the files into a new editor, and writes.
+fn measure_round<R: Clock + AllocGlobal>(
+    rt: &R,
+    paths: &[Vec<BString>],
+    id: ObjectId,
+) -> Result<Round, Fault> {
+    let alloc = rt.alloc();
+    let mut editor = Editor::new(Tree::empty(alloc), Never, Sha1);
+    let start = Instant::now(rt)?;
+    for path in paths {
+        let Ok(()) = editor.try_upsert(path, EntryKind::Blob, id) else {
+            return Err(Fault::Refused);
+        };
+    }
+    let upserts = nanos_since(rt, start)?;
+    let start = Instant::now(rt)?;
+    let Ok(written) = editor.write(|tree: &Tree| id_of(alloc, tree)) else {
+        return Err(Fault::Refused);
+    };
+    let write = nanos_since(rt, start)?;
+    Ok(Round {
+        upserts,
+        write,
+        trees: written.trees.len(),
+        root: written.id,
+    })
+}

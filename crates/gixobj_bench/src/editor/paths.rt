@@ -1,0 +1,68 @@
+//! The paths of files that are put into an editor.
+
+use bstr::BString;
+use std::alloc::{AllocError, Global};
+use std::fmt;
+
+/// Where files lie.
+#[derive(Clone, Copy)]
+pub(super) enum Shape {
+    /// At this depth: each directory is `d` and a hex digit of the file's number, from the lowest one on, which
+    /// begin anew after eight.
+    Nested(u32),
+    /// All in the root.
+    Wide,
+    /// Each in a directory of its own, below the root.
+    Alone,
+}
+
+impl fmt::Display for Shape {
+    fn fmt<W: fmt::Write>(&self, f: &mut fmt::Formatter<W>) -> fmt::Result {
+        match self {
+            Shape::Nested(depth) => write!(f, "depth-{depth}"),
+            Shape::Wide => write!(f, "wide"),
+            Shape::Alone => write!(f, "one-each"),
+        }
+    }
+}
+
+/// The paths of this many files.
+pub(super) fn paths_of(
+    alloc: Global,
+    shape: Shape,
+    files: u32,
+) -> Result<Vec<Vec<BString>>, AllocError> {
+    let mut paths = Vec::new(alloc);
+    for number in 0..files {
+        let mut path = Vec::new(alloc);
+        put_directories(alloc, shape, number, &mut path)?;
+        let name = format!(in alloc; "f{number:08}")?;
+        path.push(BString::from_slice(alloc, name.as_str().as_bytes())?)?;
+        paths.push(path)?;
+    }
+    Ok(paths)
+}
+
+/// Puts the directories of a file behind a path.
+fn put_directories(
+    alloc: Global,
+    shape: Shape,
+    number: u32,
+    path: &mut Vec<BString>,
+) -> Result<(), AllocError> {
+    match shape {
+        Shape::Nested(depth) => {
+            for level in 0..depth {
+                let digit = (number >> (4 * (level % 8))) & 15;
+                let name = format!(in alloc; "d{digit:x}")?;
+                path.push(BString::from_slice(alloc, name.as_str().as_bytes())?)?;
+            }
+        }
+        Shape::Wide => {}
+        Shape::Alone => {
+            let name = format!(in alloc; "d{number:08}")?;
+            path.push(BString::from_slice(alloc, name.as_str().as_bytes())?)?;
+        }
+    }
+    Ok(())
+}

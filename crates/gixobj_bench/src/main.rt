@@ -1,0 +1,42 @@
+//! Measures the public calls. `gixobj_bench bench FILE ROUNDS` over the objects of a file, a row for each piece of
+//! work and each kind of object: read whole, told piece by piece, written, sized, made owned, digested, looked up, and
+//! the messages of commits. `gixobj_bench bodies ROUNDS` over bodies of messages that it makes, of up to a million
+//! lines. `gixobj_bench editor ROUNDS` over trees that it makes: files put in, and the trees written.
+#![tactic(auto)]
+
+mod bodies;
+mod clock;
+mod corpus;
+mod editor;
+mod fault;
+mod objects;
+mod rows;
+mod words;
+
+use fault::Fault;
+use std::fs;
+use std::io::Write;
+use std::process::ExitCode;
+use words::{Command, command_of_process};
+
+fn main(rt: HostRuntime) -> ExitCode {
+    match run(&rt) {
+        Ok(()) => ExitCode::SUCCESS,
+        Err(fault) => {
+            let _ = writeln!(rt.stderr(), "{fault}");
+            ExitCode::from(fault.status())
+        }
+    }
+}
+
+/// Does what the words ask for.
+fn run(rt: &HostRuntime) -> Result<(), Fault> {
+    match command_of_process(rt)? {
+        Command::Bench { file, rounds } => {
+            let bytes = fs::read(rt, file.as_str())?;
+            objects::measure_all(rt, rounds, bytes.as_slice())
+        }
+        Command::Bodies { rounds } => bodies::measure_all(rt, rounds),
+        Command::Editor { rounds } => editor::measure_all(rt, rounds),
+    }
+}

@@ -1,0 +1,74 @@
+//! Messages, their trailers and their blocks.
+
+use super::Work;
+use super::reading::sum_of_lengths;
+use gixobj_codec::ObjectRef;
+use gixobj_codec::commit::message::BodyRef;
+use gixobj_codec::commit::message::body::Trailers;
+use std::alloc::Global;
+
+/// Cuts the message of a commit into title and body, and reads its summary and its trailers.
+#[derive(Clone, Copy)]
+pub(crate) struct MessageRead {
+    /// The memory.
+    pub(crate) alloc: Global,
+}
+
+impl<'a> Work<ObjectRef<'a>> for MessageRead {
+    fn done(&mut self, object: &ObjectRef<'a>) -> Option<u64> {
+        let message = object.as_commit()?.message();
+        let summary = message.summary(self.alloc).ok()?;
+        let lengths = sum_of_lengths(&[message.title.as_bytes().len(), summary.as_slice().len()]);
+        let Some(body) = message.body() else {
+            return Some(lengths);
+        };
+        let trailers = weight_of_trailers(body.trailers(self.alloc))?;
+        Some(lengths.wrapping_add(trailers))
+    }
+}
+
+/// The lengths of the trailers' parts, none where one can't be read.
+fn weight_of_trailers(trailers: Trailers<'_>) -> Option<u64> {
+    let mut sum = 0u64;
+    for trailer in trailers {
+        let trailer = trailer.ok()?;
+        let lengths = sum_of_lengths(&[
+            trailer.token.as_bytes().len(),
+            trailer.value.as_slice().len(),
+        ]);
+        sum = sum.wrapping_add(lengths);
+    }
+    Some(sum)
+}
+
+/// Finds the block of trailers of a body, and reads its trailers.
+#[derive(Clone, Copy)]
+pub(crate) struct TrailersRead {
+    /// The memory.
+    pub(crate) alloc: Global,
+}
+
+impl<'a> Work<&'a [u8]> for TrailersRead {
+    fn done(&mut self, body: &&'a [u8]) -> Option<u64> {
+        weight_of_trailers(BodyRef::from_bytes(body).trailers(self.alloc))
+    }
+}
+
+/// Finds the block of trailers of a body, and reads its messages, each with the trailers that follow it.
+#[derive(Clone, Copy)]
+pub(crate) struct BlocksRead {
+    /// The memory.
+    pub(crate) alloc: Global,
+}
+
+impl<'a> Work<&'a [u8]> for BlocksRead {
+    fn done(&mut self, body: &&'a [u8]) -> Option<u64> {
+        let mut sum = 0u64;
+        for block in BodyRef::from_bytes(body).message_blocks() {
+            let trailers = weight_of_trailers(block.trailers(self.alloc))?;
+            let length = sum_of_lengths(&[block.message.as_bytes().len()]);
+            sum = sum.wrapping_add(length).wrapping_add(trailers);
+        }
+        Some(sum)
+    }
+}

@@ -1,0 +1,66 @@
+//! Objects, made owned.
+
+use super::Work;
+use super::reading::{first_byte, sum_of_lengths};
+use gixobj_base::Tree;
+use gixobj_codec::{Commit, Object, ObjectRef, Tag};
+use std::alloc::Global;
+
+/// Copies an object that was read.
+#[derive(Clone, Copy)]
+pub(crate) struct Owned {
+    /// The memory.
+    pub(crate) alloc: Global,
+}
+
+impl<'a> Work<ObjectRef<'a>> for Owned {
+    ghost use Rattle.gixobj_codec.specs.BorrowedObjects.{HasObjectIds};
+
+    ghost is_ready = { HasObjectIds };
+
+    fn done(&mut self, object: &ObjectRef<'a>) -> Option<u64> {
+        let own = object.to_owned(self.alloc).ok()?;
+        Some(weight(&own))
+    }
+}
+
+/// A number that depends on the copy.
+fn weight(object: &Object) -> u64 {
+    match object {
+        Object::Tree(tree) => weight_of_tree(tree),
+        Object::Blob(blob) => sum_of_lengths(&[blob.bytes.len()]).wrapping_add(first_byte(
+            blob.bytes.as_slice(),
+        )),
+        Object::Commit(commit) => weight_of_commit(commit),
+        Object::Tag(tag) => weight_of_tag(tag),
+    }
+}
+
+/// The number of entries, with the last one's name and id.
+fn weight_of_tree(tree: &Tree) -> u64 {
+    match tree.entries.last() {
+        Some(last) => sum_of_lengths(&[tree.entries.len(), last.filename.len()]).wrapping_add(
+            first_byte(last.oid.as_bytes()),
+        ),
+        None => 0,
+    }
+}
+
+/// A number that depends on a commit's parts.
+fn weight_of_commit(commit: &Commit) -> u64 {
+    sum_of_lengths(&[
+        commit.parents.len(),
+        commit.author.name.len(),
+        commit.committer.name.len(),
+        commit.message.len(),
+        commit.extra_headers.len(),
+    ])
+    .wrapping_add(first_byte(commit.tree.as_bytes()))
+}
+
+/// A number that depends on a tag's parts.
+fn weight_of_tag(tag: &Tag) -> u64 {
+    sum_of_lengths(&[tag.name.len(), tag.message.len()]).wrapping_add(first_byte(
+        tag.target.as_bytes(),
+    ))
+}
