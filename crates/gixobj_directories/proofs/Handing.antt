@@ -2,7 +2,8 @@
 use mathlib.Core.Bool.{true≢false}
 use Rattle.std.proofs.Common.{◌≡◌, ◌≢◌, ◌⊎◌, inl, inr, ⊎_elim, ◌∙◌, ◌≤◌, ◌<◌, ◌+◌, ℕ, suc, zero, max, min, Bool, true, false, cond, List, [], ◌∷◌, ◌++◌, Option, Some, None, length, get_or, drop, Ok, Err, Result, refl, sym, ap, subst, arith, append_assoc, append-nil, add-one, drop-cons}
 use Rattle.std.specs.Prelude.{◌==◌, ◌&&◌, IfErr, IsFalse}
-use Rattle.std.specs.List.{AllByRecursion, FoldsTo, position}
+use Rattle.std.specs.List.{AllByRecursion, FoldsTo}
+use Rattle.std.specs.Option.{option_copied}
 use Rattle.std.specs.Result.{IsErrAnd}
 use Rattle.std.proofs.lemmas.Bool.{eqb-true}
 use Rattle.std.proofs.lemmas.List.{drop_all}
@@ -14,17 +15,17 @@ use Rattle.gixobj_directories.specs.Calls.{IsCallableOnTrees, IsStorable}
 use Rattle.gixobj_files.specs.Editing.{same_name}
 use Rattle.gixobj_files.specs.Edits.{raised}
 use Rattle.gixobj_files.specs.Files.{Path, is_null}
-use Rattle.gixobj_directories.specs.Handing.{Stopped, Visits}
+use Rattle.gixobj_directories.specs.Handing.{Stopped, Visits, child_side}
 use Rattle.gixobj_ids.specs.declared.hash.object_id.ObjectId.TheVariants.{Sha1}
 use Rattle.gixobj_files.specs.HandingOut.{HandsOutSome, Leaves, Walks, emptied, end, entry_with, leaves, shut, unchanged, written}
 use Rattle.gixobj_files.specs.Tables.{Pair}
-use Rattle.gixobj_directories.specs.Nested.{Opened, base_side, bases_in, bases_of, dirs_of, in_part, parts}
+use Rattle.gixobj_directories.specs.Nested.{Level, Opened, at_side, bases_of, dirs_of}
 use Rattle.gixobj_directories.specs.declared.open.Child.{Child}
 use Rattle.gixobj_files.specs.Opening.{Dirs, in_dir}
 use Rattle.gixobj_directories.specs.declared.write.WriteError.{WriteError}
 use Rattle.gixobj_directories.specs.declared.write.WriteError.TheVariants as write
 use Rattle.gixobj_files.proofs.Sublists.{all_weaker}
-use Rattle.gixobj_directories.proofs.Levels.{called, found, found_by, not_found, tied, tied_name}
+use Rattle.gixobj_directories.proofs.Levels.{tied, tied_name}
 use Rattle.gixobj_directories.proofs.SameTrees.{same_or_other}
 
 -- so many by another count
@@ -218,19 +219,9 @@ pub err_weaker : {X E : Type 0} (r : Result X E) (P Q : E → Type 0) → IsErrA
 err_weaker (Ok x) P Q h f = absurd h
 err_weaker (Err error) P Q h f = f error h
 
--- what is open in the directory of an entry
-pub none_inside : (name own : List ℕ) (cs : List Child) → name ≡ own → None ≡ position (called name) cs → in_part own (parts cs) [] ≡ None
-none_inside name own cs same at = ap (λ n. in_part n (parts cs) []) (sym same) ∙ not_found name cs cs refl at []
-
-pub some_inside : (name own : List ℕ) (cs : List Child) (i : ℕ) (child : Child) → name ≡ own → Some i ≡ position (called name) cs → child ≡ get_or cs i child → dirs_of child.open ≡ in_part own (parts cs)
-some_inside name own cs i child same at is =
-    let there : in_part name (parts cs) ≡ dirs_of child.open = λ j path. found name cs cs i child refl at is path j in
-    sym there ∙ ap (λ n. in_part n (parts cs)) same
-
-pub some_based : (name own : List ℕ) (cs : List Child) (i : ℕ) (child : Child) → name ≡ own → Some i ≡ position (called name) cs → child ≡ get_or cs i child → bases_of child.open ≡ bases_in own (parts cs)
-some_based name own cs i child same at is =
-    let there : bases_in name (parts cs) ≡ bases_of child.open = λ j path. found_by base_side name cs cs i child refl at is path j in
-    sym there ∙ ap (λ n. bases_in n (parts cs)) same
+-- what is open in a directory that is given
+pub open_side : (side : Level → List EntryView) (given : Option (Bor Child)) (child : Bor Child) → given ≡ Some child → at_side side child.now.open ≡ child_side side (option_copied given)
+open_side side given child is = sym (ap (λ (o : Option (Bor Child)). child_side side (option_copied o)) is)
 
 -- one entry more
 module _ (dirs bases inside based : Dirs) (items : List EntryView) (i : ℕ) (e : EntryView) (ps inner : List Pair) (acc kept : List EntryView) (count saved : ℕ) (low : i < length items) (is : e ≡ get_or items i e)

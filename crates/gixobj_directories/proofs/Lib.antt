@@ -1,3 +1,4 @@
+pub mod Alongside
 pub mod BaseSteps
 pub mod Deciding
 pub mod Halves

@@ -14,7 +14,7 @@ use Rattle.gixobj_directories.specs.Calls.{names_of}
 use Rattle.gixobj_files.specs.Editing.{same_name, with_entry, without}
 use Rattle.gixobj_files.specs.Edits.{assured_dirs, entry_at, or_empty, removed_dirs, upserted_dirs, with_dir, with_directory, with_path}
 use Rattle.gixobj_files.specs.Files.{Path}
-use Rattle.gixobj_directories.specs.Nested.{Opened, Part, base_side, bases_in, bases_of, dirs_of, in_part, opened, parts}
+use Rattle.gixobj_directories.specs.Nested.{Opened, Part, base_side, bases_of, dirs_of, in_part, opened, parts}
 use Rattle.gixobj_files.specs.Opening.{Dirs, in_dir}
 use Rattle.gixobj_directories.specs.declared.open.Child.{Child}
 use Rattle.gixobj_directories.proofs.Levels.{Becomes, at_name, based_at, called, found, found_by, level_at, level_root, not_found}
@@ -37,9 +37,6 @@ more_left path name (next ∷ rest) is end = record { next = bstring_bytes next;
 -- the directories in a name, as a function
 pub in_dir_is : (ds : Opened) (es : List EntryView) (ps : List Part) {base : List EntryView} → opened es base ps ≡ ds → EachLater (λ x y. x.0 ≢ y.0) ps → (name : List ℕ) → in_dir name (dirs_of ds) ≡ in_part name ps
 in_dir_is ds es ps is apart name = λ i path. level_at ds es ps is apart name path i
-
-pub in_dir_based : (ds : Opened) (es : List EntryView) (ps : List Part) {base : List EntryView} → opened es base ps ≡ ds → EachLater (λ x y. x.0 ≢ y.0) ps → (name : List ℕ) → in_dir name (bases_of ds) ≡ bases_in name ps
-in_dir_based ds es ps is apart name = λ i path. based_at ds es ps is apart name path i
 
 module _ (old : Opened) (es es' : List EntryView) (ps ps' : List Part) {base : List EntryView} (view : opened es base ps ≡ old) (apart : EachLater (λ x y. x.0 ≢ y.0) ps) (apart' : EachLater (λ x y. x.0 ≢ y.0) ps') (name : List ℕ) (next : Dirs) (becomes : Becomes name next ps ps') where
   -- at another path than the directory's own

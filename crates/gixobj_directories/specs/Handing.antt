@@ -1,11 +1,15 @@
--- How a write goes through open directories: what one entry hands out, and where a write stops.
-use Rattle.std.specs.Prelude.{◌≡◌, ◌+◌, ℕ, List, [], ◌∷◌, ◌++◌, Option, Some, None}
+-- How a write goes through open directories: which it comes to next, what one entry hands out, and where a write stops.
+use Rattle.std.specs.Prelude.{◌≡◌, ◌+◌, ℕ, List, [], ◌∷◌, ◌++◌, Option, Some, None, if◌then◌else◌}
 use Rattle.std.specs.List.{FoldsTo}
 use Rattle.gixobj_trees.specs.Entries.{EntryView}
 use Rattle.gixobj_ids.specs.declared.hash.object_id.ObjectId.{ObjectId}
+use Rattle.bstr.specs.Owned.{bstring_bytes}
+use Rattle.gixobj_files.specs.Editing.{same_name}
 use Rattle.gixobj_files.specs.HandingOut.{Walks, entry_with}
 use Rattle.gixobj_files.specs.Tables.{Pair}
 use Rattle.gixobj_files.specs.Opening.{Dirs, in_dir}
+use Rattle.gixobj_directories.specs.declared.open.Child.{Child}
+use Rattle.gixobj_directories.specs.Nested.{Level, at_side}
 use Rattle.gixobj_directories.specs.declared.write.WriteError.{WriteError}
 use Rattle.gixobj_directories.specs.declared.write.WriteError.TheVariants as write
 
@@ -27,3 +31,18 @@ Stopped {F} gave refused goes_out old new (write.Out e) =
     (before : List Pair) × (tree : List EntryView) × (asked : F) × FoldsTo gave old before asked × refused asked tree e new
     × ((id : ObjectId) → (rest : List Pair) × goes_out (before ++ (id, tree) ∷ rest))
 Stopped {F} gave refused goes_out old new write.OutOfMemory = (before rest : List Pair) × FoldsTo gave old before new × goes_out (before ++ rest)
+
+-- the first of these open directories, where it has this name
+abbrev pub next_child : List ℕ → List Child → Option Child
+next_child name [] = None
+next_child name (c ∷ cs) = if same_name (bstring_bytes c.name) name then Some c else None
+
+-- and those without it
+abbrev pub behind_next : List ℕ → List Child → List Child
+behind_next name [] = []
+behind_next name (c ∷ cs) = if same_name (bstring_bytes c.name) name then cs else c ∷ cs
+
+-- one of the lists of what is open in a directory, where there is one
+abbrev pub child_side : (Level → List EntryView) → Option Child → Dirs
+child_side side None path = None
+child_side side (Some c) path = at_side side c.open path

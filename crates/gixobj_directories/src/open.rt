@@ -86,6 +86,15 @@ fn child_place(children: &[Child], name: &BString) -> Result<usize, usize>
     children.binary_search_by(|child| key_order(child.name.as_bytes(), true, name.as_bytes(), true))
 }
 
+impl Child {
+    /// Whether it has this name.
+    pub(crate) fn is_named(&self, name: &BString) -> bool
+        ensures { result ≡ same_name (bstring_bytes self.now.name) (bstring_bytes name.now) }
+    {
+        self.name.as_bytes() == name.as_bytes()
+    }
+}
+
 impl Open {
     /// A directory of this tree, with nothing open in it, and the empty base.
     ///

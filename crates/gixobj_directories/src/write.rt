@@ -2,6 +2,7 @@
 ghost use Rattle.std.specs.Prelude.{◌≡◌, ◌≢◌, ◌↔◌, ◌+◌, ◌++◌, ◌∷◌, [], ℕ, IsTrue, Some, Err, IfErr, IfOk, List, None, Ok, OnErr, OnOk, ◌==◌, length};
 ghost use Rattle.std.specs.Fn.{CalledAt};
 ghost use Rattle.std.specs.List.{FoldsTo};
+ghost use Rattle.std.specs.Option.{option_copied};
 ghost use Rattle.gixobj_trees.specs.Entries.{EntryView};
 ghost use Rattle.gixobj_files.specs.Bases.{edited_bases};
 ghost use Rattle.gixobj_files.specs.Edits.{only, raised, with_path};
@@ -10,8 +11,8 @@ ghost use Rattle.gixobj_files.specs.HandingOut.{HandsOutSome, Leaves, Saves, ent
 ghost use Rattle.gixobj_files.specs.Opening.{in_path};
 ghost use Rattle.gixobj_files.specs.Tables.{Pair};
 ghost use Rattle.gixobj_directories.specs.Calls.{IsCallableOnTrees, IsStorable, names_of};
-ghost use Rattle.gixobj_directories.specs.Handing.{Stopped, Visits, kept_with};
-ghost use Rattle.gixobj_directories.specs.Nested.{AreOrdered, bases_in, bases_of, dirs_of, in_part, opened, parts};
+ghost use Rattle.gixobj_directories.specs.Handing.{Stopped, Visits, behind_next, child_side, kept_with, next_child};
+ghost use Rattle.gixobj_directories.specs.Nested.{base_side, bases_of, dirs_of, entries_side, opened};
 ghost use Rattle.gixobj_directories.specs.OwnTrees.{IsBeside, so_far};
 
 use crate::open::{Child, Open, child_at, copy_tree};
@@ -91,41 +92,55 @@ fn leaves<E, F: FnMut(&Tree) -> Result<ObjectId, E>>(
         × Leaves (dirs_of node.now) (bases_of node.now) ps own count) out.old out.new) }
 {
     let mut own = OwnTree::new();
+    let mut left: &[Child] = &node.children;
     for entry in entries_of(&node.tree) {
-        let id = visit(alloc, entry, &node.children, out, pairs, saved)?;
+        let (child, behind) = next_of(left, entry);
+        left = behind;
+        let id = visit(alloc, entry, child, out, pairs, saved)?;
         keep(alloc, &mut own, base, entry, id)?;
     }
     Ok(own)
 }
 
-/// Hands out what is open at and below an entry, and answers the id that the entry gets. There is none
-/// where the directory's own tree is empty.
+/// The next of the open directories, where it is the entry's, and those behind it.
+///
+/// They stand in the order of their entries, so none is sought.
+fn next_of<'a>(left: &'a [Child], entry: &Entry) -> (Option<&'a Child>, &'a [Child])
+    ensures next { option_copied result.0 ≡ next_child entry.now.name left.now }
+    ensures behind { result.1.now ≡ behind_next entry.now.name left.now }
+{
+    match left.split_first() {
+        Some((child, behind)) if child.is_named(&entry.filename) => (Some(child), behind),
+        _ => (None, left),
+    }
+}
+
+/// Hands out what is open at and below an entry, whose directory may be an open one, and answers the id
+/// that the entry gets. There is none where the directory's own tree is empty.
 #[cycle(walk)]
 fn visit<E, F: FnMut(&Tree) -> Result<ObjectId, E>>(
     alloc: Global,
     entry: &Entry,
-    children: &[Child],
+    child: Option<&Child>,
     out: &mut F,
     pairs: &mut Vec<(ObjectId, Tree)>,
     saved: &mut usize,
 ) -> Result<Option<ObjectId>, WriteError<E>>
-    requires ordered { AreOrdered (parts children.now) }
     requires callable { IsCallableOnTrees F.pre (λ f p g. CalledAt F.FnMut f p.1 (Ok p.0) g) out.old }
     ensures ok { IfOk result (λ id. (inner : List Pair) × (count : ℕ)
-        × Visits (in_part entry.now.name (parts children.now)) (bases_in entry.now.name (parts children.now))
-        entry.now inner (kept_with entry.now id) count
+        × Visits (child_side entries_side (option_copied child.entry))
+        (child_side base_side (option_copied child.entry)) entry.now inner (kept_with entry.now id) count
         × (saved.new ≡ raised saved.old count) × (pairs.new.items ≡ pairs.old.items ++ inner)
         × FoldsTo (λ f p g. CalledAt F.FnMut f p.1 (Ok p.0) g) out.old inner out.new) }
     ensures stopped { IfErr result (Stopped (λ f p g. CalledAt F.FnMut f p.1 (Ok p.0) g)
         (λ f t e g. CalledAt F.FnMut f t (Err e) g)
         (λ inner. (kept : List EntryView) × (count : ℕ)
-        × Visits (in_part entry.now.name (parts children.now))
-        (bases_in entry.now.name (parts children.now)) entry.now inner kept count) out.old out.new) }
+        × Visits (child_side entries_side (option_copied child.entry))
+        (child_side base_side (option_copied child.entry)) entry.now inner kept count) out.old out.new) }
 {
-    let Some(place) = child_at(children, &entry.filename) else {
+    let Some(child) = child else {
         return Ok(Some(entry.oid));
     };
-    let child = &children[place];
     let base = base_of(&child.open);
     let own = leaves(alloc, &child.open, base, out, pairs, saved)?;
     if own.is_bare() {

@@ -1,19 +1,19 @@
-use Rattle.std.proofs.Common.{◌≡◌, ◌≢◌, ◌∙◌, ◌+◌, ℕ, [], ◌∷◌, ◌++◌, List, Some, Ok, Err, drop, refl, sym, ap, subst, arith, append_assoc, append-nil}
+use Rattle.std.proofs.Common.{◌≡◌, ◌≢◌, ◌∙◌, ◌+◌, ◌<◌, ℕ, [], ◌∷◌, ◌++◌, List, Option, Some, None, Ok, Err, drop, length, refl, rules, sym, ap, subst, arith, append_assoc, append-nil}
 use Rattle.std.specs.Fn.{CalledAt}
-use Rattle.bstr.specs.Owned.{bstring_bytes}
+use Rattle.std.specs.Option.{option_copied}
 use Rattle.gixobj_trees.specs.Entries.{EntryView, IsWellFormed}
 use Rattle.gixobj_ids.specs.declared.hash.object_id.ObjectId.{ObjectId}
 use Rattle.gixobj_directories.specs.Calls.{IsStorable}
-use Rattle.gixobj_directories.specs.Handing.{Stopped, Visits, kept_with}
+use Rattle.gixobj_directories.specs.Handing.{Stopped, Visits, child_side, kept_with}
 use Rattle.gixobj_files.specs.HandingOut.{Leaves, entry_with, leaves}
 use Rattle.gixobj_files.specs.Tables.{Pair}
-use Rattle.gixobj_directories.specs.Nested.{bases_in, bases_of, dirs_of, in_part, parts}
+use Rattle.gixobj_directories.specs.Nested.{base_side, bases_of, dirs_of, entries_side, parts}
 use Rattle.gixobj_directories.specs.OwnTrees.{so_far}
+use Rattle.gixobj_directories.specs.declared.open.Child.{Child}
 use Rattle.gixobj_files.specs.Opening.{Dirs, in_dir}
-use Rattle.gixobj_directories.proofs.Handing.{counts, in_both, raised_then, some_based, visit_unchanged, FoldsTo-append, FoldsTo-one, callable_after, err_weaker, is_empty_list, is_filled_list, none_inside, some_inside, stopped_after, stopped_here, visit_emptied, visit_open, visit_shut, visit_written, walk_ends, walk_goes, walk_on, walk_step, walk_storable}
+use Rattle.gixobj_directories.proofs.Handing.{counts, in_both, raised_then, visit_unchanged, FoldsTo-append, FoldsTo-one, callable_after, err_weaker, is_empty_list, is_filled_list, open_side, stopped_after, stopped_here, visit_emptied, visit_open, visit_shut, visit_written, walk_ends, walk_goes, walk_on, walk_step, walk_storable}
 use Rattle.gixobj_directories.proofs.Levels.{level_root}
-use Rattle.gixobj_directories.proofs.Steps.{in_dir_based, in_dir_is}
-use Rattle.gixobj_directories.proofs.Ordered.{level_apart}
+use Rattle.gixobj_directories.proofs.Alongside.{Ahead, all_ahead, given_fewer, given_size, stepped}
 use Rattle.gixobj_directories.proofs.write.+walk.Goals as goal
 
 pub leaves-loop-entry-init : goal.leaves-loop-entry-init
@@ -21,6 +21,7 @@ leaves-loop-entry-init g t c = record {
   told = ([], 0, sym (append-nil c.args.pairs.now.items), refl, refl, rw c.new-own.ensures (λ qs own n walk. counts n (0 + n) (omega arith) walk));
   callable = c.requires.callable;
   beside = rw c.new-own.ensures (omega arith);
+  ahead = rw (c.entries_of-entry-items.ensures, c.deref-left.ensures.value) (all_ahead c.args.node.now c.node.inside.tree c.node.inside.base c.node.inside.children.items c.node.view_is c.node.invariant);
 }
 
 pub leaves-loop-entry-preserved : goal.leaves-loop-entry-preserved
@@ -31,10 +32,12 @@ leaves-loop-entry-preserved g t c =
     let dirs = dirs_of node in
     let bases = bases_of node in
     let items = c.entries_of-entry-items.result.now in
-    let inside = in_part e.name (parts c.deref.result.now) in
-    let same : in_dir e.name dirs ≡ inside = in_dir_is node c.node.inside.tree (parts c.node.inside.children.items) c.node.view_is (level_apart c.node.invariant) e.name ∙ ap (λ cs. in_part e.name (parts cs)) (sym c.deref.ensures.value) in
-    let based = bases_in e.name (parts c.deref.result.now) in
-    let base : in_dir e.name bases ≡ based = in_dir_based node c.node.inside.tree (parts c.node.inside.children.items) c.node.view_is (level_apart c.node.invariant) e.name ∙ ap (λ cs. bases_in e.name (parts cs)) (sym c.deref.ensures.value) in
+    let go = stepped node items c.loop-entry.entry-index e c.loop-entry.left.now c.loop-entry-test.true c.entry-item.is c.loop-entry.invariant.ahead in
+    let next = option_copied c.next_of.result.0 in
+    let inside = child_side entries_side next in
+    let same : in_dir e.name dirs ≡ inside = λ i path. (go.here entries_side path ∙ ap (λ (o : Option Child). child_side entries_side o path) (sym c.next_of.ensures.next)) i in
+    let based = child_side base_side next in
+    let base : in_dir e.name bases ≡ based = λ i path. (go.here base_side path ∙ ap (λ (o : Option Child). child_side base_side o path) (sym c.next_of.ensures.next)) i in
     let ok = c.in_ok-id.ensures.ok in
     let kept = c.in_ok-keep.ensures in
     record {
@@ -48,7 +51,16 @@ leaves-loop-entry-preserved g t c =
       );
       callable = callable_after _ (λ f p h. CalledAt g.F.FnMut f p.1 (Ok p.0) h) c.loop-entry.out ok.0 c.visit.new.out ok.5 c.loop-entry.invariant.callable;
       beside = kept.beside;
+      ahead = subst (Ahead node (drop (c.loop-entry.entry-index + 1) items)) (sym c.next_of.ensures.behind) go.ahead;
     }
+
+pub leaves-visit-requires : goal.leaves-visit-requires
+leaves-visit-requires g t c =
+    let node = c.args.node.now in
+    let items = c.entries_of-entry-items.result.now in
+    let go = stepped node items c.loop-entry.entry-index c.entry-item.result c.loop-entry.left.now c.loop-entry-test.true c.entry-item.is c.loop-entry.invariant.ahead in
+    let smaller : given_size c.next_of.result.0 < length node = given_fewer node c.next_of.result.0 _ c.next_of.ensures.next go.fewer (omega (arith, c.loop-entry.invariant.ahead.fewer)) in
+    λ κs lives. (omega (arith, smaller, c.decreases), (search rules, (search rules, c.loop-entry.invariant.callable)))
 
 pub leaves-returns-in_err-id-clause-stopped : goal.leaves-returns-in_err-id-clause-stopped
 leaves-returns-in_err-id-clause-stopped g t c =
@@ -58,10 +70,12 @@ leaves-returns-in_err-id-clause-stopped g t c =
     let dirs = dirs_of node in
     let bases = bases_of node in
     let items = c.entries_of-entry-items.result.now in
-    let inside = in_part e.name (parts c.deref.result.now) in
-    let same : in_dir e.name dirs ≡ inside = in_dir_is node c.node.inside.tree (parts c.node.inside.children.items) c.node.view_is (level_apart c.node.invariant) e.name ∙ ap (λ cs. in_part e.name (parts cs)) (sym c.deref.ensures.value) in
-    let based = bases_in e.name (parts c.deref.result.now) in
-    let base : in_dir e.name bases ≡ based = in_dir_based node c.node.inside.tree (parts c.node.inside.children.items) c.node.view_is (level_apart c.node.invariant) e.name ∙ ap (λ cs. bases_in e.name (parts cs)) (sym c.deref.ensures.value) in
+    let go = stepped node items c.loop-entry.entry-index e c.loop-entry.left.now c.loop-entry-test.true c.entry-item.is c.loop-entry.invariant.ahead in
+    let next = option_copied c.next_of.result.0 in
+    let inside = child_side entries_side next in
+    let same : in_dir e.name dirs ≡ inside = λ i path. (go.here entries_side path ∙ ap (λ (o : Option Child). child_side entries_side o path) (sym c.next_of.ensures.next)) i in
+    let based = child_side base_side next in
+    let base : in_dir e.name bases ≡ based = λ i path. (go.here base_side path ∙ ap (λ (o : Option Child). child_side base_side o path) (sym c.next_of.ensures.next)) i in
     let root : dirs [] ≡ Some items = level_root node c.node.inside.tree (parts c.node.inside.children.items) c.node.view_is ∙ ap Some (sym c.entries_of-entry-items.ensures) in
     let rest = walk_on node (drop (c.loop-entry.entry-index + 1) items) in
     err_weaker c.from_residual.result _ _ c.from_residual.ensures.1
@@ -79,10 +93,12 @@ leaves-returns-in_err-keep-clause-stopped g t c =
     let dirs = dirs_of node in
     let bases = bases_of node in
     let items = c.entries_of-entry-items.result.now in
-    let inside = in_part e.name (parts c.deref.result.now) in
-    let same : in_dir e.name dirs ≡ inside = in_dir_is node c.node.inside.tree (parts c.node.inside.children.items) c.node.view_is (level_apart c.node.invariant) e.name ∙ ap (λ cs. in_part e.name (parts cs)) (sym c.deref.ensures.value) in
-    let based = bases_in e.name (parts c.deref.result.now) in
-    let base : in_dir e.name bases ≡ based = in_dir_based node c.node.inside.tree (parts c.node.inside.children.items) c.node.view_is (level_apart c.node.invariant) e.name ∙ ap (λ cs. bases_in e.name (parts cs)) (sym c.deref.ensures.value) in
+    let go = stepped node items c.loop-entry.entry-index e c.loop-entry.left.now c.loop-entry-test.true c.entry-item.is c.loop-entry.invariant.ahead in
+    let next = option_copied c.next_of.result.0 in
+    let inside = child_side entries_side next in
+    let same : in_dir e.name dirs ≡ inside = λ i path. (go.here entries_side path ∙ ap (λ (o : Option Child). child_side entries_side o path) (sym c.next_of.ensures.next)) i in
+    let based = child_side base_side next in
+    let base : in_dir e.name bases ≡ based = λ i path. (go.here base_side path ∙ ap (λ (o : Option Child). child_side base_side o path) (sym c.next_of.ensures.next)) i in
     let root : dirs [] ≡ Some items = level_root node c.node.inside.tree (parts c.node.inside.children.items) c.node.view_is ∙ ap Some (sym c.entries_of-entry-items.ensures) in
     let ok = c.in_ok-id.ensures.ok in
     let kept = kept_with e c.in_ok-id.id in
@@ -120,19 +136,19 @@ same_some xs ys is = cc is
 pub visit-returns-in_default-clause-ok : goal.visit-returns-in_default-clause-ok
 visit-returns-in_default-clause-ok g t c =
     let e = c.args.entry.now in
-    let inside = in_part e.name (parts c.args.children.now) in
-    let based = bases_in e.name (parts c.args.children.now) in
-    let none = none_inside (bstring_bytes c.entry.inside.filename) e.name c.args.children.now (ap (λ (x : EntryView). x.name) c.entry.view_is) (c.in_default.ensures {u = tt}) in
+    let inside = child_side entries_side (option_copied c.args.child) in
+    let based = child_side base_side (option_copied c.args.child) in
+    let none : inside [] ≡ None = ap (λ o. child_side entries_side (option_copied o) []) c.in_default.is in
     ([], 0, subst (λ id. Visits inside based e [] (entry_with e id) 0) (sym (ap (λ (x : EntryView). x.id) c.entry.view_is)) (visit_shut inside based e none), refl, sym (append-nil c.args.pairs.now.items), refl)
 
 pub visit-returns-in_err-own-clause-stopped : goal.visit-returns-in_err-own-clause-stopped
 visit-returns-in_err-own-clause-stopped g t c =
     let e = c.args.entry.now in
-    let inside = in_part e.name (parts c.args.children.now) in
-    let based = bases_in e.name (parts c.args.children.now) in
-    let child = c.index-children-place.result in
-    let there = some_inside (bstring_bytes c.entry.inside.filename) e.name c.args.children.now c.in-Some.place child (ap (λ (x : EntryView). x.name) c.entry.view_is) (c.in-Some.ensures {u = tt}) c.index-children-place.is in
-    let base = some_based (bstring_bytes c.entry.inside.filename) e.name c.args.children.now c.in-Some.place child (ap (λ (x : EntryView). x.name) c.entry.view_is) (c.in-Some.ensures {u = tt}) c.index-children-place.is in
+    let inside = child_side entries_side (option_copied c.args.child) in
+    let based = child_side base_side (option_copied c.args.child) in
+    let child = c.in-Some.child.now in
+    let there = open_side entries_side c.args.child c.in-Some.child c.in-Some.is in
+    let base = open_side base_side c.args.child c.in-Some.child c.in-Some.is in
     err_weaker c.from_residual.result _ _ c.from_residual.ensures.1
     (λ error is. subst (Stopped (λ f p h. CalledAt g.F.FnMut f p.1 (Ok p.0) h) (λ f tree x h. CalledAt g.F.FnMut f tree (Err x) h) (λ inner. (kept : List EntryView) × (n : ℕ) × Visits inside based e inner kept n) c.args.out.now c.leaves.new.out) (sym is)
     (stopped_after (λ f p h. CalledAt g.F.FnMut f p.1 (Ok p.0) h) (λ f tree x h. CalledAt g.F.FnMut f tree (Err x) h) (λ ps. (own : List EntryView) × (n : ℕ) × Leaves (dirs_of child.open) (bases_of child.open) ps own n) (λ inner. (kept : List EntryView) × (n : ℕ) × Visits inside based e inner kept n)
@@ -143,11 +159,11 @@ visit-returns-in_err-own-clause-stopped g t c =
 pub visit-returns-then-is_bare-clause-ok : goal.visit-returns-then-is_bare-clause-ok
 visit-returns-then-is_bare-clause-ok g t c =
     let e = c.args.entry.now in
-    let inside = in_part e.name (parts c.args.children.now) in
-    let based = bases_in e.name (parts c.args.children.now) in
-    let child = c.index-children-place.result in
-    let there = some_inside (bstring_bytes c.entry.inside.filename) e.name c.args.children.now c.in-Some.place child (ap (λ (x : EntryView). x.name) c.entry.view_is) (c.in-Some.ensures {u = tt}) c.index-children-place.is in
-    let base = some_based (bstring_bytes c.entry.inside.filename) e.name c.args.children.now c.in-Some.place child (ap (λ (x : EntryView). x.name) c.entry.view_is) (c.in-Some.ensures {u = tt}) c.index-children-place.is in
+    let inside = child_side entries_side (option_copied c.args.child) in
+    let based = child_side base_side (option_copied c.args.child) in
+    let child = c.in-Some.child.now in
+    let there = open_side entries_side c.args.child c.in-Some.child c.in-Some.is in
+    let base = open_side base_side c.args.child c.in-Some.child c.in-Some.is in
     let ok = c.in_ok-own.ensures.ok in
     let own = so_far c.base_of-base.result.now c.in_ok-own.own in
     let found : Leaves inside based ok.0 own ok.1 = in_both _ _ inside based there base ok.0 own ok.1 ok.2 in
@@ -157,11 +173,11 @@ visit-returns-then-is_bare-clause-ok g t c =
 pub visit-returns-then-is_base-clause-ok : goal.visit-returns-then-is_base-clause-ok
 visit-returns-then-is_base-clause-ok g t c =
     let e = c.args.entry.now in
-    let inside = in_part e.name (parts c.args.children.now) in
-    let based = bases_in e.name (parts c.args.children.now) in
-    let child = c.index-children-place.result in
-    let there = some_inside (bstring_bytes c.entry.inside.filename) e.name c.args.children.now c.in-Some.place child (ap (λ (x : EntryView). x.name) c.entry.view_is) (c.in-Some.ensures {u = tt}) c.index-children-place.is in
-    let base = some_based (bstring_bytes c.entry.inside.filename) e.name c.args.children.now c.in-Some.place child (ap (λ (x : EntryView). x.name) c.entry.view_is) (c.in-Some.ensures {u = tt}) c.index-children-place.is in
+    let inside = child_side entries_side (option_copied c.args.child) in
+    let based = child_side base_side (option_copied c.args.child) in
+    let child = c.in-Some.child.now in
+    let there = open_side entries_side c.args.child c.in-Some.child c.in-Some.is in
+    let base = open_side base_side c.args.child c.in-Some.child c.in-Some.is in
     let ok = c.in_ok-own.ensures.ok in
     let own = so_far c.base_of-base.result.now c.in_ok-own.own in
     let found : Leaves inside based ok.0 own ok.1 = in_both _ _ inside based there base ok.0 own ok.1 ok.2 in
@@ -173,11 +189,11 @@ visit-returns-then-is_base-clause-ok g t c =
 pub visit-returns-in_err-tree-clause-stopped : goal.visit-returns-in_err-tree-clause-stopped
 visit-returns-in_err-tree-clause-stopped g t c =
     let e = c.args.entry.now in
-    let inside = in_part e.name (parts c.args.children.now) in
-    let based = bases_in e.name (parts c.args.children.now) in
-    let child = c.index-children-place.result in
-    let there = some_inside (bstring_bytes c.entry.inside.filename) e.name c.args.children.now c.in-Some.place child (ap (λ (x : EntryView). x.name) c.entry.view_is) (c.in-Some.ensures {u = tt}) c.index-children-place.is in
-    let base = some_based (bstring_bytes c.entry.inside.filename) e.name c.args.children.now c.in-Some.place child (ap (λ (x : EntryView). x.name) c.entry.view_is) (c.in-Some.ensures {u = tt}) c.index-children-place.is in
+    let inside = child_side entries_side (option_copied c.args.child) in
+    let based = child_side base_side (option_copied c.args.child) in
+    let child = c.in-Some.child.now in
+    let there = open_side entries_side c.args.child c.in-Some.child c.in-Some.is in
+    let base = open_side base_side c.args.child c.in-Some.child c.in-Some.is in
     let ok = c.in_ok-own.ensures.ok in
     let own = so_far c.base_of-base.result.now c.in_ok-own.own in
     let found : Leaves inside based ok.0 own ok.1 = in_both _ _ inside based there base ok.0 own ok.1 ok.2 in
@@ -194,11 +210,11 @@ visit-hand-requires-clause-storable g t c = subst IsStorable (sym c.in_ok-tree.e
 pub visit-returns-in_err-id-clause-stopped : goal.visit-returns-in_err-id-clause-stopped
 visit-returns-in_err-id-clause-stopped g t c =
     let e = c.args.entry.now in
-    let inside = in_part e.name (parts c.args.children.now) in
-    let based = bases_in e.name (parts c.args.children.now) in
-    let child = c.index-children-place.result in
-    let there = some_inside (bstring_bytes c.entry.inside.filename) e.name c.args.children.now c.in-Some.place child (ap (λ (x : EntryView). x.name) c.entry.view_is) (c.in-Some.ensures {u = tt}) c.index-children-place.is in
-    let base = some_based (bstring_bytes c.entry.inside.filename) e.name c.args.children.now c.in-Some.place child (ap (λ (x : EntryView). x.name) c.entry.view_is) (c.in-Some.ensures {u = tt}) c.index-children-place.is in
+    let inside = child_side entries_side (option_copied c.args.child) in
+    let based = child_side base_side (option_copied c.args.child) in
+    let child = c.in-Some.child.now in
+    let there = open_side entries_side c.args.child c.in-Some.child c.in-Some.is in
+    let base = open_side base_side c.args.child c.in-Some.child c.in-Some.is in
     let ok = c.in_ok-own.ensures.ok in
     let own = so_far c.base_of-base.result.now c.in_ok-own.own in
     let found : Leaves inside based ok.0 own ok.1 = in_both _ _ inside based there base ok.0 own ok.1 ok.2 in
@@ -216,11 +232,11 @@ visit-returns-in_err-id-clause-stopped g t c =
 pub visit-returns-clause-ok : goal.visit-returns-clause-ok
 visit-returns-clause-ok g t c =
     let e = c.args.entry.now in
-    let inside = in_part e.name (parts c.args.children.now) in
-    let based = bases_in e.name (parts c.args.children.now) in
-    let child = c.index-children-place.result in
-    let there = some_inside (bstring_bytes c.entry.inside.filename) e.name c.args.children.now c.in-Some.place child (ap (λ (x : EntryView). x.name) c.entry.view_is) (c.in-Some.ensures {u = tt}) c.index-children-place.is in
-    let base = some_based (bstring_bytes c.entry.inside.filename) e.name c.args.children.now c.in-Some.place child (ap (λ (x : EntryView). x.name) c.entry.view_is) (c.in-Some.ensures {u = tt}) c.index-children-place.is in
+    let inside = child_side entries_side (option_copied c.args.child) in
+    let based = child_side base_side (option_copied c.args.child) in
+    let child = c.in-Some.child.now in
+    let there = open_side entries_side c.args.child c.in-Some.child c.in-Some.is in
+    let base = open_side base_side c.args.child c.in-Some.child c.in-Some.is in
     let ok = c.in_ok-own.ensures.ok in
     let own = so_far c.base_of-base.result.now c.in_ok-own.own in
     let found : Leaves inside based ok.0 own ok.1 = in_both _ _ inside based there base ok.0 own ok.1 ok.2 in

@@ -1,4 +1,4 @@
-use Rattle.std.proofs.Common.{◌≡◌, ◌+◌, ◌++◌, ℕ, List, drop, Ok}
+use Rattle.std.proofs.Common.{◌≡◌, ◌+◌, ◌*◌, ◌++◌, ℕ, List, drop, length, Ok}
 use Rattle.std.specs.Fn.{CalledAt}
 use Rattle.std.specs.List.{FoldsTo}
 use Rattle.gixobj_trees.specs.Entries.{EntryView}
@@ -8,7 +8,14 @@ use Rattle.gixobj_files.specs.Tables.{Pair}
 use Rattle.gixobj_directories.specs.Calls.{IsCallableOnTrees}
 use Rattle.gixobj_directories.specs.Nested.{bases_of, dirs_of}
 use Rattle.gixobj_directories.specs.OwnTrees.{IsBeside, so_far}
+use Rattle.gixobj_directories.proofs.Alongside.{Ahead, given_size}
 use Rattle.gixobj_directories.proofs.write.+walk.Given as goal
+
+abbrev pub decreases-leaves : goal.decreases-leaves
+decreases-leaves g l = 2 * length l.node.now
+
+abbrev pub decreases-visit : goal.decreases-visit
+decreases-visit g l = 2 * given_size l.child + 1
 
 -- what went out so far, and whatever goes out for the entries to come, are together what goes out
 abbrev pub invariant-leaves-loop-entry : goal.invariant-leaves-loop-entry
@@ -17,4 +24,5 @@ invariant-leaves-loop-entry g l = record {
       × ((qs : List Pair) (own : List EntryView) (n : ℕ) → Walks (dirs_of l.fn.node) (bases_of l.fn.node) (drop l.entry-index l.entry-items) qs own n → Walks (dirs_of l.fn.node) (bases_of l.fn.node) l.entry-items (ps ++ qs) (so_far l.base l.own ++ own) (count + n));
   callable : IsCallableOnTrees (λ f tree. g.F.FnMut.pre f (tree, tt)) (λ f p h. CalledAt g.F.FnMut f p.1 (Ok p.0) h) l.out;
   beside : IsBeside l.base l.own;
+  ahead : Ahead l.fn.node (drop l.entry-index l.entry-items) l.left;
 }
