@@ -21,11 +21,14 @@ const ROWS: [(u64, usize, (u64, u64)); 7] = [
 
 /// Whether an import stops so, and the importer refuses a step behind it.
 fn stops(alloc: Global, refused: u64, before: usize, counts: (u64, u64)) -> Result<bool, Fail> {
+    if before > COMMITS.len() {
+        return Ok(false);
+    }
+    let (commits, _) = COMMITS.split_at(before);
     let mut importer = Importer::new(alloc, Failing::new(alloc, refused), HashKind::Sha1);
     let Err(stopped) = import_all(&mut importer, &plain_steps(alloc)?) else {
         return Ok(false);
     };
-    let (commits, _) = COMMITS.split_at(before);
     let told = number(&stopped.error) == 4 && are_commits(&stopped.done, commits);
     let kept = importer.store_mut().counts() == counts;
     let next = importer.step(&step(alloc, Vec::new(alloc))?);
