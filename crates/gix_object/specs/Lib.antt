@@ -25,3 +25,15 @@ pub use Rattle.gixobj_lookups.specs.Writers
 pub use Rattle.gixobj_runs.specs.Commands
 pub use Rattle.gixobj_runs.specs.Replies
 pub use Rattle.gixobj_runs.specs.RunTables
+pub use Rattle.gixobj_runner.specs.Calls as ProgramCalls
+pub use Rattle.gixobj_runner.specs.Fields
+pub use Rattle.gixobj_runner.specs.GpgReports
+pub use Rattle.gixobj_runner.specs.Outcomes
+pub use Rattle.gixobj_runner.specs.Plans
+pub use Rattle.gixobj_runner.specs.Signing
+pub use Rattle.gixobj_runner.specs.SshReports
+pub use Rattle.gixobj_runner.specs.Trust
+pub use Rattle.gixobj_verifying.specs.SignedBytes
+pub use Rattle.gixobj_verifying.specs.Verifiers
+pub use Rattle.gixobj_verifying.specs.Verifying
+pub use Rattle.gixobj_verifying.specs.VerifyingCalls

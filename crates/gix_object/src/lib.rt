@@ -2,11 +2,12 @@
 //!
 //! It hands on what the crates below have for users: ids, kinds, loose headers, actors and times, trees, blobs,
 //! commits, tags and objects of any kind, how they are read and written, how they are looked up in stores and kept
-//! by them, in [`tree::editor`] the editor of nested trees, with whole runs of it, and in [`import`] histories imported
-//! from lists of edits.
+//! by them, in [`signature`] how they are signed and verified by other programs, in [`tree::editor`] the editor of nested
+//! trees, with whole runs of it, and in [`import`] histories imported from lists of edits.
 #![tactic(auto)]
 
 pub mod laws;
+pub mod signature;
 pub mod tree;
 
 pub use gixobj_base::{
@@ -21,4 +22,3 @@ pub use gixobj_codec::{
 pub use gixobj_import::import;
 pub use gixobj_keeping::{Keep, KeepCommit, KeepError};
 pub use gixobj_lookups::{FindExt, HeaderExt, Write, find, write};
-pub use gixobj_text::signature;

@@ -90,7 +90,19 @@ mod of_laws {
 }
 
 mod of_signature {
-    pub use gix_object::signature::{Format, SignatureRef};
+    pub use gix_object::signature::{
+        Call, Format, Output, RunError, Runner, SignatureRef, SignedData, Word, sign, verify,
+    };
+}
+
+mod of_signing {
+    pub use gix_object::signature::sign::{Error, Options, is_literal_ssh_key, sign_payload};
+}
+
+mod of_verifying {
+    pub use gix_object::signature::verify::{
+        Error, Options, Outcome, Status, TrustLevel, parse_gpg_output, parse_ssh_output,
+    };
 }
 
 mod of_stream_hash {

@@ -20,6 +20,7 @@ mod loose_objects;
 mod messages;
 mod objects;
 mod recorded;
+mod reports;
 mod scripts;
 mod tables;
 mod tags;

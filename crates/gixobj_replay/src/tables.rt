@@ -17,6 +17,7 @@ use crate::listed_trees::{listed_tree_answer, well_formed_answer};
 use crate::loose_objects::object_answer;
 use crate::messages::{body_answer, message_answer, named_answer};
 use crate::recorded::tables::{Recorded, behind_source, named_parts};
+use crate::reports::{gpg_report_answer, marker_answer, ssh_report_answer, trust_answer};
 use crate::scripts::{command_answer, script_answer};
 use crate::tags::{name_answer, tag_answer, tag_token_answer};
 use crate::times::time_answer;
@@ -65,6 +66,14 @@ pub(crate) enum Table {
     TagTexts,
     /// Tags made of parts, written.
     TagParts,
+    /// Reports of programs of OpenPGP and of X.509.
+    GpgReports,
+    /// Reports of programs of SSH.
+    SshReports,
+    /// Names of levels of trust.
+    TrustLevels,
+    /// The last markers of texts.
+    Markers,
     /// Trees read whole and written.
     Trees,
     /// Trees told entry by entry.
@@ -138,6 +147,10 @@ pub(crate) const TABLES: &[Table] = &[
     Table::GitTags,
     Table::TagTexts,
     Table::TagParts,
+    Table::GpgReports,
+    Table::SshReports,
+    Table::TrustLevels,
+    Table::Markers,
     Table::Trees,
     Table::TreeTokens,
     Table::Objects,
@@ -187,6 +200,10 @@ impl Recorded for Table {
             Table::GitTags => ("git tags", "git-tags.tsv"),
             Table::TagTexts => ("tag texts", "tag-texts.tsv"),
             Table::TagParts => ("tag parts", "tag-parts.tsv"),
+            Table::GpgReports => ("gpg reports", "gpg-reports.tsv"),
+            Table::SshReports => ("ssh reports", "ssh-reports.tsv"),
+            Table::TrustLevels => ("trust levels", "trust-levels.tsv"),
+            Table::Markers => ("markers", "markers.tsv"),
             Table::Trees => ("trees", "trees.tsv"),
             Table::TreeTokens => ("tree tokens", "tree-tokens.tsv"),
             Table::Objects => ("objects", "objects.tsv"),
@@ -234,6 +251,10 @@ impl Recorded for Table {
             Table::GitTagNames => git_name_answer(alloc, question),
             Table::GitTags | Table::TagTexts => git_tag_answer(alloc, question),
             Table::TagParts => tag_parts_answer(alloc, question),
+            Table::GpgReports => gpg_report_answer(alloc, question),
+            Table::SshReports => ssh_report_answer(alloc, question),
+            Table::TrustLevels => trust_answer(alloc, question),
+            Table::Markers => marker_answer(alloc, question),
             Table::Trees => tree_answer(alloc, question),
             Table::TreeTokens => tree_token_answer(alloc, question),
             Table::Objects => object_answer(alloc, question),
@@ -278,6 +299,10 @@ impl Recorded for Table {
             | Table::Tags
             | Table::TagTokens
             | Table::TagNames
+            | Table::GpgReports
+            | Table::SshReports
+            | Table::TrustLevels
+            | Table::Markers
             | Table::Trees
             | Table::TreeTokens
             | Table::Objects => split_at_byte(line, b'\t'),

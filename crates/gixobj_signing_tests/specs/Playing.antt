@@ -1,0 +1,15 @@
+-- Answers from a list.
+use Rattle.std.specs.Prelude.{◌≡◌, ◌⊎◌, List, [], ◌∷◌, Result}
+use Rattle.gixobj_runner.specs.Calls.{Answer, answer_view, failed, not_spawned}
+use Rattle.gixobj_runner.specs.declared.signature.Call.{Call}
+use Rattle.gixobj_runner.specs.declared.signature.Output.{Output}
+use Rattle.gixobj_runner.specs.declared.signature.RunError.{RunError}
+
+-- a program wasn't started, without a text
+abbrev pub IsNotStarted : Answer → Type 0
+IsNotStarted answer = answer ≡ failed (not_spawned [])
+
+-- the first answer of the list, or none where the call is another one; and then the others are left
+abbrev pub Gives : List (Call × Result Output RunError) → Answer → List (Call × Result Output RunError) → Type 0
+Gives [] answer left = IsNotStarted answer × (left ≡ [])
+Gives (first ∷ others) answer left = ((answer ≡ answer_view first.1) ⊎ IsNotStarted answer) × (left ≡ others)

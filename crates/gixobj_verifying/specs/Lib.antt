@@ -1,0 +1,4 @@
+pub mod SignedBytes
+pub mod Verifiers
+pub mod Verifying
+pub mod VerifyingCalls
