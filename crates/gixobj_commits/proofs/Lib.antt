@@ -1,3 +1,4 @@
+mod CommitSigned
 mod CommitWrites
 mod HexFields
 mod WritingBack

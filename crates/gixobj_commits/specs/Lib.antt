@@ -1,4 +1,5 @@
 pub mod CommitOwned
+pub mod CommitSigning
 pub mod CommitViews
 pub mod CommitWriting
 pub mod Rewriting

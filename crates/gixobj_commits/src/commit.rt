@@ -17,6 +17,7 @@ ghost use Rattle.gixobj_ids.specs.Hash.Hex.{IsHexOf};
 mod decode;
 mod message;
 mod owned;
+mod sign;
 mod write;
 
 use bstr::{BStr, BString};

@@ -22,6 +22,7 @@ mod objects;
 mod recorded;
 mod reports;
 mod scripts;
+mod signed_data;
 mod tables;
 mod tags;
 mod texts;

@@ -19,6 +19,7 @@ use crate::messages::{body_answer, message_answer, named_answer};
 use crate::recorded::tables::{Recorded, behind_source, named_parts};
 use crate::reports::{gpg_report_answer, marker_answer, ssh_report_answer, trust_answer};
 use crate::scripts::{command_answer, script_answer};
+use crate::signed_data::signed_data_answer;
 use crate::tags::{name_answer, tag_answer, tag_token_answer};
 use crate::times::time_answer;
 use crate::trees::{tree_answer, tree_token_answer};
@@ -74,6 +75,8 @@ pub(crate) enum Table {
     TrustLevels,
     /// The last markers of texts.
     Markers,
+    /// Signatures found, and what they sign.
+    SignedData,
     /// Trees read whole and written.
     Trees,
     /// Trees told entry by entry.
@@ -151,6 +154,7 @@ pub(crate) const TABLES: &[Table] = &[
     Table::SshReports,
     Table::TrustLevels,
     Table::Markers,
+    Table::SignedData,
     Table::Trees,
     Table::TreeTokens,
     Table::Objects,
@@ -204,6 +208,7 @@ impl Recorded for Table {
             Table::SshReports => ("ssh reports", "ssh-reports.tsv"),
             Table::TrustLevels => ("trust levels", "trust-levels.tsv"),
             Table::Markers => ("markers", "markers.tsv"),
+            Table::SignedData => ("signed data", "signed-data.tsv"),
             Table::Trees => ("trees", "trees.tsv"),
             Table::TreeTokens => ("tree tokens", "tree-tokens.tsv"),
             Table::Objects => ("objects", "objects.tsv"),
@@ -255,6 +260,7 @@ impl Recorded for Table {
             Table::SshReports => ssh_report_answer(alloc, question),
             Table::TrustLevels => trust_answer(alloc, question),
             Table::Markers => marker_answer(alloc, question),
+            Table::SignedData => signed_data_answer(alloc, question),
             Table::Trees => tree_answer(alloc, question),
             Table::TreeTokens => tree_token_answer(alloc, question),
             Table::Objects => object_answer(alloc, question),
@@ -303,6 +309,7 @@ impl Recorded for Table {
             | Table::SshReports
             | Table::TrustLevels
             | Table::Markers
+            | Table::SignedData
             | Table::Trees
             | Table::TreeTokens
             | Table::Objects => split_at_byte(line, b'\t'),

@@ -1,4 +1,5 @@
 pub mod Readers
+pub mod TagExtracting
 pub mod TagTokens
 pub mod TokenGiving
 pub use Rattle.gixobj_actors.specs.Actor

@@ -8,6 +8,8 @@ ghost use Rattle.gixobj_tag_tokens.specs.Readers.{TellsTagger};
 ghost use Rattle.gixobj_tag_tokens.specs.TagTokens.{HasToken, token_view};
 ghost use Rattle.gixobj_tag_tokens.specs.TokenGiving.{FindsTagger, GivesId, GivesToken, IsAtStart, LacksTagger, token_id, tokens_left};
 
+mod signature;
+
 use bstr::BStr;
 use gixobj_actors::actor::SignatureRef;
 use gixobj_fields::parse::{header_id, header_kind};

@@ -1,5 +1,6 @@
 pub mod Bodies
 pub mod Lines
+mod TagSigned
 mod TagWrites
 pub mod WholeTags
 mod WrittenBack

@@ -10,6 +10,7 @@ ghost use Rattle.gixobj_texts.specs.Optional.{bytes_if_some};
 
 pub mod decode;
 mod owned;
+mod sign;
 pub mod write;
 
 use bstr::{BStr, BString};

@@ -1,6 +1,7 @@
 mod CommitsFound
 mod OneLanguage
 mod ParentsFound
+mod Seeking
 mod TokenRuns
 mod Tokens
 mod Walks

@@ -1,5 +1,6 @@
 pub mod CommitRuns
 pub mod CommitTokens
+pub mod Extracting
 pub mod Readers
 pub mod TokenFilters
 pub mod TokenGiving

@@ -8,6 +8,7 @@ ghost use Rattle.gixobj_tokens.specs.TokenGiving.{BorrowsValue, GivesToken, IsAt
 mod access;
 mod filters;
 mod parts;
+mod signature;
 
 use bstr::BStr;
 pub use filters::{ParentIds, Signatures};

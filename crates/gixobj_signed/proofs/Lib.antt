@@ -1,0 +1,4 @@
+mod CommitsExtracted
+mod OwnedFields
+mod SignaturesFound
+mod TagsExtracted

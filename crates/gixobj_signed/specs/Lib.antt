@@ -1,0 +1,2 @@
+pub mod LineFields
+pub mod OneMarker

@@ -1,0 +1,25 @@
+-- Commits whose fields of one line have no newline.
+use Rattle.std.specs.Prelude.{ℕ, List, All, Option, Some, None, ⊤}
+use Rattle.gixobj_actors.specs.Actor.{NamesActor}
+use Rattle.gixobj_actors.specs.ActorWriting.{owned_text}
+use Rattle.gixobj_actors.specs.declared.actor.Signature.{Signature}
+use Rattle.gixobj_lines.specs.Commit.{CommitLines}
+use Rattle.gixobj_texts.specs.Bytes.{newline}
+use Rattle.gixobj_texts.specs.Parse.{IsFree}
+
+-- a text that may be missing has no newline
+abbrev pub IsOneLine : Option (List ℕ) → Type 0
+IsOneLine None = ⊤
+IsOneLine (Some text) = IsFree newline text
+
+-- no field of one line has a newline, as in every commit of which nothing is refused by its writer
+pub record HasLineFields (commit : CommitLines) : Type 0 where
+  pub tree : IsFree newline commit.tree
+  pub parents : All (λ hex. IsFree newline hex) commit.parents
+  pub author : IsFree newline commit.author
+  pub committer : IsFree newline commit.committer
+  pub encoding : IsOneLine commit.encoding
+
+-- what is written of an owned actor is an actor's line
+abbrev pub IsWritableActor : Signature → Type 0
+IsWritableActor actor = NamesActor (owned_text actor)
