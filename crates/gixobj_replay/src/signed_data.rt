@@ -50,6 +50,8 @@ fn tag_text(alloc: Global, bytes: &[u8]) -> Result<String, AllocError> {
 
 /// What is signed.
 fn signed_text(alloc: Global, signed: SignedData<'_>) -> Result<String, AllocError> {
-    let bytes = signed.to_bstring(alloc).unwrap_or(BString::new(Vec::new(alloc)));
+    let bytes = signed
+        .to_bstring(alloc)
+        .unwrap_or(BString::new(Vec::new(alloc)));
     hex_of(alloc, bytes.as_bytes())
 }
