@@ -8,7 +8,7 @@ use Rattle.gixobj_commits.specs.declared.commit.Commit.{Commit}
 use Rattle.gixobj_extra_headers.specs.ExtraHeaders.{signature_field}
 use Rattle.gixobj_fields.specs.HeaderText.{Header}
 use Rattle.gixobj_fields.specs.Streams.{SinkView}
-use Rattle.gixobj_fields.specs.Writing.{SaysWhy}
+use Rattle.gixobj_fields.specs.Writing.{RefusesNothing, SaysWhy}
 use Rattle.gixobj_fields.specs.declared.encode.Error as encode
 use Rattle.gixobj_ids.specs.Hash.{id_kind}
 use Rattle.gixobj_ids.specs.declared.decode.Error as decode
@@ -48,24 +48,24 @@ GetsSignature runs options payload field commit old new signed =
     (bytes : List ℕ) × Carries runs (sign_plan (options_view options) payload) old (signature bytes) new
     × (owned_lines signed ≡ with_last_header field bytes (owned_lines commit))
 
--- a signer gave a signature for the commit's payload, and the commit has it now
+-- nothing of the commit is refused; a signer gave a signature for its payload, and the commit has it now
 pub record IsSigned {S : Type 0} (runs : S → CallView → Answer → S → Type 0) (options : Options) (commit : Commit) (old new : S) (signed : Commit) : Type 0 where
   pub bytes : List ℕ
   pub went : Carries runs (sign_plan (options_view options) (payload_of (id_kind commit.tree) (owned_lines commit))) old (signature bytes) new
   pub lines : owned_lines signed ≡ with_signature (id_kind commit.tree) bytes (owned_lines commit)
+  pub writable : RefusesNothing (RefusesOwned commit)
 
--- why a commit can't be written
-abbrev pub RefusesPayload : Commit → encode.Error → Type 0
-RefusesPayload commit cause = (before after : SinkView) × SaysWhy (RefusesOwned commit) before after (commit_text (owned_lines commit)) cause
+-- why a commit isn't written, whose text this is
+abbrev pub RefusesWriting : Commit → List ℕ → encode.Error → Type 0
+RefusesWriting commit text cause = (before after : SinkView) × SaysWhy (RefusesOwned commit) before after text cause
 
 -- why a commit isn't signed: what the signer answered; or it can't be written without its signatures, and no call was
 -- made
 abbrev pub RefusesSigning : {S : Type 0} → (S → CallView → Answer → S → Type 0) → Options → Commit → S → S → Error → Type 0
 RefusesSigning runs options commit old new error =
     Goes runs (sign_plan (options_view options) (payload_of (id_kind commit.tree) (owned_lines commit))) old (signer_refusal error) new
-    ⊎ ((cause : encode.Error) × (unsigned : Commit) × (error ≡ sign.Encode cause)
-    × (owned_lines unsigned ≡ without_headers (signature_field (id_kind commit.tree)) (owned_lines commit))
-    × RefusesPayload unsigned cause × (new ≡ old))
+    ⊎ ((cause : encode.Error) × (error ≡ sign.Encode cause)
+    × RefusesWriting commit (payload_of (id_kind commit.tree) (owned_lines commit)) cause × (new ≡ old))
 
 -- the same of a commit that is first made owned
 abbrev pub IsSignedCopy : {S : Type 0} → (S → CallView → Answer → S → Type 0) → Options → CommitLines → S → S → Commit → Type 0

@@ -123,7 +123,7 @@ key_whole : literal_key (codes "ssh-ed25519 A") ≡ Some (codes "ssh-ed25519 A")
 unfolding computing
 key_whole = refl
 
-key_path : literal_key (codes "/home/a/.ssh/key") ≡ None
+key_path : literal_key (codes "keys/signing") ≡ None
 unfolding computing
 key_path = refl
 

@@ -1,7 +1,7 @@
 -- Tags that are signed (gitformat-signature, "Tag signatures").
 use Rattle.std.specs.Prelude.{◌≡◌, ◌⊎◌, ℕ, List, [], ◌∷◌, ◌++◌, Option, Some, None}
 use Rattle.gixobj_fields.specs.Streams.{SinkView}
-use Rattle.gixobj_fields.specs.Writing.{SaysWhy}
+use Rattle.gixobj_fields.specs.Writing.{RefusesNothing, SaysWhy}
 use Rattle.gixobj_fields.specs.declared.encode.Error as encode
 use Rattle.gixobj_ids.specs.declared.decode.Error as decode
 use Rattle.gixobj_runner.specs.Calls.{Answer, CallView}
@@ -17,7 +17,11 @@ use Rattle.gixobj_tags.specs.TagWriting.{RefusesOwned, tag_text}
 use Rattle.gixobj_tags.specs.declared.tag.Tag.{Tag}
 use Rattle.gixobj_texts.specs.Bytes.{newline}
 
--- the tag with this signature, or without one
+-- the tag without its signature
+abbrev pub unsigned : Tag → Tag
+unsigned tag = record tag { signature = None }
+
+-- the tag with these lines, and with this signature or without one
 abbrev pub signed_as : Option (List ℕ) → TagLines → TagLines
 signed_as bytes tag = record tag { signature = bytes }
 
@@ -31,26 +35,26 @@ GetsSignature runs options payload tag old new signed =
     (bytes : List ℕ) × Carries runs (sign_plan (options_view options) payload) old (signature bytes) new
     × (owned_lines signed ≡ signed_as (Some bytes) (owned_lines tag))
 
--- a signer gave a signature for the tag's payload, and the tag has it now
+-- nothing of the tag is refused; a signer gave a signature for its payload, and the tag has it now
 pub record IsSigned {S : Type 0} (runs : S → CallView → Answer → S → Type 0) (options : Options) (tag : Tag) (old new : S) (signed : Tag) : Type 0 where
   pub bytes : List ℕ
   pub went : Carries runs (sign_plan (options_view options) (payload_of (owned_lines tag))) old (signature bytes) new
   pub lines : owned_lines signed ≡ signed_as (Some bytes) (owned_lines tag)
+  pub writable : RefusesNothing (RefusesOwned tag)
 
 -- why a tag can't be written
-abbrev pub RefusesPayload : Tag → encode.Error → Type 0
-RefusesPayload tag cause = (before after : SinkView) × SaysWhy (RefusesOwned tag) before after (tag_text (owned_lines tag)) cause
+abbrev pub RefusesWriting : Tag → encode.Error → Type 0
+RefusesWriting tag cause = (before after : SinkView) × SaysWhy (RefusesOwned tag) before after (tag_text (owned_lines tag)) cause
 
 -- why a tag without signature has no payload: it can't be written, or memory is wanting for the newline behind it
 abbrev pub HasNoPayload : Tag → Error → Type 0
-HasNoPayload tag error = (error ≡ sign.OutOfMemory) ⊎ ((cause : encode.Error) × (error ≡ sign.Encode cause) × RefusesPayload tag cause)
+HasNoPayload tag error = (error ≡ sign.OutOfMemory) ⊎ ((cause : encode.Error) × (error ≡ sign.Encode cause) × RefusesWriting tag cause)
 
 -- why a tag isn't signed: what the signer answered; or it can't be written without its signature, and no call was made
 abbrev pub RefusesSigning : {S : Type 0} → (S → CallView → Answer → S → Type 0) → Options → Tag → S → S → Error → Type 0
 RefusesSigning runs options tag old new error =
     Goes runs (sign_plan (options_view options) (payload_of (owned_lines tag))) old (signer_refusal error) new
-    ⊎ ((cause : encode.Error) × (unsigned : Tag) × (error ≡ sign.Encode cause)
-    × (owned_lines unsigned ≡ signed_as None (owned_lines tag)) × RefusesPayload unsigned cause × (new ≡ old))
+    ⊎ ((cause : encode.Error) × (error ≡ sign.Encode cause) × RefusesWriting (unsigned tag) cause × (new ≡ old))
 
 -- the same of a tag that is first made owned
 abbrev pub IsSignedCopy : {S : Type 0} → (S → CallView → Answer → S → Type 0) → Options → TagLines → S → S → Tag → Type 0

@@ -1,10 +1,11 @@
 //! Commits, signed (gitformat-signature, "Commit signatures").
-ghost use Rattle.std.specs.Prelude.{◌≡◌, IfErr, IfOk};
+ghost use Rattle.std.specs.Prelude.{◌≡◌, IfErr, IfOk, OnOk};
 ghost use Rattle.bstr.specs.Owned.{bstring_bytes};
-ghost use Rattle.gixobj_commits.specs.CommitSigning.{GetsSignature, IsSigned, IsSignedCopy, RefusesPayload, RefusesSigning, RefusesSigningCopy, is_named, with_last_header, without_headers};
+ghost use Rattle.gixobj_commits.specs.CommitSigning.{GetsSignature, IsSigned, IsSignedCopy, RefusesSigning, RefusesSigningCopy, RefusesWriting, is_named, with_last_header, without_headers};
 ghost use Rattle.gixobj_commits.specs.CommitViews.{commit_lines, owned_lines};
-ghost use Rattle.gixobj_commits.specs.CommitWriting.{HasIds, commit_text};
+ghost use Rattle.gixobj_commits.specs.CommitWriting.{HasIds, RefusesOwned, commit_text};
 ghost use Rattle.gixobj_fields.specs.HeaderReading.{owned_header_of};
+ghost use Rattle.gixobj_fields.specs.Writing.{RefusesNothing};
 ghost use Rattle.gixobj_runner.specs.Plans.{Goes};
 ghost use Rattle.gixobj_runner.specs.Signing.{options_view, sign_plan, signer_refusal};
 
@@ -67,7 +68,8 @@ impl CommitRef<'_> {
 /// The written bytes of a commit.
 fn payload_of(alloc: Global, commit: &Commit) -> Result<Vec<u8>, encode::Error>
     ensures text { IfOk result (λ text. text.items ≡ commit_text (owned_lines commit.now)) }
-    ensures refusal { IfErr result (RefusesPayload commit.now) }
+    ensures writable { OnOk result (RefusesNothing (RefusesOwned commit.now)) }
+    ensures refusal { IfErr result (RefusesWriting commit.now (commit_text (owned_lines commit.now))) }
 {
     let mut payload = Vec::new(alloc);
     commit.write_to_vec(alloc, &mut payload)?;
@@ -99,6 +101,7 @@ fn sign_written<R: Runner>(
 /// The commit without the headers of this name.
 fn without_headers_of(commit: Commit, name: &[u8]) -> Commit
     ensures lines { owned_lines result ≡ without_headers name.now (owned_lines commit) }
+    ensures others { result ≡ record commit { extra_headers = result.extra_headers } }
 {
     let mut commit = commit;
     commit

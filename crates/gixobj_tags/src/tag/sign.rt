@@ -1,12 +1,13 @@
 //! Tags, signed (gitformat-signature, "Tag signatures").
-ghost use Rattle.std.specs.Prelude.{◌≡◌, ◌++◌, ◌∷◌, [], IfErr, IfOk, None, Some};
+ghost use Rattle.std.specs.Prelude.{◌≡◌, ◌++◌, ◌∷◌, [], IfErr, IfOk, OnOk, Some};
 ghost use Rattle.bstr.specs.Owned.{bstring_bytes};
+ghost use Rattle.gixobj_fields.specs.Writing.{RefusesNothing};
 ghost use Rattle.gixobj_ids.specs.Hash.{IsHexOfAnId};
 ghost use Rattle.gixobj_runner.specs.Signing.{options_view, sign_plan, signer_refusal};
 ghost use Rattle.gixobj_runner.specs.Plans.{Goes};
-ghost use Rattle.gixobj_tags.specs.TagSigning.{GetsSignature, HasNoPayload, IsSigned, IsSignedCopy, RefusesPayload, RefusesSigning, RefusesSigningCopy, signed_as};
+ghost use Rattle.gixobj_tags.specs.TagSigning.{GetsSignature, HasNoPayload, IsSigned, IsSignedCopy, RefusesSigning, RefusesSigningCopy, RefusesWriting, signed_as, unsigned};
 ghost use Rattle.gixobj_tags.specs.TagViews.{owned_lines, tag_lines};
-ghost use Rattle.gixobj_tags.specs.TagWriting.{tag_text};
+ghost use Rattle.gixobj_tags.specs.TagWriting.{RefusesOwned, tag_text};
 ghost use Rattle.gixobj_texts.specs.Bytes.{newline};
 
 use super::{Tag, TagRef};
@@ -66,7 +67,7 @@ impl TagRef<'_> {
 
 /// The tag without a signature.
 fn without_signature(tag: Tag) -> Tag
-    ensures { owned_lines result ≡ signed_as None (owned_lines tag) }
+    ensures { result ≡ unsigned tag }
 {
     let mut tag = tag;
     tag.signature = None;
@@ -85,6 +86,7 @@ fn with_signature(tag: Tag, signature: BString) -> Tag
 /// What is signed of a tag that has no signature.
 fn payload_of(alloc: Global, tag: &Tag) -> Result<Vec<u8>, Error>
     ensures text { IfOk result (λ text. text.items ≡ tag_text (owned_lines tag.now) ++ newline ∷ []) }
+    ensures writable { OnOk result (RefusesNothing (RefusesOwned tag.now)) }
     ensures refusal { IfErr result (HasNoPayload tag.now) }
 {
     match tag_written(alloc, tag) {
@@ -96,7 +98,8 @@ fn payload_of(alloc: Global, tag: &Tag) -> Result<Vec<u8>, Error>
 /// The written bytes of a tag.
 fn tag_written(alloc: Global, tag: &Tag) -> Result<Vec<u8>, encode::Error>
     ensures text { IfOk result (λ text. text.items ≡ tag_text (owned_lines tag.now)) }
-    ensures refusal { IfErr result (RefusesPayload tag.now) }
+    ensures writable { OnOk result (RefusesNothing (RefusesOwned tag.now)) }
+    ensures refusal { IfErr result (RefusesWriting tag.now) }
 {
     let mut text = Vec::new(alloc);
     tag.write_to_vec(alloc, &mut text)?;

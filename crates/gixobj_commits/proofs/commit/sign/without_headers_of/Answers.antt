@@ -8,9 +8,7 @@ use Rattle.gixobj_fields.specs.HeaderText.{Header}
 use Rattle.gixobj_commits.proofs.CommitSigned.{kept_views}
 use Rattle.gixobj_commits.proofs.commit.sign.without_headers_of.Goals as goal
 
-pub returns : goal.returns
-returns c =
+pub returns-clause-lines : goal.returns-clause-lines
+returns-clause-lines c =
     let kept : c.retain.new.self.items ≡ filter (λ h. not (is_named c.args.name.now (owned_header_of h))) c.args.commit.extra_headers.items = filter_same _ _ _ (λ x b f' k. search rules) _ _ c.retain.ensures.filtered in
-    record {
-      lines = ap (λ (hs : List Header). record (owned_lines c.args.commit) { extra_headers = hs }) (ap (map owned_header_of) kept ∙ kept_views owned_header_of (λ h. not (is_named c.args.name.now h)) c.args.commit.extra_headers.items);
-    }
+    ap (λ (hs : List Header). record (owned_lines c.args.commit) { extra_headers = hs }) (ap (map owned_header_of) kept ∙ kept_views owned_header_of (λ h. not (is_named c.args.name.now h)) c.args.commit.extra_headers.items)
