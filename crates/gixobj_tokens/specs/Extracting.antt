@@ -2,6 +2,7 @@
 use Rattle.std.specs.Prelude.{◌≡◌, ℕ, List, Option, Some, None, ◌++◌}
 use Rattle.std.specs.Cow.{cow_slice_items}
 use Rattle.std.specs.declared.borrow.CowSlice.{CowSlice}
+use Rattle.std.specs.declared.alloc.Global.{Global}
 use Rattle.gixobj_extra_headers.specs.ExtraHeaders.{signature_field}
 use Rattle.gixobj_fields.specs.HeaderText.{Header}
 use Rattle.gixobj_fields.specs.Runs as runs
@@ -40,7 +41,7 @@ abbrev pub HasNoSignature : Kind → List ℕ → Type 0
 HasNoSignature kind text = runs.LacksAll (HasLine kind) (IsNamedLine (signature_field kind)) state.Tree text complete
 
 -- the signature that a text has with what it signs, or none
-abbrev pub GivesSignature : Kind → List ℕ → Option (CowSlice ℕ × SignedData) → Type 0
+abbrev pub GivesSignature : Kind → List ℕ → Option (CowSlice ℕ Global × SignedData) → Type 0
 GivesSignature kind text (Some it) = HasSignature kind text (cow_slice_items it.0) (signed_bytes it.1)
 GivesSignature kind text None = HasNoSignature kind text
 

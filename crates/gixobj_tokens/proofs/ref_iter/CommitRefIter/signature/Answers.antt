@@ -4,7 +4,7 @@ use Rattle.gixobj_extra_headers.specs.ExtraHeaders.{signature_field}
 use Rattle.gixobj_lines.specs.Lines.{line_view}
 use Rattle.gixobj_tokens.specs.Extracting.{IsNamedLine}
 use Rattle.gixobj_tokens.proofs.Seeking.{ended, line_front, none_of, passes_on, place_on, refused, some_of}
-use Rattle.gixobj_tokens.proofs.ref_iter.signature.CommitRefIter.signature.Goals as goal
+use Rattle.gixobj_tokens.proofs.ref_iter.CommitRefIter.signature.Goals as goal
 
 pub overflow_sub-place : goal.overflow_sub-place
 overflow_sub-place c =

@@ -4,7 +4,7 @@ use Rattle.gixobj_fields.specs.Runs.{PassesNone}
 use Rattle.gixobj_lines.specs.Lines.{HasLine}
 use Rattle.gixobj_lines.specs.declared.lines.State.TheVariants as state
 use Rattle.gixobj_tokens.specs.Extracting.{IsNamedLine}
-use Rattle.gixobj_tokens.proofs.ref_iter.signature.CommitRefIter.signature.Given as goal
+use Rattle.gixobj_tokens.proofs.ref_iter.CommitRefIter.signature.Given as goal
 
 -- no line so far is a signature's, and what is left is the text from this place on
 abbrev pub invariant-lines : goal.invariant-lines
