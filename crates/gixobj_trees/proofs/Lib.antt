@@ -1,3 +1,4 @@
+pub mod EightBytes
 pub mod ModeTexts
 pub mod ModesBack
 pub mod NameKeys

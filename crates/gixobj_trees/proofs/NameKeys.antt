@@ -10,12 +10,12 @@ use Rattle.std.proofs.lemmas.List.Elements.{All-head, All-tail}
 use Rattle.gixobj_texts.specs.Parse.{IsFree}
 use Rattle.gixobj_trees.specs.Entries.{key_of, name_cmp, next_byte}
 
-then_assoc : (o p q : Ordering) → ordering_then (ordering_then o p) q ≡ ordering_then o (ordering_then p q)
+pub then_assoc : (o p q : Ordering) → ordering_then (ordering_then o p) q ≡ ordering_then o (ordering_then p q)
 then_assoc Less p q = refl
 then_assoc Equal p q = refl
 then_assoc Greater p q = refl
 
-decides : (o r : Ordering) → (o ≢ Equal) → o ≡ ordering_then o r
+pub decides : (o r : Ordering) → (o ≢ Equal) → o ≡ ordering_then o r
 decides Less r h = refl
 decides Equal r h = absurd (h refl)
 decides Greater r h = refl
@@ -24,14 +24,14 @@ decides Greater r h = refl
 abbrev at : ℕ → List ℕ → Bool → List ℕ → Bool → Ordering
 at n xs t ys u = ordering_then (slice_cmp nat_cmp (take n xs) (take n ys)) (option_cmp nat_cmp (next_byte (drop n xs) t) (next_byte (drop n ys) u))
 
-more : (x y : ℕ) (xs ys : List ℕ) (t u : Bool) (o : Ordering) → name_cmp xs t ys u ≡ o → name_cmp (x ∷ xs) t (y ∷ ys) u ≡ ordering_then (nat_cmp x y) o
+pub more : (x y : ℕ) (xs ys : List ℕ) (t u : Bool) (o : Ordering) → name_cmp xs t ys u ≡ o → name_cmp (x ∷ xs) t (y ∷ ys) u ≡ ordering_then (nat_cmp x y) o
 more x y xs ys t u o e =
     ap (λ n. at n (x ∷ xs) t (y ∷ ys) u) (suc-min-suc (length xs) (length ys)) ∙ then_assoc (nat_cmp x y) _ _ ∙ ap (ordering_then (nat_cmp x y)) e
 
-no_right : (x : ℕ) (xs : List ℕ) (t u : Bool) (o : Ordering) → option_cmp nat_cmp (Some x) (next_byte [] u) ≡ o → name_cmp (x ∷ xs) t [] u ≡ o
+pub no_right : (x : ℕ) (xs : List ℕ) (t u : Bool) (o : Ordering) → option_cmp nat_cmp (Some x) (next_byte [] u) ≡ o → name_cmp (x ∷ xs) t [] u ≡ o
 no_right x xs t u o e = ap (λ n. at n (x ∷ xs) t [] u) (min-zero (length (x ∷ xs))) ∙ e
 
-no_left : (y : ℕ) (ys : List ℕ) (t u : Bool) (o : Ordering) → option_cmp nat_cmp (next_byte [] t) (Some y) ≡ o → name_cmp [] t (y ∷ ys) u ≡ o
+pub no_left : (y : ℕ) (ys : List ℕ) (t u : Bool) (o : Ordering) → option_cmp nat_cmp (next_byte [] t) (Some y) ≡ o → name_cmp [] t (y ∷ ys) u ≡ o
 no_left y ys t u o e = ap (λ n. at n [] t (y ∷ ys) u) (zero-min (length (y ∷ ys))) ∙ e
 
 first_free : (x : ℕ) (xs : List ℕ) → IsFree 47 (x ∷ xs) → x ≢ 47

@@ -1,5 +1,6 @@
 //! The order of names in a tree (gitdatamodel, "trees").
-ghost use Rattle.std.specs.Prelude.{◌≡◌, length};
+ghost use Rattle.std.specs.Prelude.{◌≡◌, ◌≤◌, length, take};
+ghost use Rattle.std.specs.Int.{from_be_bytes, w64};
 ghost use Rattle.std.specs.Cmp.Lexicographic.{slice_cmp};
 ghost use Rattle.std.specs.Ordering.{nat_cmp};
 ghost use Rattle.gixobj_trees.specs.Entries.{key_of, name_cmp, next_byte};
@@ -17,13 +18,50 @@ pub fn name_order(left: &[u8], left_is_tree: bool, right: &[u8], right_is_tree: 
     ensures rule { result ≡ name_cmp left.now left_is_tree right.now right_is_tree }
     ensures by_keys { IsFree slash left.now → IsFree slash right.now → result ≡ slice_cmp nat_cmp (key_of left.now left_is_tree) (key_of right.now right_is_tree) }
 {
+    let mut rest = left;
+    let mut other_rest = right;
+    while rest.len() >= 8 && other_rest.len() >= 8 {
+        let front = eight_order(rest, other_rest);
+        if front.is_ne() {
+            return front;
+        }
+        rest = rest.split_at(8).1;
+        other_rest = other_rest.split_at(8).1;
+    }
+    short_order(rest, left_is_tree, other_rest, right_is_tree)
+}
+
+/// The order of the first eight bytes, which is that of the numbers that they spell.
+fn eight_order(left: &[u8], right: &[u8]) -> Ordering
+    requires left { 8 ≤ length left.now }
+    requires right { 8 ≤ length right.now }
+    ensures { result ≡ slice_cmp nat_cmp (take 8 left.now) (take 8 right.now) }
+{
+    first_eight(left).cmp(&first_eight(right))
+}
+
+/// The first eight bytes as a number, whose first digit in base 256 is the first byte.
+fn first_eight(name: &[u8]) -> u64
+    requires { 8 ≤ length name.now }
+    ensures { result ≡ from_be_bytes w64 (take 8 name.now) }
+{
+    u64::from_be_bytes([
+        name[0], name[1], name[2], name[3], name[4], name[5], name[6], name[7],
+    ])
+}
+
+/// As [`name_order`], byte by byte.
+fn short_order(left: &[u8], left_is_tree: bool, right: &[u8], right_is_tree: bool) -> Ordering
+    ensures { result ≡ name_cmp left.now left_is_tree right.now right_is_tree }
+{
     let common = left.len().min(right.len());
-    let (front, rest) = left.split_at(common);
-    let (other_front, other_rest) = right.split_at(common);
-    front.cmp(other_front).then(next_byte(rest, left_is_tree).cmp(&next_byte(
-        other_rest,
-        right_is_tree,
-    )))
+    let mut same = 0;
+    while same < common && left[same] == right[same] {
+        same += 1;
+    }
+    let rest = left.split_at(same).1;
+    let other_rest = right.split_at(same).1;
+    next_byte(rest, left_is_tree).cmp(&next_byte(other_rest, right_is_tree))
 }
 
 /// The order of the keys of two names, which have a `/` behind a tree's.
