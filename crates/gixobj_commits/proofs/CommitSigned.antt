@@ -1,5 +1,5 @@
 -- Commits that are signed, by what is signed of them.
-use Rattle.std.proofs.Common.{◌≡◌, ◌∙◌, ap, inr, refl, subst, Bool, true, false, cond, List, [], ◌∷◌, ℕ, map, IfErr, IfOk, Result, Ok, Err}
+use Rattle.std.proofs.Common.{◌≡◌, ◌∙◌, ap, inl, inr, refl, subst, Bool, true, false, cond, List, [], ◌∷◌, ℕ, map, IfErr, IfOk, Result, Ok, Err}
 use Rattle.std.specs.List.{filter}
 use Rattle.gixobj_commits.specs.CommitOwned.{IsOwnedForm}
 use Rattle.gixobj_commits.specs.CommitSigning.{GetsSignature, IsSigned, IsSignedCopy, RefusesSigning, RefusesSigningCopy, RefusesWriting, payload_of, with_last_header, without_headers}
@@ -12,8 +12,8 @@ use Rattle.gixobj_fields.specs.declared.encode.Error as encode
 use Rattle.gixobj_ids.specs.Hash.{id_kind}
 use Rattle.gixobj_lines.specs.Commit.{CommitLines}
 use Rattle.gixobj_runner.specs.Calls.{Answer, CallView}
-use Rattle.gixobj_runner.specs.Plans.{Begins, Carries, Plan, ask, done, no_more}
-use Rattle.gixobj_runner.specs.Signing.{options_view, sign_plan, signature}
+use Rattle.gixobj_runner.specs.Plans.{Begins, Carries, Goes, Plan, ask, done, no_more}
+use Rattle.gixobj_runner.specs.Signing.{options_view, sign_plan, signature, signer_refusal}
 use Rattle.gixobj_runner.specs.declared.signature.sign.Error.{Error}
 use Rattle.gixobj_runner.specs.declared.signature.sign.Error.TheVariants as sign
 use Rattle.gixobj_runner.specs.declared.signature.sign.Options.{Options}
@@ -54,6 +54,13 @@ module _ (commit other : Commit) (others : other ≡ record commit { extra_heade
     writable = subst RefusesNothing refuses_same writable;
   }
   signed runs options payload text writable old new (Err error) is = tt
+
+  -- a commit that can be written is refused for what came of the call
+  pub refused_signing : {S : Type 0} (runs : S → CallView → Answer → S → Type 0) (options : Options) (payload : List ℕ) → payload ≡ commit_text (owned_lines other) → RefusesNothing (RefusesOwned other) → (old new : S)
+      → (result : Result Commit Error) → IfErr result (λ error. Goes runs (sign_plan (options_view options) payload) old (signer_refusal error) new) → IfErr result (RefusesSigning runs options commit old new)
+  refused_signing runs options payload text writable old new (Ok it) why = tt
+  refused_signing runs options payload text writable old new (Err error) why =
+      inl (subst RefusesNothing refuses_same writable, subst (λ (signs : List ℕ). Goes runs (sign_plan (options_view options) signs) old (signer_refusal error) new) (text ∙ ap commit_text kept_lines) why)
 
   -- a commit that can't be written is refused before any call
   pub refused_unwritten : {S : Type 0} (runs : S → CallView → Answer → S → Type 0) (options : Options) (old : S) (cause : encode.Error)

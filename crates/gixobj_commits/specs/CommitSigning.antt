@@ -59,11 +59,11 @@ pub record IsSigned {S : Type 0} (runs : S → CallView → Answer → S → Typ
 abbrev pub RefusesWriting : Commit → List ℕ → encode.Error → Type 0
 RefusesWriting commit text cause = (before after : SinkView) × SaysWhy (RefusesOwned commit) before after text cause
 
--- why a commit isn't signed: what the signer answered; or it can't be written without its signatures, and no call was
--- made
+-- why a commit isn't signed: nothing of it is refused, and this comes of the signer's answer, or of no key; or it can't
+-- be written without its signatures, and no call was made
 abbrev pub RefusesSigning : {S : Type 0} → (S → CallView → Answer → S → Type 0) → Options → Commit → S → S → Error → Type 0
 RefusesSigning runs options commit old new error =
-    Goes runs (sign_plan (options_view options) (payload_of (id_kind commit.tree) (owned_lines commit))) old (signer_refusal error) new
+    (RefusesNothing (RefusesOwned commit) × Goes runs (sign_plan (options_view options) (payload_of (id_kind commit.tree) (owned_lines commit))) old (signer_refusal error) new)
     ⊎ ((cause : encode.Error) × (error ≡ sign.Encode cause)
     × RefusesWriting commit (payload_of (id_kind commit.tree) (owned_lines commit)) cause × (new ≡ old))
 

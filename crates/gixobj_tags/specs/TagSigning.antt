@@ -48,12 +48,13 @@ RefusesWriting tag cause = (before after : SinkView) × SaysWhy (RefusesOwned ta
 
 -- why a tag without signature has no payload: it can't be written, or memory is wanting for the newline behind it
 abbrev pub HasNoPayload : Tag → Error → Type 0
-HasNoPayload tag error = (error ≡ sign.OutOfMemory) ⊎ ((cause : encode.Error) × (error ≡ sign.Encode cause) × RefusesWriting tag cause)
+HasNoPayload tag error = (RefusesNothing (RefusesOwned tag) × (error ≡ sign.OutOfMemory)) ⊎ ((cause : encode.Error) × (error ≡ sign.Encode cause) × RefusesWriting tag cause)
 
--- why a tag isn't signed: what the signer answered; or it can't be written without its signature, and no call was made
+-- why a tag isn't signed: nothing of it is refused, and this comes of the signer's answer, or of no key; or it can't be
+-- written without its signature, and no call was made
 abbrev pub RefusesSigning : {S : Type 0} → (S → CallView → Answer → S → Type 0) → Options → Tag → S → S → Error → Type 0
 RefusesSigning runs options tag old new error =
-    Goes runs (sign_plan (options_view options) (payload_of (owned_lines tag))) old (signer_refusal error) new
+    (RefusesNothing (RefusesOwned tag) × Goes runs (sign_plan (options_view options) (payload_of (owned_lines tag))) old (signer_refusal error) new)
     ⊎ ((cause : encode.Error) × (error ≡ sign.Encode cause) × RefusesWriting (unsigned tag) cause × (new ≡ old))
 
 -- the same of a tag that is first made owned
