@@ -24,9 +24,11 @@ begins_at_once runs no_more s = refl
 pub refused_unwritten : {S : Type 0} (runs : S → CallView → Answer → S → Type 0) (options : Options) (tag without : Tag) → without ≡ unsigned tag → (old : S) (error : Error)
     → HasNoPayload without error → RefusesSigning runs options tag old old error
 refused_unwritten runs options tag without same old error (inl (writable, wants)) =
-    inl (subst (λ (of : Tag). RefusesNothing (RefusesOwned of)) same writable,
-    subst (λ (it : Error). Goes runs (sign_plan (options_view options) (payload_of (owned_lines tag))) old (signer_refusal it) old) (sym wants)
-    (begins_at_once runs (sign_plan (options_view options) (payload_of (owned_lines tag))) old))
+    inl (
+      subst (λ (of : Tag). RefusesNothing (RefusesOwned of)) same writable,
+      subst (λ (it : Error). Goes runs (sign_plan (options_view options) (payload_of (owned_lines tag))) old (signer_refusal it) old) (sym wants)
+          (begins_at_once runs (sign_plan (options_view options) (payload_of (owned_lines tag))) old),
+    )
 refused_unwritten runs options tag without same old error (inr (cause, is, why)) = inr (cause, is, subst (λ (it : Tag). RefusesWriting it cause) same why, refl)
 
 -- a tag gets the signature of its payload
@@ -48,9 +50,11 @@ pub refused_signing : {S : Type 0} (runs : S → CallView → Answer → S → T
     → IfErr result (λ error. Goes runs (sign_plan (options_view options) payload) old (signer_refusal error) new) → IfErr result (RefusesSigning runs options tag old new)
 refused_signing runs options tag without same payload text writable old new (Ok it) why = tt
 refused_signing runs options tag without same payload text writable old new (Err error) why =
-    inl (subst (λ (of : Tag). RefusesNothing (RefusesOwned of)) same writable,
-    subst (λ (signs : List ℕ). Goes runs (sign_plan (options_view options) signs) old (signer_refusal error) new)
-        (text ∙ ap (λ (of : Tag). tag_text (owned_lines of) ++ newline ∷ []) same) why)
+    inl (
+      subst (λ (of : Tag). RefusesNothing (RefusesOwned of)) same writable,
+      subst (λ (signs : List ℕ). Goes runs (sign_plan (options_view options) signs) old (signer_refusal error) new)
+          (text ∙ ap (λ (of : Tag). tag_text (owned_lines of) ++ newline ∷ []) same) why,
+    )
 
 -- what comes of signing a tag that was made owned
 module _ {S : Type 0} (runs : S → CallView → Answer → S → Type 0) (options : Options) (lines : TagLines) (tag : Tag) (owned : IsOwnedForm lines tag) (old new : S) where
