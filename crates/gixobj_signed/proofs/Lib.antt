@@ -1,4 +1,6 @@
 mod CommitsExtracted
 mod OwnedFields
 mod SignaturesFound
+mod SignersPayloads
+mod TagsAgree
 mod TagsExtracted

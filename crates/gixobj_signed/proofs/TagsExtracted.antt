@@ -33,7 +33,7 @@ starts_behind p more front is (inl none) = inl (nothing_behind p more (sym is �
 starts_behind p more front is (inr (lines, ends)) = starts_within p more lines (sym is ∙ ends)
 
 -- a marker behind a front marks a place of the rest
-marks_rest : (p bytes : List ℕ) (place : ℕ) (format : Format) → length p ≤ place → MarksPlace (p ++ bytes) place format → MarksPlace bytes (place - length p) format
+pub marks_rest : (p bytes : List ℕ) (place : ℕ) (format : Format) → length p ≤ place → MarksPlace (p ++ bytes) place format → MarksPlace bytes (place - length p) format
 marks_rest p bytes place format past it =
     let parts = cut p bytes it.front it.rest it.joined (omega (arith, it.as_long)) in
     record {
@@ -45,7 +45,7 @@ marks_rest p bytes place format past it =
       marked = it.marked;
     }
 
-same_fronts : (a b c d : List ℕ) → a ++ b ≡ c ++ d → length a ≡ length c → (a ≡ c) × (b ≡ d)
+pub same_fronts : (a b c d : List ℕ) → a ++ b ≡ c ++ d → length a ≡ length c → (a ≡ c) × (b ≡ d)
 same_fronts [] b [] d same long = (refl, same)
 same_fronts [] b (y ∷ c) d same long = absurd (omega arith)
 same_fronts (x ∷ a) b [] d same long = absurd (omega arith)

@@ -1,2 +1,4 @@
+pub mod Agreeing
 pub mod LineFields
 pub mod OneMarker
+pub mod SignedTexts

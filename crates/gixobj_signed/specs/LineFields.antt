@@ -1,8 +1,5 @@
 -- Commits whose fields of one line have no newline.
 use Rattle.std.specs.Prelude.{ℕ, List, All, Option, Some, None, ⊤}
-use Rattle.gixobj_actors.specs.Actor.{NamesActor}
-use Rattle.gixobj_actors.specs.ActorWriting.{owned_text}
-use Rattle.gixobj_actors.specs.declared.actor.Signature.{Signature}
 use Rattle.gixobj_lines.specs.Commit.{CommitLines}
 use Rattle.gixobj_texts.specs.Bytes.{newline}
 use Rattle.gixobj_texts.specs.Parse.{IsFree}
@@ -19,7 +16,3 @@ pub record HasLineFields (commit : CommitLines) : Type 0 where
   pub author : IsFree newline commit.author
   pub committer : IsFree newline commit.committer
   pub encoding : IsOneLine commit.encoding
-
--- what is written of an owned actor is an actor's line
-abbrev pub IsWritableActor : Signature → Type 0
-IsWritableActor actor = NamesActor (owned_text actor)

@@ -1,23 +1,36 @@
-//! Each function does nothing: its contract is the law.
-ghost use Rattle.std.specs.Prelude.{◌≡◌, ℕ, All, List, Some};
+//! Some of the functions sign, and their contract says what comes of it; the others do nothing, and their contract is the law.
+ghost use Rattle.std.specs.Prelude.{◌≡◌, ℕ, All, IfNone, IfOk, IfSome, List, Option, Some};
 ghost use Rattle.gixobj_commits.specs.CommitSigning.{payload_of, with_signature};
 ghost use Rattle.gixobj_commits.specs.CommitViews.{owned_lines};
-ghost use Rattle.gixobj_commits.specs.CommitWriting.{commit_text};
-ghost use Rattle.gixobj_commits.specs.declared.commit.Commit.{Commit};
+ghost use Rattle.gixobj_commits.specs.CommitWriting.{RefusesOwned, commit_text};
 ghost use Rattle.gixobj_fields.specs.HeaderText.{IsHeaderName};
-ghost use Rattle.gixobj_ids.specs.Hash.{IsId};
+ghost use Rattle.gixobj_fields.specs.Writing.{RefusesNothing};
+ghost use Rattle.gixobj_ids.specs.Hash.{id_kind};
 ghost use Rattle.gixobj_ids.specs.declared.decode.Error.TheVariants.{Malformed};
 ghost use Rattle.gixobj_ids.specs.declared.hash.kind.Kind.{Kind};
 ghost use Rattle.gixobj_lines.specs.Commit.{CommitLines, IsCommitText};
-ghost use Rattle.gixobj_signed.specs.LineFields.{HasLineFields, IsOneLine, IsWritableActor};
+ghost use Rattle.gixobj_signed.specs.Agreeing.{AreTheSame};
+ghost use Rattle.gixobj_signed.specs.LineFields.{HasLineFields};
 ghost use Rattle.gixobj_signed.specs.OneMarker.{HasOneMarker};
+ghost use Rattle.gixobj_signed.specs.SignedTexts.{CommitGivesPayload, TagGivesPayload};
+ghost use Rattle.gixobj_signing.specs.Markers.{HasNoMarker};
 ghost use Rattle.gixobj_signing.specs.declared.signature.Format.{Format};
+ghost use Rattle.gixobj_signing.specs.declared.signature.SignatureRef.{SignatureRef};
 ghost use Rattle.gixobj_tag_tokens.specs.TagExtracting as tags;
+ghost use Rattle.gixobj_tags.specs.Signed.{IsSignature};
 ghost use Rattle.gixobj_tags.specs.TagSigning as tag;
-ghost use Rattle.gixobj_tags.specs.TagText.{TagLines};
+ghost use Rattle.gixobj_tags.specs.TagText.{IsTagText, TagLines};
+ghost use Rattle.gixobj_tags.specs.TagViews as tag_views;
 ghost use Rattle.gixobj_tags.specs.TagWriting.{tag_text};
-ghost use Rattle.gixobj_texts.specs.Optional.{owned_bytes_if_some};
 ghost use Rattle.gixobj_tokens.specs.Extracting.{HasNoSignature, HasSignature, RefusesSignature};
+ghost use Rattle.gixobj_verifying.specs.declared.signature.SignedData.{SignedData};
+
+use crate::one_line::{actor_has_one_line, id_has_one_line, ids_have_one_line};
+use gixobj_commits::Commit;
+use gixobj_runner::signature::Runner;
+use gixobj_runner::signature::sign::{Error, Options};
+use gixobj_tags::Tag;
+use std::alloc::Global;
 
 /// What is found again in the text of a signed commit is what was signed, and a signature is found there. That needs
 /// no more than names of headers that may be, and fields without a newline. No fault is met before where the text is
@@ -34,12 +47,32 @@ pub fn commits_give_their_payloads()
         IsCommitText kind text read → ¬ RefusesSignature kind text Malformed }
 {}
 
-/// An owned commit of which nothing is refused has no newline in a field of one line.
-pub fn owned_commits_have_line_fields()
-    ensures { (commit : Commit) → IsId commit.tree → All IsId commit.parents.items →
-        IsWritableActor commit.author → IsWritableActor commit.committer →
-        IsOneLine (owned_bytes_if_some commit.encoding) → HasLineFields (owned_lines commit) }
-{}
+/// An owned commit of which its writer refuses nothing, as of each that is signed, has no newline in a field of one line.
+pub fn owned_commits_have_line_fields(commit: &Commit)
+    ensures { RefusesNothing (RefusesOwned commit.now) → HasLineFields (owned_lines commit.now) }
+{
+    id_has_one_line(&commit.tree);
+    ids_have_one_line(commit.parents.as_slice());
+    actor_has_one_line(&commit.author);
+    actor_has_one_line(&commit.committer);
+}
+
+/// Signs a commit, as [`Commit::sign`] does. Where its headers have names that may be, a signature is found in the text
+/// of the signed commit, and what it is then told to sign is what the signer got.
+pub fn signed_commit_gives_its_payload<R: Runner>(
+    alloc: Global,
+    commit: Commit,
+    options: Options,
+    runner: &mut R,
+) -> Result<Commit, Error>
+    ensures found { IfOk result (λ signed. All (λ header. IsHeaderName header.name) (owned_lines commit).extra_headers →
+        ¬ HasNoSignature (id_kind commit.tree) (commit_text (owned_lines signed))) }
+    ensures payload { IfOk result (λ signed. All (λ header. IsHeaderName header.name) (owned_lines commit).extra_headers →
+        CommitGivesPayload R.runs options (id_kind commit.tree) (commit_text (owned_lines signed)) runner.old runner.new) }
+{
+    owned_commits_have_line_fields(&commit);
+    commit.sign(alloc, options, runner)
+}
 
 /// What is found again in the text of a signed tag is what was signed, and the signer's text, where that begins with a
 /// marker and has no other at the start of a line.
@@ -47,4 +80,25 @@ pub fn tags_give_their_payloads()
     ensures { (lines : TagLines) (bytes signature signed : List ℕ) (format : Format) → HasOneMarker bytes →
         tags.HasSignature (tag_text (tag.signed_as (Some bytes) lines)) signature signed format →
         (signed ≡ tag.payload_of lines) × (signature ≡ bytes) }
+{}
+
+/// Signs a tag, as [`Tag::sign`] does. Where the signer's text begins with its one marker, what the text of the signed tag
+/// is then told to sign is what the signer got.
+pub fn signed_tag_gives_its_payload<R: Runner>(
+    alloc: Global,
+    tag: Tag,
+    options: Options,
+    runner: &mut R,
+) -> Result<Tag, Error>
+    ensures { IfOk result (λ signed.
+        TagGivesPayload R.runs options (tag_text (tag_views.owned_lines signed)) runner.old runner.new) }
+{
+    tag.sign(alloc, options, runner)
+}
+
+/// Of a tag that is read, its own signature and the one that is found in its text are the same.
+pub fn tag_signatures_agree()
+    ensures { (kind : Kind) (text : List ℕ) (lines : TagLines) (own : Option SignatureRef) (found : Option (SignatureRef × SignedData)) →
+        IsTagText kind text lines → IsSignature lines.signature own →
+        IfSome found (tags.GivesSignature text) → IfNone found (HasNoMarker text) → AreTheSame own found }
 {}

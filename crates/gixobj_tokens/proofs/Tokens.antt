@@ -5,7 +5,7 @@ use Rattle.std.specs.List.{AllZip}
 use Rattle.std.specs.Prelude.{codes}
 use Rattle.gixobj_actors.proofs.ActorLines.{one_actor}
 use Rattle.gixobj_fields.proofs.HeaderFields.{field_alone, of_an_id}
-use Rattle.gixobj_fields.specs.HeaderText.{HasField, HasHeader, Header, field_text}
+use Rattle.gixobj_fields.specs.HeaderText.{HasHeader, Header}
 use Rattle.gixobj_fields.specs.Runs.{complete, tells_end, tells_piece}
 use Rattle.gixobj_fields.specs.Runs as runs
 use Rattle.gixobj_ids.proofs.HexIds.{one_id, spelled}

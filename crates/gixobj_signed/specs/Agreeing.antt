@@ -1,0 +1,12 @@
+-- Signatures of tags, told in two ways.
+use Rattle.std.specs.Prelude.{◌≡◌, Option, Some, None, ⊤}
+use Rattle.bstr.specs.BStr.{bstr_bytes}
+use Rattle.gixobj_signing.specs.declared.signature.SignatureRef.{SignatureRef}
+use Rattle.gixobj_verifying.specs.declared.signature.SignedData.{SignedData}
+
+-- a tag's own signature and the one that is found in a text, with what it signs: both none, or the same bytes in the same format
+abbrev pub AreTheSame : Option SignatureRef → Option (SignatureRef × SignedData) → Type 0
+AreTheSame None None = ⊤
+AreTheSame None (Some found) = ⊥
+AreTheSame (Some own) None = ⊥
+AreTheSame (Some own) (Some found) = (bstr_bytes found.0.bytes ≡ bstr_bytes own.bytes) × (found.0.format ≡ own.format)
