@@ -7,7 +7,7 @@ use gixobj_ids::OutOfMemory;
 use gixobj_runner::signature::{Call, Output, RunError, Word};
 use std::alloc::Global;
 
-/// The program of all calls.
+/// The program of most calls.
 pub(crate) const PROGRAM: &[u8] = b"signer";
 
 /// What a runner says of each failure.
@@ -33,6 +33,8 @@ pub(crate) enum Told {
 /// A call that is expected, and what is told of it.
 #[derive(Clone, Copy)]
 pub(crate) struct Step {
+    /// The program.
+    pub(crate) program: &'static [u8],
     /// Its words, apart by spaces: `@0` and `@1` are files, `@time` is the time.
     pub(crate) words: &'static str,
     /// Whether answers in English are asked for.
@@ -74,7 +76,7 @@ pub(crate) fn runner_of(alloc: Global, steps: &[Step]) -> Result<Played, OutOfMe
 /// The call of a step.
 fn call_of(alloc: Global, step: &Step) -> Result<Call, OutOfMemory> {
     Ok(Call {
-        program: text(alloc, PROGRAM)?,
+        program: text(alloc, step.program)?,
         words: words_of(alloc, step.words)?,
         environment: environment_of(alloc, step.in_english)?,
         files: texts_of(alloc, step.files)?,
@@ -108,7 +110,7 @@ pub(crate) fn environment_of(
     in_english: bool,
 ) -> Result<Vec<(BString, BString)>, OutOfMemory> {
     let mut environment = Vec::new(alloc);
-    environment.push((text(alloc, b"HOME")?, text(alloc, b"/keys")?))?;
+    environment.push((text(alloc, b"HOME")?, text(alloc, b"keys")?))?;
     if in_english {
         environment.push((text(alloc, b"LANG")?, text(alloc, b"C")?))?;
         environment.push((text(alloc, b"LC_ALL")?, text(alloc, b"C")?))?;

@@ -1,10 +1,16 @@
-//! Tests of `gixobj_runner` and `gixobj_verifying`.
+//! Tests of `gixobj_runner` and `gixobj_verifying`, and of commits and tags that are signed.
 #![tactic(auto)]
 
 #[cfg(test)]
 mod calls;
+#[cfg(test)]
+mod commits;
+#[cfg(test)]
+mod objects;
 pub mod played;
 #[cfg(test)]
 mod signing;
+#[cfg(test)]
+mod tags;
 #[cfg(test)]
 mod verifying;

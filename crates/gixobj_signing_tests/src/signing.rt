@@ -17,7 +17,7 @@ enum Comes {
 }
 
 /// The confirmation of a signature.
-const CREATED: &[u8] = b"[GNUPG:] SIG_CREATED x\n";
+pub(crate) const CREATED: &[u8] = b"[GNUPG:] SIG_CREATED x\n";
 
 /// Signing by a program of OpenPGP or of X.509: what is told of its call, and what comes of it.
 const GPG: &[(Told, Comes)] = &[
@@ -82,8 +82,8 @@ const SSH: &[(Told, Comes)] = &[
 const KEYS: &[(&[u8], &str, &[&[u8]], usize)] = &[
     (b"K", "-x -Y sign -n git -f K @0", &[b"payload"], 0),
     (
-        b"/home/ssh-key",
-        "-x -Y sign -n git -f /home/ssh-key @0",
+        b"keys/ssh-signing",
+        "-x -Y sign -n git -f keys/ssh-signing @0",
         &[b"payload"],
         0,
     ),
@@ -121,6 +121,7 @@ fn options_of(alloc: Global, format: Format, key: &[u8]) -> Result<Options, OutO
 /// The call of a program of OpenPGP or of X.509, of which this is told.
 fn gpg_step(told: Told) -> Step {
     Step {
+        program: PROGRAM,
         words: "-x --status-fd=2 -bsau K",
         in_english: false,
         files: &[],
@@ -134,6 +135,7 @@ fn gpg_step(told: Told) -> Step {
 fn ssh_step(row: (&'static str, &'static [&'static [u8]], usize), told: Told) -> Step {
     let (words, files, asked) = row;
     Step {
+        program: PROGRAM,
         words,
         in_english: false,
         files,
@@ -161,7 +163,7 @@ fn comes_to(
 }
 
 /// The name of a refusal, where it has what it is to have.
-fn name_of(error: &Error) -> &'static str {
+pub(crate) fn name_of(error: &Error) -> &'static str {
     match error {
         Error::MissingSigningKey => "MissingSigningKey",
         Error::TemporaryFile(why) if why.as_bytes() == WHY => "TemporaryFile",

@@ -88,6 +88,10 @@ struct Row {
 const A: &str = "-x -Y verify -n git -f allowed -I A -s @0 @time -r revoked";
 
 const B: &str = "-x -Y verify -n git -f allowed -I B -s @0 @time -r revoked";
+/// The same for another principal.
+const FIXTURE: &str = "-x -Y verify -n git -f allowed -I fixture -s @0 @time -r revoked";
+/// What a program of SSH tells of a good signature of this principal.
+const GOOD_FIXTURE: &[u8] = b"Good \"git\" signature for fixture with ED25519 key SHA256:fixture\n";
 /// The same for bytes that are no UTF-8.
 const NO_UTF8: &str = "-x -Y verify -n git -f allowed -I \u{fffd} -s @0 @time -r revoked";
 
@@ -104,6 +108,12 @@ const ROWS: &[Row] = &[
         asked: &[(A, Told::Ran(false, GOOD_SSH, b"", None))],
         any: None,
         comes: "Good Fully - F F [..] not valid",
+    },
+    Row {
+        principals: Told::Ran(true, b"fixture\n", b"", None),
+        asked: &[(FIXTURE, Told::Ran(false, GOOD_FIXTURE, b"", None))],
+        any: None,
+        comes: "Good Fully - SHA256:fixture SHA256:fixture [..] not valid",
     },
     Row {
         principals: Told::Ran(false, b"A\n", b"", None),
@@ -211,6 +221,7 @@ fn options_of(
 /// The call of a program of OpenPGP, of which this is told.
 fn pgp_step(told: Told) -> Step {
     Step {
+        program: PROGRAM,
         words: "-x --keyid-format=long --status-fd=1 --verify @0 -",
         in_english: false,
         files: &[PGP],
@@ -223,6 +234,7 @@ fn pgp_step(told: Told) -> Step {
 /// The call of a program of X.509, of which this is told.
 fn x509_step(told: Told) -> Step {
     Step {
+        program: PROGRAM,
         words: "-x --status-fd=1 --verify @0 @1",
         in_english: false,
         files: &[X509, b"signed data"],
@@ -235,6 +247,7 @@ fn x509_step(told: Told) -> Step {
 /// A call of a program of SSH, of which this is told.
 fn ssh_step(words: &'static str, input: &'static [u8], told: Told) -> Step {
     Step {
+        program: PROGRAM,
         words,
         in_english: true,
         files: &[SSH],
