@@ -1,3 +1,4 @@
+mod Accepted
 mod Alone
 mod Commits
 mod Histories

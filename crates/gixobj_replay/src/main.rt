@@ -19,6 +19,7 @@ mod listed_trees;
 mod loose_objects;
 mod messages;
 mod objects;
+mod programs;
 mod recorded;
 mod reports;
 mod scripts;

@@ -150,7 +150,7 @@ fn level_word(level: TrustLevel) -> &'static str {
 }
 
 /// The level of a name.
-fn level_of(word: &[u8]) -> TrustLevel {
+pub(crate) fn level_of(word: &[u8]) -> TrustLevel {
     match word {
         b"Never" => TrustLevel::Never,
         b"Marginal" => TrustLevel::Marginal,
@@ -161,7 +161,7 @@ fn level_of(word: &[u8]) -> TrustLevel {
 }
 
 /// The format of a word.
-fn format_of(word: &[u8]) -> Format {
+pub(crate) fn format_of(word: &[u8]) -> Format {
     match word {
         b"X509" => Format::X509,
         b"Ssh" => Format::Ssh,

@@ -16,6 +16,7 @@ use crate::kinds::kind_answer;
 use crate::listed_trees::{listed_tree_answer, well_formed_answer};
 use crate::loose_objects::object_answer;
 use crate::messages::{body_answer, message_answer, named_answer};
+use crate::programs::program_answer;
 use crate::recorded::tables::{Recorded, behind_source, named_parts};
 use crate::reports::{gpg_report_answer, marker_answer, ssh_report_answer, trust_answer};
 use crate::scripts::{command_answer, script_answer};
@@ -77,6 +78,8 @@ pub(crate) enum Table {
     Markers,
     /// Signatures found, and what they sign.
     SignedData,
+    /// Objects that programs signed and verified.
+    Programs,
     /// Trees read whole and written.
     Trees,
     /// Trees told entry by entry.
@@ -155,6 +158,7 @@ pub(crate) const TABLES: &[Table] = &[
     Table::TrustLevels,
     Table::Markers,
     Table::SignedData,
+    Table::Programs,
     Table::Trees,
     Table::TreeTokens,
     Table::Objects,
@@ -209,6 +213,7 @@ impl Recorded for Table {
             Table::TrustLevels => ("trust levels", "trust-levels.tsv"),
             Table::Markers => ("markers", "markers.tsv"),
             Table::SignedData => ("signed data", "signed-data.tsv"),
+            Table::Programs => ("programs", "programs.tsv"),
             Table::Trees => ("trees", "trees.tsv"),
             Table::TreeTokens => ("tree tokens", "tree-tokens.tsv"),
             Table::Objects => ("objects", "objects.tsv"),
@@ -261,6 +266,7 @@ impl Recorded for Table {
             Table::TrustLevels => trust_answer(alloc, question),
             Table::Markers => marker_answer(alloc, question),
             Table::SignedData => signed_data_answer(alloc, question),
+            Table::Programs => program_answer(alloc, question),
             Table::Trees => tree_answer(alloc, question),
             Table::TreeTokens => tree_token_answer(alloc, question),
             Table::Objects => object_answer(alloc, question),
@@ -290,9 +296,11 @@ impl Recorded for Table {
     fn parts<'a>(self, line: &'a [u8]) -> Option<(&'a [u8], &'a [u8])> {
         match self {
             Table::NameOrder => split_at_last_byte(line, b'\t'),
-            Table::NearNames | Table::Commands | Table::Scripts | Table::RandomScripts => {
-                split_at_last_byte(behind_source(line)?, b'\t')
-            }
+            Table::Programs
+            | Table::NearNames
+            | Table::Commands
+            | Table::Scripts
+            | Table::RandomScripts => split_at_last_byte(behind_source(line)?, b'\t'),
             Table::Modes
             | Table::ModeNumbers
             | Table::LooseHeaders
