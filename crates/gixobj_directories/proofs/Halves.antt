@@ -4,10 +4,11 @@ use mathlib.Core.Bool.{true≢false}
 use Rattle.std.specs.Cmp.Lexicographic.{slice_cmp}
 use Rattle.std.specs.List.{find, position, position_or_len, prefix_len, slice_get}
 use Rattle.std.specs.List.Sorted.{IsBinarySearchResult, IsSearchInRange, IsSortedBy}
-use Rattle.std.specs.Ordering.{is_eq, is_lt, nat_cmp, ordering_reverse}
+use Rattle.std.specs.Ordering.{is_eq, is_gt, is_lt, nat_cmp, ordering_reverse}
 use Rattle.std.proofs.lemmas.Bool.{le-ltb, lt-ltb, ltb-false}
 use Rattle.std.proofs.lemmas.Bool.Decides.{leb_tells}
 use Rattle.std.proofs.lemmas.Cmp.{nat_list_cmp_total, tied_itself}
+use Rattle.std.proofs.lemmas.List.{get_or_default}
 use Rattle.std.proofs.lemmas.List.Elements.{All-from_recursion}
 use Rattle.std.proofs.lemmas.List.Folds.{find_at}
 use Rattle.std.proofs.lemmas.List.Quantifiers.{position-Some}
@@ -69,6 +70,16 @@ less_only o is tie = true≢false (ap is_lt (sym is ∙ tie))
 greater_only : (o : Ordering) → o ≡ Greater → o ≢ Equal
 greater_only o is tie = true≢false (ap is_eq (sym tie ∙ is))
 
+pub lt_is : (o : Ordering) → is_lt o ≡ true → o ≡ Less
+lt_is Less h = refl
+lt_is Equal h = absurd (true≢false (sym h))
+lt_is Greater h = absurd (true≢false (sym h))
+
+pub gt_is : (o : Ordering) → true ≡ is_gt o → o ≡ Greater
+gt_is Less h = absurd (true≢false h)
+gt_is Equal h = absurd (true≢false h)
+gt_is Greater h = refl
+
 pub tied_keys : (key sought : List ℕ) → key ≡ sought → slice_cmp nat_cmp key sought ≡ Equal
 tied_keys key sought is = rw is (tied_itself nat_list_cmp_total sought)
 
@@ -90,6 +101,43 @@ module _ {X : Type 0} (key : X → List ℕ) where
 
   pub halved_key : (xs : List X) (sought : List ℕ) (i : ℕ) (d : X) → HoldsAt (λ x. compared sought x ≡ Equal) xs i → key (get_or xs i d) ≡ sought
   halved_key xs sought i d held = same_key (key (get_or xs i d)) sought (held d)
+
+  -- where one element is below what is sought, so are those in front of it; where one is above it, those behind it
+  pub less_to : (xs : List X) → Ascends xs → (sought : List ℕ) (m : ℕ) → m < length xs → HoldsAt (λ x. compared sought x ≡ Less) xs m → (k : ℕ) (d : X) → k ≤ m → compared sought (get_or xs k d) ≡ Less
+  less_to xs up sought m low is k d to_m =
+      elim (leb_tells m k) [
+        | inl same ↦ subst (λ (i : ℕ). compared sought (get_or xs i d) ≡ Less) (omega (arith, same.1, to_m)) (is d)
+        | inr ahead ↦ nat_list_cmp_total.trans (key (get_or xs k d)) (key (get_or xs m d)) sought (later_at (λ x y. slice_cmp nat_cmp (key x) (key y) ≡ Less) xs up k m d ahead.1 low) (is d)
+      ]
+
+  pub greater_from : (xs : List X) → Ascends xs → (sought : List ℕ) (m : ℕ) → HoldsAt (λ x. compared sought x ≡ Greater) xs m
+      → (k : ℕ) (d : X) → m ≤ k → k < length xs → compared sought (get_or xs k d) ≡ Greater
+  greater_from xs up sought m is k d from_m low =
+      elim (leb_tells k m) [
+        | inl same ↦ subst (λ (i : ℕ). compared sought (get_or xs i d) ≡ Greater) (omega (arith, same.1, from_m)) (is d)
+        | inr ahead ↦
+            let above : slice_cmp nat_cmp sought (key (get_or xs m d)) ≡ Less = nat_list_cmp_total.antisymm sought (key (get_or xs m d)) ∙ ap ordering_reverse (is d) in
+            let next : slice_cmp nat_cmp (key (get_or xs m d)) (key (get_or xs k d)) ≡ Less = later_at (λ x y. slice_cmp nat_cmp (key x) (key y) ≡ Less) xs up m k d ahead.1 low in
+            nat_list_cmp_total.antisymm (key (get_or xs k d)) sought ∙ ap ordering_reverse (nat_list_cmp_total.trans sought (key (get_or xs m d)) (key (get_or xs k d)) above next)
+      ]
+
+  -- how an element compares that is looked at
+  pub looked : (xs : List X) (sought : List ℕ) (i : ℕ) (x : X) → i < length xs → x ≡ get_or xs i x → (o : Ordering) → compared sought x ≡ o → HoldsAt (λ y. compared sought y ≡ o) xs i
+  looked xs sought i x low is o told = λ d. subst (λ (y : X). compared sought y ≡ o) (is ∙ get_or_default xs i x d low) told
+
+  -- what is sought can stand at these places alone
+  pub record IsNarrowed (xs : List X) (sought : List ℕ) (low high : ℕ) : Type 0 where
+    pub front : (k : ℕ) (d : X) → k < low → compared sought (get_or xs k d) ≡ Less
+    pub back : (k : ℕ) (d : X) → high ≤ k → k < length xs → compared sought (get_or xs k d) ≡ Greater
+
+  pub narrowed_up : (xs : List X) → Ascends xs → (sought : List ℕ) (low high m : ℕ) → m < length xs → HoldsAt (λ x. compared sought x ≡ Less) xs m → IsNarrowed xs sought low high → IsNarrowed xs sought (m + 1) high
+  narrowed_up xs up sought low high m within is narrowed = record { front = λ k d l. less_to xs up sought m within is k d (omega (arith, l)); back = narrowed.back }
+
+  pub narrowed_down : (xs : List X) → Ascends xs → (sought : List ℕ) (low high m : ℕ) → HoldsAt (λ x. compared sought x ≡ Greater) xs m → IsNarrowed xs sought low high → IsNarrowed xs sought low m
+  narrowed_down xs up sought low high m is narrowed = record { front = narrowed.front; back = λ k d from_m l. greater_from xs up sought m is k d from_m l }
+
+  pub narrowed_none : (xs : List X) (sought : List ℕ) (i : ℕ) → IsNarrowed xs sought i i → IsBinarySearchResult (compared sought) xs (Err i)
+  narrowed_none xs sought i narrowed = λ rising. ((λ k d a b. narrowed.front k d b), narrowed.back)
 
   pub halved_none : (xs : List X) → Ascends xs → (sought : List ℕ) (i : ℕ) → IsBinarySearchResult (compared sought) xs (Err i) → (k : ℕ) (d : X) → k < length xs → key (get_or xs k d) ≢ sought
   halved_none xs up sought i is k d low same =

@@ -10,6 +10,7 @@ pub mod NamedTrees
 pub mod OpeningSteps
 pub mod Ordered
 pub mod OwnTrees
+pub mod Replacing
 pub mod SameTrees
 pub mod Steps
 pub mod StorablePairs

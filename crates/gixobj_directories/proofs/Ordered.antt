@@ -16,15 +16,10 @@ use Rattle.gixobj_trees.proofs.WellFormed.{same_key}
 use Rattle.gixobj_trees.specs.Entries.{EachLater, EntryView, key_of}
 use Rattle.gixobj_directories.specs.declared.open.Child.{Child}
 use Rattle.gixobj_directories.specs.Nested.{AreOrdered, IsLevel, Part, is_child_before, is_part_before, part, part_key, parts, with_part}
-use Rattle.gixobj_directories.proofs.Halves.{Ascends, compared, first, halved_key, halved_none, halved_place, later_at, position_at, position_none, tied_keys}
+use Rattle.gixobj_directories.proofs.Halves.{Ascends, compared, first, halved_key, halved_none, halved_place, later_at, lt_is, position_at, position_none, tied_keys}
 
 abbrev pub Before : Part → Part → Type 0
 Before p q = slice_cmp nat_cmp (part_key p) (part_key q) ≡ Less
-
-lt_is : (o : Ordering) → is_lt o ≡ true → o ≡ Less
-lt_is Less h = refl
-lt_is Equal h = absurd (true≢false (sym h))
-lt_is Greater h = absurd (true≢false (sym h))
 
 -- a key has one name
 same_part : (p q : Part) → slice_cmp nat_cmp (part_key p) (part_key q) ≡ Equal → p.0 ≡ q.0
@@ -76,7 +71,7 @@ inserted (c ∷ cs) child =
 abbrev pub child_key : Child → List ℕ
 child_key c = key_of (bstring_bytes c.name) true
 
-ascends_of : (cs : List Child) → AreOrdered (parts cs) → Ascends child_key cs
+pub ascends_of : (cs : List Child) → AreOrdered (parts cs) → Ascends child_key cs
 ascends_of [] up = tt
 ascends_of (c ∷ cs) up = (each cs up.0, ascends_of cs up.1)
   where

@@ -1,13 +1,14 @@
 //! The entries of a directory: one put in, one taken out, and copies.
 ghost use Rattle.std.specs.Prelude.{◌≡◌, ◌≢◌, ◌≤◌, ◌<◌, IfOk, not, vec_len, vec_capacity};
 ghost use Rattle.std.specs.List.{position, prefix_len};
-ghost use Rattle.gixobj_trees.specs.Entries.{EachLater, IsEntryName, IsWellFormed};
+ghost use Rattle.gixobj_trees.specs.Entries.{EachLater, IsEntryName, IsWellFormed, entry_key};
+ghost use Rattle.gixobj_trees.specs.WellFormed.{HasKey};
 ghost use Rattle.gixobj_texts.specs.Parse.{IsFree};
 ghost use Rattle.gixobj_texts.specs.Bytes.{slash};
 ghost use Rattle.gixobj_files.specs.Editing.{comes_before, kept, same_name, with_entry, without};
 ghost use Rattle.gixobj_files.specs.Files.{is_null};
 
-use crate::places::{place_by_key, take_named};
+use crate::places::{directory_behind, file_in_front, place_by_key};
 use bstr::BString;
 use gixobj_trees::tree::Entry;
 use std::alloc::{AllocError, Global};
@@ -22,9 +23,56 @@ pub fn put(entries: &mut Vec<Entry>, entry: Entry)
     requires name { IsEntryName entry.name }
     ensures items { entries.new.items ≡ with_entry entry entries.old.items }
 {
-    take_named(entries, entry.filename.as_bytes());
-    let place = place_for(entries, &entry);
-    let _ = entries.insert(place, entry);
+    match place_by_key(entries, entry.filename.as_bytes(), entry.mode.is_tree()) {
+        Ok(place) => {
+            entries[place] = entry;
+        }
+        Err(place) => {
+            let place = place_among_others(entries, &entry, place);
+            let _ = entries.insert(place, entry);
+        }
+    }
+}
+
+/// Takes the entry of this one's name out, if there is one, and answers where this one stands among the others. No
+/// entry has this one's key, and where this one would stand as yet is known.
+///
+/// It takes no memory, and the list keeps the room that it has.
+fn place_among_others(entries: &mut Vec<Entry>, entry: &Entry, place: usize) -> usize
+    requires well_formed { IsWellFormed entries.old.items }
+    requires name { IsFree slash entry.now.name }
+    requires none { HasKey entries.old.items (entry_key entry.now) → ⊥ }
+    requires place { place ≡ prefix_len (λ e. comes_before e entry.now) entries.old.items }
+    ensures items { entries.new.items ≡ without entry.now.name entries.old.items }
+    ensures place { result ≡ prefix_len (λ e. comes_before e entry.now) entries.new.items }
+    ensures within { result ≤ vec_len entries.new }
+    ensures room { vec_capacity entries.new ≡ vec_capacity entries.old }
+    ensures len { vec_len entries.new ≤ vec_len entries.old }
+{
+    match place_of_other(entries, entry, place) {
+        None => place,
+        Some(other) => {
+            entries.remove(other);
+            place_for(entries, entry)
+        }
+    }
+}
+
+/// The place of the entry of this one's name, if there is one, where no entry has this one's key, and where this one
+/// would stand is known.
+fn place_of_other(entries: &[Entry], entry: &Entry, place: usize) -> Option<usize>
+    requires well_formed { IsWellFormed entries.now }
+    requires name { IsFree slash entry.now.name }
+    requires none { HasKey entries.now (entry_key entry.now) → ⊥ }
+    requires place { place ≡ prefix_len (λ e. comes_before e entry.now) entries.now }
+    ensures { result ≡ position (λ e. same_name e.name entry.now.name) entries.now }
+{
+    let name = entry.filename.as_bytes();
+    if entry.mode.is_tree() {
+        file_in_front(entries, name, place)
+    } else {
+        directory_behind(entries, name, place)
+    }
 }
 
 /// Takes the entry of a name out, if there is one. The others stay as they stand.

@@ -3,10 +3,12 @@ ghost use Rattle.std.specs.Prelude.{◌≡◌, ◌<◌, true, false, IfNone, IfS
 ghost use Rattle.std.specs.List.{AllByRecursion, find, position, prefix_len};
 ghost use Rattle.std.specs.Option.{option_copied};
 ghost use Rattle.std.specs.Result.{result_ok};
+ghost use Rattle.std.specs.Cmp.Lexicographic.{slice_cmp};
+ghost use Rattle.std.specs.Ordering.{nat_cmp};
 ghost use Rattle.bstr.specs.Owned.{bstring_bytes};
 ghost use Rattle.gixobj_texts.specs.Bytes.{slash};
 ghost use Rattle.gixobj_texts.specs.Parse.{IsFree};
-ghost use Rattle.gixobj_trees.specs.Entries.{EntryView, IsEntryName, IsWellFormed};
+ghost use Rattle.gixobj_trees.specs.Entries.{EntryView, IsEntryName, IsWellFormed, key_of};
 ghost use Rattle.gixobj_trees.specs.Mode.{is_tree_mode, mode_bits};
 ghost use Rattle.gixobj_files.specs.Editing.{has_tree, same_name, with_entry, without};
 ghost use Rattle.gixobj_files.specs.Edits.{IsEntryOf, entry_at, removed_dirs, upserted_dirs, with_directory};
@@ -16,13 +18,14 @@ ghost use Rattle.gixobj_directories.specs.Nested.{AreOrdered, bases_of, dirs_of,
 ghost use Rattle.gixobj_files.specs.Bases.{edited_bases};
 
 use crate::entries::{copies, put};
-use crate::places::{place_by_key, place_of, take_named};
+use crate::places::{first_look, place_by_key, place_of, take_named};
 use bstr::BString;
 use gixobj_ids::hash::ObjectId;
 use gixobj_trees::Tree;
 use gixobj_trees::tree::order::key_order;
 use gixobj_trees::tree::{Entry, EntryKind, EntryMode};
 use std::alloc::{AllocError, Global};
+use std::cmp::Ordering;
 use std::marker::Model;
 
 /// An open directory: its tree, the tree that it was opened with, and the open directories in it.
@@ -83,10 +86,28 @@ fn child_place(children: &[Child], name: &BString) -> Result<usize, usize>
         (λ i. i ≡ prefix_len (is_child_before (bstring_bytes name.now)) children.now)
         (λ i. i ≡ prefix_len (is_child_before (bstring_bytes name.now)) children.now) }
 {
-    children.binary_search_by(|child| key_order(child.name.as_bytes(), true, name.as_bytes(), true))
+    let mut low = 0;
+    let mut high = children.len();
+    let mut middle = first_look(high);
+    while low < high {
+        match children[middle].order(name) {
+            Ordering::Less => low = middle + 1,
+            Ordering::Equal => return Ok(middle),
+            Ordering::Greater => high = middle,
+        }
+        middle = low + (high - low) / 2;
+    }
+    Err(low)
 }
 
 impl Child {
+    /// The order of its entry and that of a directory of this name.
+    fn order(&self, name: &BString) -> Ordering
+        ensures { result ≡ slice_cmp nat_cmp (key_of (bstring_bytes self.now.name) true) (key_of (bstring_bytes name.now) true) }
+    {
+        key_order(self.name.as_bytes(), true, name.as_bytes(), true)
+    }
+
     /// Whether it has this name.
     pub(crate) fn is_named(&self, name: &BString) -> bool
         ensures { result ≡ same_name (bstring_bytes self.now.name) (bstring_bytes name.now) }

@@ -1,18 +1,66 @@
--- The search by halves asks how each directory's key compares with the name's.
-use Rattle.std.proofs.Common.{rules}
-use Rattle.std.proofs.lemmas.Fn.{always_returns_same}
+-- Each look at a directory narrows the places where that of the name can stand.
+use Rattle.std.proofs.Common.{◌≡◌, ◌∙◌, ◌<◌, ◌≤◌, HoldsAt, Less, Equal, Greater, Ordering, Ok, Err, length, sym, subst, true, arith}
+use Rattle.std.specs.List.Sorted.{IsBinarySearchResult}
 use Rattle.bstr.specs.Owned.{bstring_bytes}
-use Rattle.gixobj_directories.proofs.Ordered.{by_key, child_before, child_found}
+use Rattle.gixobj_trees.specs.Entries.{key_of}
+use Rattle.gixobj_directories.proofs.Halves.{IsNarrowed, compared, looked, narrowed_down, narrowed_none, narrowed_up}
+use Rattle.gixobj_directories.proofs.Ordered.{ascends_of, child_before, child_found, child_key}
+use Rattle.gixobj_directories.proofs.open.child_place.Goals.{in-Less, in-Greater}
 use Rattle.gixobj_directories.proofs.open.child_place.Goals as goal
 
-pub returns : goal.returns
-returns c =
+pub loop-low-preserved : goal.loop-low-preserved
+loop-low-preserved c =
     let cs = c.args.children.now in
-    let name = bstring_bytes c.args.name.now in
-    let r = c.binary_search_by.result in
-    let range = c.binary_search_by.ensures.bound in
-    let held = c.binary_search_by.ensures.position (by_key cs c.requires name) (always_returns_same _ _ _ (λ a r f k. search rules)) in
-    record {
-      found = child_found cs c.requires name r range held;
-      place = child_before cs c.requires name r range held;
-    }
+    let up = ascends_of cs c.requires in
+    let key = key_of (bstring_bytes c.args.name.now) true in
+    let before = c.loop-low.invariant in
+    let m = c.loop-low.middle in
+    let next = before.next c.loop-low-test.true in
+    let within : m < length cs = omega (arith, next.1, before.within) in
+    let look : (o : Ordering) → c.order.result ≡ o → HoldsAt (λ x. compared child_key key x ≡ o) cs m = λ o is.
+    looked child_key cs key m c.index-children-middle.result within c.index-children-middle.is o (sym c.order.ensures ∙ is) in
+    elim c.match-order.branch [
+      | in-Less w ↦ record {
+        ordered = omega (arith, next, w.low-is, w.high-is);
+        within = omega (arith, before.within, w.high-is);
+        next = λ left. (omega arith, omega (arith, left));
+        narrowed = rw (w.low-is, w.high-is) (narrowed_up child_key cs up key c.loop-low.low c.loop-low.high m within (look Less w.in-Less.is) before.narrowed);
+      }
+      | in-Greater w ↦ record {
+        ordered = omega (arith, next, w.low-is, w.high-is);
+        within = omega (arith, within, w.high-is);
+        next = λ left. (omega arith, omega (arith, left));
+        narrowed = rw (w.low-is, w.high-is) (narrowed_down child_key cs up key c.loop-low.low c.loop-low.high m (look Greater w.in-Greater.is) before.narrowed);
+      }
+    ]
+
+-- found
+within : (c : goal.In-Equal) → c.loop-low.middle < length c.args.children.now
+within c = let next = c.loop-low.invariant.next c.loop-low-test.true in omega (arith, next, c.loop-low.invariant.within)
+
+here : (c : goal.In-Equal) → IsBinarySearchResult (compared child_key (key_of (bstring_bytes c.args.name.now) true)) c.args.children.now (Ok c.loop-low.middle)
+here c =
+    looked child_key c.args.children.now (key_of (bstring_bytes c.args.name.now) true) c.loop-low.middle c.index-children-middle.result (within c) c.index-children-middle.is Equal
+    (sym c.order.ensures ∙ c.in-Equal.is)
+
+pub returns-in-Equal-clause-found : goal.returns-in-Equal-clause-found
+returns-in-Equal-clause-found c = child_found c.args.children.now c.requires (bstring_bytes c.args.name.now) (Ok c.loop-low.middle) (within c) (here c)
+
+pub returns-in-Equal-clause-place : goal.returns-in-Equal-clause-place
+returns-in-Equal-clause-place c = child_before c.args.children.now c.requires (bstring_bytes c.args.name.now) (Ok c.loop-low.middle) (within c) (here c)
+
+-- not found
+up_to : (c : goal.After-loop-low) → c.loop-low.low ≤ length c.args.children.now
+up_to c = omega (arith, c.loop-low.invariant.ordered, c.loop-low.invariant.within)
+
+nowhere : (c : goal.After-loop-low) → IsBinarySearchResult (compared child_key (key_of (bstring_bytes c.args.name.now) true)) c.args.children.now (Err c.loop-low.low)
+nowhere c =
+    let key = key_of (bstring_bytes c.args.name.now) true in
+    narrowed_none child_key c.args.children.now key c.loop-low.low
+    (subst (IsNarrowed child_key c.args.children.now key c.loop-low.low) (omega (arith, c.loop-low-test.false, c.loop-low.invariant.ordered)) c.loop-low.invariant.narrowed)
+
+pub returns-clause-found : goal.returns-clause-found
+returns-clause-found c = child_found c.args.children.now c.requires (bstring_bytes c.args.name.now) (Err c.loop-low.low) (up_to c) (nowhere c)
+
+pub returns-clause-place : goal.returns-clause-place
+returns-clause-place c = child_before c.args.children.now c.requires (bstring_bytes c.args.name.now) (Err c.loop-low.low) (up_to c) (nowhere c)
