@@ -5,8 +5,8 @@ use crate::objects::{Comes, Row, gpg, is_so, runner_of_row};
 use crate::signing::CREATED;
 use gixobj_commits::{Commit, CommitRef};
 use gixobj_fields::WriteTo;
-use gixobj_ids::decode;
 use gixobj_ids::hash::Kind::{self, Sha1, Sha256};
+use gixobj_ids::{OutOfMemory, decode};
 use gixobj_runner::signature::sign::Error;
 use gixobj_tokens::CommitRefIter;
 use std::alloc::Global;
@@ -177,7 +177,7 @@ fn is_signed(alloc: Global, row: &Row) -> Result<bool, Fail> {
     let mut runner = runner_of_row(alloc, row)?;
     let commit = CommitRef::from_bytes(alloc, row.text, row.hash)?.into_owned(alloc)?;
     let came = commit.sign(alloc, gpg(alloc, row.key)?, &mut runner);
-    Ok(is_so(&text_of(alloc, came), row.comes, &runner))
+    Ok(is_so(&text_of(alloc, came), row.comes, &runner)?)
 }
 
 /// The same of the commit as it was read.
@@ -185,7 +185,7 @@ fn is_read_and_signed(alloc: Global, row: &Row) -> Result<bool, Fail> {
     let mut runner = runner_of_row(alloc, row)?;
     let commit = CommitRef::from_bytes(alloc, row.text, row.hash)?;
     let came = commit.sign(alloc, gpg(alloc, row.key)?, &mut runner);
-    Ok(is_so(&text_of(alloc, came), row.comes, &runner))
+    Ok(is_so(&text_of(alloc, came), row.comes, &runner)?)
 }
 
 #[test]
@@ -214,7 +214,7 @@ fn not_made_owned(rt: HostRuntime) -> Result<(), Fail> {
     let mut commit = CommitRef::from_bytes(alloc, PLAIN, Sha1)?;
     commit.author = commit.tree;
     let came = commit.sign(alloc, gpg(alloc, b"")?, &mut runner);
-    assert!(rt; is_so(&text_of(alloc, came), row.comes, &runner));
+    assert!(rt; is_so(&text_of(alloc, came), row.comes, &runner)?);
     Ok(())
 }
 
@@ -264,17 +264,19 @@ fn first_signatures(rt: HostRuntime) -> Result<(), Fail> {
 }
 
 /// Whether no signature is told of a text, since a line before any is none that may come there.
-fn is_refused(alloc: Global, text: &[u8], hash: Kind) -> bool {
-    matches!(
-        &CommitRefIter::signature(alloc, text, hash),
-        Err(decode::Error::Malformed)
-    )
+fn is_refused(alloc: Global, text: &[u8], hash: Kind) -> Result<bool, OutOfMemory> {
+    match &CommitRefIter::signature(alloc, text, hash) {
+        Err(decode::Error::Malformed) => Ok(true),
+        Err(decode::Error::OutOfMemory) => Err(OutOfMemory),
+        Ok(_) => Ok(false),
+    }
 }
 
 #[test]
-fn broken_lines(rt: HostRuntime) {
-    assert!(rt; is_refused(rt.alloc(), &SIGNED[..94], Sha1));
-    assert!(rt; is_refused(rt.alloc(), &SIGNED[..106], Sha1));
-    assert!(rt; is_refused(rt.alloc(), SIGNED, Sha256));
-    assert!(rt; is_refused(rt.alloc(), b"gpgsig A\n", Sha1));
+fn broken_lines(rt: HostRuntime) -> Result<(), Fail> {
+    assert!(rt; is_refused(rt.alloc(), &SIGNED[..94], Sha1)?);
+    assert!(rt; is_refused(rt.alloc(), &SIGNED[..106], Sha1)?);
+    assert!(rt; is_refused(rt.alloc(), SIGNED, Sha256)?);
+    assert!(rt; is_refused(rt.alloc(), b"gpgsig A\n", Sha1)?);
+    Ok(())
 }

@@ -63,13 +63,30 @@ pub(crate) fn runner_of_row(alloc: Global, row: &Row) -> Result<Played, OutOfMem
 }
 
 /// Whether this came, a text or a refusal, by all calls that were expected.
-pub(crate) fn is_so(came: &Result<Vec<u8>, Error>, comes: Comes, runner: &Played) -> bool {
+///
+/// `OutOfMemory` where memory was wanting for it.
+pub(crate) fn is_so(
+    came: &Result<Vec<u8>, Error>,
+    comes: Comes,
+    runner: &Played,
+) -> Result<bool, OutOfMemory> {
     let is_so = match (came, comes) {
         (Ok(text), Comes::Text(expected)) => text.as_slice() == expected,
+        (Err(error), _) if wants_memory(error) => return Err(OutOfMemory),
         (Err(error), Comes::Refused(expected)) => name_of_all(error) == expected,
         _ => false,
     };
-    is_so && runner.steps.is_empty()
+    Ok(is_so && runner.steps.is_empty())
+}
+
+/// Whether a growth was refused: of an owned form, of the written text, or by a signer.
+fn wants_memory(error: &Error) -> bool {
+    matches!(
+        error,
+        Error::Decode(decode::Error::OutOfMemory)
+            | Error::Encode(encode::Error::Writer(_) | encode::Error::OutOfMemory)
+            | Error::OutOfMemory
+    )
 }
 
 /// The name of a refusal, with that of its cause where no call was made.

@@ -146,6 +146,8 @@ fn ssh_step(row: (&'static str, &'static [&'static [u8]], usize), told: Told) ->
 }
 
 /// Whether signing comes to this, by exactly these calls.
+///
+/// `OutOfMemory` where memory was wanting for it, and that wasn't what a runner told.
 fn comes_to(
     alloc: Global,
     options: Options,
@@ -154,9 +156,10 @@ fn comes_to(
 ) -> Result<bool, OutOfMemory> {
     let mut runner = runner_of(alloc, steps)?;
     let signed = sign_payload(alloc, b"payload", options, &mut runner);
-    let is_so = match (signed, comes) {
+    let is_so = match (&signed, comes) {
         (Ok(signature), Comes::Signature(expected)) => signature.as_bytes() == expected,
-        (Err(error), Comes::Refused(name)) => name_of(&error) == name,
+        (Err(error), Comes::Refused(name)) if name_of(error) == name => true,
+        (Err(Error::OutOfMemory), _) => return Err(OutOfMemory),
         _ => false,
     };
     Ok(is_so && runner.steps.is_empty())

@@ -156,7 +156,7 @@ fn is_signed(alloc: Global, row: &Row) -> Result<bool, Fail> {
     let mut runner = runner_of_row(alloc, row)?;
     let tag = TagRef::from_bytes(row.text, row.hash)?.into_owned(alloc)?;
     let came = tag.sign(alloc, gpg(alloc, row.key)?, &mut runner);
-    Ok(is_so(&text_of(alloc, came), row.comes, &runner))
+    Ok(is_so(&text_of(alloc, came), row.comes, &runner)?)
 }
 
 /// The same of the tag as it was read.
@@ -164,7 +164,7 @@ fn is_read_and_signed(alloc: Global, row: &Row) -> Result<bool, Fail> {
     let mut runner = runner_of_row(alloc, row)?;
     let tag = TagRef::from_bytes(row.text, row.hash)?;
     let came = tag.sign(alloc, gpg(alloc, row.key)?, &mut runner);
-    Ok(is_so(&text_of(alloc, came), row.comes, &runner))
+    Ok(is_so(&text_of(alloc, came), row.comes, &runner)?)
 }
 
 #[test]
@@ -228,7 +228,7 @@ fn by_programs_of_ssh(rt: HostRuntime) -> Result<(), Fail> {
         let mut runner = runner_of(alloc, &[ssh_step(&[b"k", PAYLOAD], left)])?;
         let tag = TagRef::from_bytes(NEWLINES, Sha1)?.into_owned(alloc)?;
         let came = tag.sign(alloc, ssh(alloc, b"key::k")?, &mut runner);
-        assert!(rt; is_so(&text_of(alloc, came), comes, &runner));
+        assert!(rt; is_so(&text_of(alloc, came), comes, &runner)?);
     }
     Ok(())
 }

@@ -273,6 +273,8 @@ fn steps_of(alloc: Global, row: &Row) -> Result<Vec<Step>, AllocError> {
 }
 
 /// Whether verifying this signature comes to this, by exactly these calls.
+///
+/// `OutOfMemory` where memory was wanting for it, and that wasn't what a runner told.
 fn comes_to(
     alloc: Global,
     signature: &[u8],
@@ -285,7 +287,9 @@ fn comes_to(
     let outcome = signed.verify(alloc, BStr::new(signature), options, &mut runner);
     let is_so = match &outcome {
         Ok(outcome) => outcome_text(alloc, outcome)?.as_str() == comes,
-        Err(error) => name_of(error) == comes,
+        Err(error) if name_of(error) == comes => true,
+        Err(Error::OutOfMemory) => return Err(OutOfMemory),
+        Err(_) => false,
     };
     Ok(is_so && runner.steps.is_empty())
 }
