@@ -47,10 +47,12 @@ pub(crate) fn program_answer(alloc: Global, question: &[u8]) -> Result<Vec<u8>, 
         _ => verified_text(alloc, head, text.as_slice(), program, &mut row)?,
     };
     if row.rest.is_empty() {
-        text_of(alloc, answer.as_str())
-    } else {
-        text_of(alloc, "not all calls")
+        return text_of(alloc, answer.as_str());
     }
+    text_of(
+        alloc,
+        format!(in alloc; "{answer}, not all calls")?.as_str(),
+    )
 }
 
 /// Whether is signed or verified, and what.
@@ -125,7 +127,8 @@ fn signed_text(
         signing_key: BString::new(row.next_bytes()?),
         environment,
     };
-    let _not_for_signing = (row.next(), row.next());
+    let _revoked = row.next();
+    let _time = row.next();
     match head.object {
         b"tag" => signed_tag(alloc, text, head.ids, options, row),
         _ => signed_commit(alloc, text, head.ids, options, row),
