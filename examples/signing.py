@@ -124,8 +124,8 @@ def signature_of(calls, program, key, payload):
 def taken_apart(kind, ids, text):
     """What is signed of an object, and its signature (gitformat-signature).
 
-    Of a commit these are its bytes without the header of the signature, of which only one counts, of a tag those before
-    the last marker at the start of a line."""
+    Signed are a commit's bytes without the headers of that name, and a tag's before the last marker at the start of a
+    line. Behind a tag without a signature comes a newline."""
     if kind == "commit":
         header = rb"^%s (.*\n(?: .*\n)*)" % FIELDS[ids]
         head, message = text.split(b"\n\n", 1)
