@@ -1,5 +1,5 @@
 -- An entry in place of that of its name.
-use Rattle.std.proofs.Common.{◌≡◌, ◌∙◌, ◌+◌, ◌<◌, ◌≤◌, ℕ, zero, suc, Bool, true, false, cond, List, [], ◌∷◌, HoldsAt, Less, Some, get_or, length, slice_set, refl, sym, ap, subst, add-one, arith}
+use Rattle.std.proofs.Common.{◌≡◌, ◌∙◌, ◌<◌, ℕ, zero, suc, Bool, true, false, List, [], ◌∷◌, HoldsAt, Less, Some, get_or, length, slice_set, refl, sym, ap, subst, arith}
 use Rattle.std.specs.Cmp.Lexicographic.{bytes_decides, slice_cmp}
 use Rattle.std.specs.List.{insert, position, prefix_len, remove}
 use Rattle.std.specs.Ordering.{is_lt, nat_cmp, ordering_reverse}
@@ -8,11 +8,10 @@ use Rattle.std.proofs.lemmas.List.Quantifiers.{position-Some}
 use Rattle.std.proofs.lemmas.List.Sums.{prefix_len_passes}
 use Rattle.gixobj_trees.specs.Entries.{ComesBefore, EntryView, IsWellFormed, entry_key, key_of}
 use Rattle.gixobj_trees.specs.Mode.{is_tree_mode}
-use Rattle.gixobj_files.specs.Editing.{comes_before, same_name, with_entry, without}
+use Rattle.gixobj_files.specs.Editing.{comes_before, same_name, with_entry}
 use Rattle.gixobj_files.proofs.Namesakes.{removed_at}
 use Rattle.gixobj_files.proofs.Placing.{placed}
-use Rattle.gixobj_directories.specs.KeyPlaces.{has_key_before}
-use Rattle.gixobj_directories.proofs.Halves.{first, later_at}
+use Rattle.gixobj_directories.proofs.Halves.{later_at}
 
 module _ {X : Type 0} where
   swapped : (xs : List X) (i : ℕ) (x : X) → i < length xs → insert (remove xs i) i x ≡ slice_set xs i x

@@ -27,7 +27,7 @@ use Rattle.gixobj_texts.specs.Bytes.{newline, space}
 use Rattle.gixobj_texts.specs.Parse.{IsFree}
 use Rattle.gixobj_tokens.specs.Extracting.{HasSignature, IsNamedLine}
 use Rattle.gixobj_commits.specs.CommitSigning.{is_named, with_signature, without_headers}
-use Rattle.gixobj_signed.specs.LineFields.{HasLineFields, IsOneLine}
+use Rattle.gixobj_signed.specs.LineFields.{HasHeaderNames, HasLineFields, IsOneLine}
 
 -- ---- headers one after the other
 
@@ -304,7 +304,7 @@ arranged front headers one message = simp (append_assoc, append-nil)
 
 -- ---- the text of a signed commit
 
-module _ (kind : Kind) (commit : CommitLines) (bytes : List ℕ) (named : All (λ header. IsHeaderName header.name) commit.extra_headers) (fields : HasLineFields commit) where
+module _ (kind : Kind) (commit : CommitLines) (bytes : List ℕ) (named : HasHeaderNames commit) (fields : HasLineFields commit) where
   abbrev pub the_header : Header
   the_header = record { name = signature_field kind; value = bytes }
 

@@ -18,7 +18,7 @@ use Rattle.gixobj_lines.specs.declared.lines.State.TheVariants as state
 use Rattle.gixobj_signed.proofs.CommitsExtracted.{Blocks, IsBlockLine, block_line, comes_last, comes_more, ends_at_header, join, no_block, read_again, signature_name, signed_text, the_header, unsigned_front, written_blocks, written_header}
 use Rattle.gixobj_tokens.specs.Extracting.{HasNoSignature, IsNamedLine, RefusesSignature}
 use Rattle.gixobj_commits.specs.CommitSigning.{with_signature}
-use Rattle.gixobj_signed.specs.LineFields.{HasLineFields}
+use Rattle.gixobj_signed.specs.LineFields.{HasHeaderNames, HasLineFields}
 
 ends_before_tail : (front tail : List ℕ) (headers : List Header) → AreHeaderTexts front headers → EndsHeader tail → EndsHeader (front ++ tail)
 ends_before_tail front tail [] none ends = subst (λ (it : List ℕ). EndsHeader (it ++ tail)) (sym none) ends
@@ -99,7 +99,7 @@ two_endings kind here text ps qs (tells_piece _ next _ after piece more _ has to
     two_endings kind next after more more' told
     (subst (λ (s : State). Tells (HasLine kind) s after more' broken) (sym e.1) (subst (λ (it : List ℕ). Tells (HasLine kind) next' it more' broken) (sym e.2) told'))
 
-module _ (kind : Kind) (commit : CommitLines) (bytes : List ℕ) (named : All (λ header. IsHeaderName header.name) commit.extra_headers) (fields : HasLineFields commit) where
+module _ (kind : Kind) (commit : CommitLines) (bytes : List ℕ) (named : HasHeaderNames commit) (fields : HasLineFields commit) where
   pub signature_is_there : HasNoSignature kind (commit_text (with_signature kind bytes commit)) → ⊥
   signature_is_there (pieces, told, others) =
       let read : InBlocks kind (commit_text (with_signature kind bytes commit)) = in_blocks kind state.Tree (commit_text (with_signature kind bytes commit)) pieces told others in

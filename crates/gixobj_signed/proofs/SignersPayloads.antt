@@ -1,10 +1,9 @@
 -- What is found again in the text of what was signed is what the signer got.
-use Rattle.std.proofs.Common.{◌≡◌, All, IfOk, subst, sym, ℕ, List, Result, Ok, Err}
+use Rattle.std.proofs.Common.{◌≡◌, IfOk, subst, sym, ℕ, List, Result, Ok, Err}
 use Rattle.gixobj_commits.specs.CommitSigning as commit
 use Rattle.gixobj_commits.specs.CommitViews as commit_views
 use Rattle.gixobj_commits.specs.CommitWriting.{RefusesOwned, commit_text}
 use Rattle.gixobj_commits.specs.declared.commit.Commit.{Commit}
-use Rattle.gixobj_fields.specs.HeaderText.{IsHeaderName}
 use Rattle.gixobj_fields.specs.Writing.{RefusesNothing}
 use Rattle.gixobj_ids.specs.Hash.{id_kind}
 use Rattle.gixobj_lines.specs.Commit.{CommitLines}
@@ -23,23 +22,20 @@ use Rattle.gixobj_tokens.specs.Extracting as commits
 use Rattle.gixobj_signed.proofs.CommitsExtracted.{payload_extracted}
 use Rattle.gixobj_signed.proofs.SignaturesFound.{signature_is_there}
 use Rattle.gixobj_signed.proofs.TagsExtracted.{tag_payload_extracted}
-use Rattle.gixobj_signed.specs.LineFields.{HasLineFields}
+use Rattle.gixobj_signed.specs.LineFields.{HasHeaderNames, HasLineFields}
 use Rattle.gixobj_signed.specs.SignedTexts.{CommitGivesPayload, TagGivesPayload}
 
 module _ {S : Type 0} (runs : S → CallView → Answer → S → Type 0) (options : Options) (old new : S) where
   module _ (it : Commit) (fields : RefusesNothing (RefusesOwned it) → HasLineFields (commit_views.owned_lines it)) where
-    abbrev HasNames : Type 0
-    HasNames = All (λ header. IsHeaderName header.name) (commit_views.owned_lines it).extra_headers
-
     pub commit_found : (result : Result Commit Error) → IfOk result (commit.IsSigned runs options it old new)
-        → IfOk result (λ signed. HasNames → ¬ commits.HasNoSignature (id_kind it.tree) (commit_text (commit_views.owned_lines signed)))
+        → IfOk result (λ signed. HasHeaderNames (commit_views.owned_lines it) → ¬ commits.HasNoSignature (id_kind it.tree) (commit_text (commit_views.owned_lines signed)))
     commit_found (Err error) is = tt
     commit_found (Ok signed) is = λ named none.
         signature_is_there (id_kind it.tree) (commit_views.owned_lines it) is.bytes named (fields is.writable)
         (subst (λ (lines : CommitLines). commits.HasNoSignature (id_kind it.tree) (commit_text lines)) is.lines none)
 
     pub commit_payload : (result : Result Commit Error) → IfOk result (commit.IsSigned runs options it old new)
-        → IfOk result (λ signed. HasNames → CommitGivesPayload runs options (id_kind it.tree) (commit_text (commit_views.owned_lines signed)) old new)
+        → IfOk result (λ signed. HasHeaderNames (commit_views.owned_lines it) → CommitGivesPayload runs options (id_kind it.tree) (commit_text (commit_views.owned_lines signed)) old new)
     commit_payload (Err error) is = tt
     commit_payload (Ok signed) is = λ named value payload has.
         let again : commits.HasSignature (id_kind it.tree) (commit_text (commit.with_signature (id_kind it.tree) is.bytes (commit_views.owned_lines it))) value payload =

@@ -1,8 +1,13 @@
--- Commits whose fields of one line have no newline.
+-- Commits whose headers have names, and whose fields of one line have no newline.
 use Rattle.std.specs.Prelude.{ℕ, List, All, Option, Some, None, ⊤}
+use Rattle.gixobj_fields.specs.HeaderText.{IsHeaderName}
 use Rattle.gixobj_lines.specs.Commit.{CommitLines}
 use Rattle.gixobj_texts.specs.Bytes.{newline}
 use Rattle.gixobj_texts.specs.Parse.{IsFree}
+
+-- each header has a name that a header may have
+abbrev pub HasHeaderNames : CommitLines → Type 0
+HasHeaderNames commit = All (λ header. IsHeaderName header.name) commit.extra_headers
 
 -- a text that may be missing has no newline
 abbrev pub IsOneLine : Option (List ℕ) → Type 0

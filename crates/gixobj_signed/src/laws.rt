@@ -1,16 +1,16 @@
-//! Some of the functions sign, and their contract says what comes of it; the others do nothing, and their contract is the law.
-ghost use Rattle.std.specs.Prelude.{◌≡◌, ℕ, All, IfNone, IfOk, IfSome, List, Option, Some};
+//! Laws of what is signed. Two functions sign, and their contracts say what comes of it; the others do nothing, and
+//! their contract is the law.
+ghost use Rattle.std.specs.Prelude.{◌≡◌, ℕ, IfNone, IfOk, IfSome, List, Option, Some};
 ghost use Rattle.gixobj_commits.specs.CommitSigning.{payload_of, with_signature};
 ghost use Rattle.gixobj_commits.specs.CommitViews.{owned_lines};
 ghost use Rattle.gixobj_commits.specs.CommitWriting.{RefusesOwned, commit_text};
-ghost use Rattle.gixobj_fields.specs.HeaderText.{IsHeaderName};
 ghost use Rattle.gixobj_fields.specs.Writing.{RefusesNothing};
 ghost use Rattle.gixobj_ids.specs.Hash.{id_kind};
 ghost use Rattle.gixobj_ids.specs.declared.decode.Error.TheVariants.{Malformed};
 ghost use Rattle.gixobj_ids.specs.declared.hash.kind.Kind.{Kind};
 ghost use Rattle.gixobj_lines.specs.Commit.{CommitLines, IsCommitText};
 ghost use Rattle.gixobj_signed.specs.Agreeing.{AreTheSame};
-ghost use Rattle.gixobj_signed.specs.LineFields.{HasLineFields};
+ghost use Rattle.gixobj_signed.specs.LineFields.{HasHeaderNames, HasLineFields};
 ghost use Rattle.gixobj_signed.specs.OneMarker.{HasOneMarker};
 ghost use Rattle.gixobj_signed.specs.SignedTexts.{CommitGivesPayload, TagGivesPayload};
 ghost use Rattle.gixobj_signing.specs.Markers.{HasNoMarker};
@@ -37,17 +37,18 @@ use std::alloc::Global;
 /// a commit's.
 pub fn commits_give_their_payloads()
     ensures payload { (kind : Kind) (commit : CommitLines) (bytes value signed : List ℕ) →
-        All (λ header. IsHeaderName header.name) commit.extra_headers → HasLineFields commit →
+        HasHeaderNames commit → HasLineFields commit →
         HasSignature kind (commit_text (with_signature kind bytes commit)) value signed →
         signed ≡ payload_of kind commit }
     ensures found { (kind : Kind) (commit : CommitLines) (bytes : List ℕ) →
-        All (λ header. IsHeaderName header.name) commit.extra_headers → HasLineFields commit →
+        HasHeaderNames commit → HasLineFields commit →
         ¬ HasNoSignature kind (commit_text (with_signature kind bytes commit)) }
     ensures no_fault { (kind : Kind) (text : List ℕ) (read : CommitLines) →
         IsCommitText kind text read → ¬ RefusesSignature kind text Malformed }
 {}
 
-/// An owned commit of which its writer refuses nothing, as of each that is signed, has no newline in a field of one line.
+/// An owned commit of which its writer refuses nothing, as of each that is signed, has no newline in a field of one
+/// line.
 pub fn owned_commits_have_line_fields(commit: &Commit)
     ensures { RefusesNothing (RefusesOwned commit.now) → HasLineFields (owned_lines commit.now) }
 {
@@ -57,33 +58,34 @@ pub fn owned_commits_have_line_fields(commit: &Commit)
     actor_has_one_line(&commit.committer);
 }
 
-/// Signs a commit, as [`Commit::sign`] does. Where its headers have names that may be, a signature is found in the text
-/// of the signed commit, and what it is then told to sign is what the signer got.
+/// Signs a commit, as [`Commit::sign`] does. Where its headers have names that may be, a signature is found in the
+/// text of the signed commit, and what it is then told to sign is what the signer got.
 pub fn signed_commit_gives_its_payload<R: Runner>(
     alloc: Global,
     commit: Commit,
     options: Options,
     runner: &mut R,
 ) -> Result<Commit, Error>
-    ensures found { IfOk result (λ signed. All (λ header. IsHeaderName header.name) (owned_lines commit).extra_headers →
+    ensures found { IfOk result (λ signed. HasHeaderNames (owned_lines commit) →
         ¬ HasNoSignature (id_kind commit.tree) (commit_text (owned_lines signed))) }
-    ensures payload { IfOk result (λ signed. All (λ header. IsHeaderName header.name) (owned_lines commit).extra_headers →
-        CommitGivesPayload R.runs options (id_kind commit.tree) (commit_text (owned_lines signed)) runner.old runner.new) }
+    ensures payload { IfOk result (λ signed. HasHeaderNames (owned_lines commit) →
+        CommitGivesPayload R.runs options (id_kind commit.tree) (commit_text (owned_lines signed))
+        runner.old runner.new) }
 {
     owned_commits_have_line_fields(&commit);
     commit.sign(alloc, options, runner)
 }
 
-/// What is found again in the text of a signed tag is what was signed, and the signer's text, where that begins with a
-/// marker and has no other at the start of a line.
+/// What is found again in the text of a signed tag is what was signed, and the signer's text, where that begins with
+/// a marker and has no other at the start of a line.
 pub fn tags_give_their_payloads()
     ensures { (lines : TagLines) (bytes signature signed : List ℕ) (format : Format) → HasOneMarker bytes →
         tags.HasSignature (tag_text (tag.signed_as (Some bytes) lines)) signature signed format →
         (signed ≡ tag.payload_of lines) × (signature ≡ bytes) }
 {}
 
-/// Signs a tag, as [`Tag::sign`] does. Where the signer's text begins with its one marker, what the text of the signed tag
-/// is then told to sign is what the signer got.
+/// Signs a tag, as [`Tag::sign`] does. Where the signer's text begins with its one marker, what the text of the
+/// signed tag is then told to sign is what the signer got, and the signature is the signer's text.
 pub fn signed_tag_gives_its_payload<R: Runner>(
     alloc: Global,
     tag: Tag,
@@ -96,9 +98,11 @@ pub fn signed_tag_gives_its_payload<R: Runner>(
     tag.sign(alloc, options, runner)
 }
 
-/// Of a tag that is read, its own signature and the one that is found in its text are the same.
+/// Of a tag that is read, the signature that `TagRef::signature` gives and the one that `TagRefIter::signature` finds
+/// in its text are the same.
 pub fn tag_signatures_agree()
-    ensures { (kind : Kind) (text : List ℕ) (lines : TagLines) (own : Option SignatureRef) (found : Option (SignatureRef × SignedData)) →
+    ensures { (kind : Kind) (text : List ℕ) (lines : TagLines)
+        (own : Option SignatureRef) (found : Option (SignatureRef × SignedData)) →
         IsTagText kind text lines → IsSignature lines.signature own →
         IfSome found (tags.GivesSignature text) → IfNone found (HasNoMarker text) → AreTheSame own found }
 {}
