@@ -206,16 +206,20 @@ def command(editor, line):
     return edit(editor, prefix, line)
 
 
-def told(git, script):
-    """What is told of a script: a line for each command, and the lookups."""
+def told_lines(git, script):
+    """What is told of a script, line by line: of each command, and last of the lookups."""
     editor = Editor(git)
-    lines = []
-    for line in filter(None, unspelled(script).split(b"\n")):
+    for line in filter(None, script.split(b"\n")):
         try:
-            lines.append(command(editor, line))
+            yield command(editor, line)
         except Refused as refusal:
-            lines.append(str(refusal))
-    return "".join(f"{line}\\n" for line in [*lines, f"lookups {editor.lookups}"])
+            yield str(refusal)
+    yield f"lookups {editor.lookups}"
+
+
+def told(git, script):
+    """What is told of a script, as a table has it."""
+    return "".join(f"{line}\\n" for line in told_lines(git, unspelled(script)))
 
 
 def main(folder, table):

@@ -1,4 +1,4 @@
-//! Tests of `gixobj_base`, and a writer that fails, for the tests of the crates above.
+//! Tests of `gixobj_base`, and a writer and a reader that fail, for the tests of the crates above.
 #![tactic(auto)]
 
 #[cfg(test)]

@@ -1,7 +1,7 @@
 //! Want of memory, and the texts of errors.
 
 use gixobj_base::tree::Tree;
-use gixobj_base::{OutOfMemory, decode, stream_hash};
+use gixobj_base::{Kind, OutOfMemory, decode, kind, stream_hash};
 use std::alloc::AllocError;
 use std::test::Fail;
 
@@ -11,6 +11,14 @@ fn want_of_memory(rt: HostRuntime) -> Result<(), Fail> {
     assert!(rt; refused == OutOfMemory);
     assert!(rt; refused.to_string(rt.alloc())?.as_str() == "out of memory");
     assert!(rt; matches!(&decode::Error::from(refused), decode::Error::OutOfMemory));
+    Ok(())
+}
+
+#[test]
+fn copies_of_refusals(rt: HostRuntime) -> Result<(), Fail> {
+    let of_word = Kind::from_bytes(rt.alloc(), b"x").err().ok_or("a refusal")?;
+    assert!(rt; matches!(&of_word.clone()?, kind::Error::InvalidObjectKind { .. }));
+    assert!(rt; matches!(&decode::Error::Malformed.clone()?, decode::Error::Malformed));
     Ok(())
 }
 

@@ -1,32 +1,21 @@
 //! Ids of objects whose content comes from a stream, as `git hash-object` answers them.
 
+use crate::limited::Stepping;
 use gixobj_base::hash::ObjectId;
 use gixobj_base::stream_hash::{Error, compute_slice_hash, compute_source_hash};
 use gixobj_base::{Kind, compute_hash, compute_stream_hash, hash};
 use std::alloc::{AllocError, Global};
-use std::io;
-use std::io::{ErrorKind, Read};
+use std::io::Read;
 use std::test::Fail;
 
 const HELLO: &[u8] = b"ce013625030ba8dba906f756967f9e9ca394464a";
 
 /// A reader that gives one byte a time, and then fails or ends.
-#[derive(Drop)]
-struct ByteReader<'a> {
-    rest: &'a [u8],
-    fails: bool,
-}
-
-impl Read for ByteReader<'_> {
-    fn read(&mut self, buf: &mut [u8]) -> io::Result<usize> {
-        if self.rest.is_empty() && self.fails {
-            return Err(io::Error::from(ErrorKind::ConnectionReset));
-        }
-        let count = self.rest.len().min(buf.len()).min(1);
-        let (front, rest) = self.rest.split_at(count);
-        buf[..count].copy_from_slice(front);
-        self.rest = rest;
-        Ok(count)
+fn bytes_of(rest: &[u8], fails: bool) -> Stepping<'_> {
+    Stepping {
+        rest,
+        step: 1,
+        fails,
     }
 }
 
@@ -76,9 +65,9 @@ fn readers_that_fail(rt: HostRuntime) {
     let text = b"hello\n".as_slice();
     for count in 0..6usize {
         let rest = &text[..count];
-        let mut failing = ByteReader { rest, fails: true };
+        let mut failing = bytes_of(rest, true);
         assert!(rt; matches!(&blob_id(&mut failing, 6), Err(Error::Io(_))));
-        let mut ending = ByteReader { rest, fails: false };
+        let mut ending = bytes_of(rest, false);
         assert!(rt; matches!(&blob_id(&mut ending, 6), Err(Error::UnexpectedEof)));
     }
 }
@@ -86,10 +75,7 @@ fn readers_that_fail(rt: HostRuntime) {
 /// The reader is not asked for more than the content.
 #[test]
 fn a_reader_that_would_fail(rt: HostRuntime) {
-    let mut failing = ByteReader {
-        rest: b"hello\n",
-        fails: true,
-    };
+    let mut failing = bytes_of(b"hello\n", true);
     assert!(rt; blob_id(&mut failing, 6).ok() == ObjectId::from_hex(HELLO));
 }
 
@@ -149,10 +135,7 @@ const SIZES: &[(u64, hash::Kind, &str)] = &[
 /// Whether this is the id of a content, given whole, at once and byte by byte.
 fn has_id(content: &[u8], len: u64, hash: hash::Kind, want: &str) -> bool {
     let id = ObjectId::from_hex(want.as_bytes());
-    let mut bytes = ByteReader {
-        rest: content,
-        fails: true,
-    };
+    let mut bytes = bytes_of(content, true);
     id == Some(compute_hash(hash, Kind::Blob, content))
         && id == compute_stream_hash(hash, Kind::Blob, &mut bytes, len).ok()
         && is_read_whole(content, len, hash, id)

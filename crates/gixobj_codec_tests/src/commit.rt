@@ -1,9 +1,10 @@
 //! Commits, read whole and told token by token, and written. What is read, told and written of texts is
 //! compared by `gixobj_replay`.
 
+mod growths;
 mod headers;
 mod orders;
-mod writers;
+pub(crate) mod writers;
 
 use gixobj_base::{decode, hash};
 use gixobj_codec::commit::{Commit, CommitRef};

@@ -46,3 +46,34 @@ pub(crate) fn stops<T: WriteTo>(alloc: Global, object: &T, text: &[u8]) -> bool
     }
     true
 }
+
+/// What a call came to where a growth may be refused.
+#[derive(Clone, Copy, Debug, PartialEq, Eq)]
+pub(crate) enum Answer {
+    /// The answer with ample memory.
+    Whole,
+    /// Want of memory, where it may be answered.
+    WithoutMemory,
+    /// Another answer.
+    Other,
+}
+
+impl Answer {
+    /// The answer with ample memory, where it is right.
+    pub(crate) fn whole_where(is_right: bool) -> Answer {
+        if is_right {
+            Answer::Whole
+        } else {
+            Answer::Other
+        }
+    }
+
+    /// What two calls came to.
+    pub(crate) fn and(self, other: Answer) -> Answer {
+        match (self, other) {
+            (Answer::Whole, it) | (it, Answer::Whole) => it,
+            (Answer::WithoutMemory, Answer::WithoutMemory) => Answer::WithoutMemory,
+            _ => Answer::Other,
+        }
+    }
+}

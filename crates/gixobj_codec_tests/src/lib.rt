@@ -18,6 +18,8 @@ mod objects;
 #[cfg(test)]
 mod public_paths;
 #[cfg(test)]
+mod signed;
+#[cfg(test)]
 mod spaced_encoding;
 #[cfg(test)]
 mod tags;

@@ -164,4 +164,5 @@ fn order_and_hash(rt: HostRuntime) {
     assert!(rt; body < BodyRef::from_bytes(b"b"));
     assert!(rt; named(b"a") == named(b"a") && named(b"a") < named(b"b"));
     assert!(rt; hash_of(&named(b"a")) == hash_of(&named(b"a")));
+    assert!(rt; named(b"a").clone().is_ok_and(|copy| copy == named(b"a")));
 }

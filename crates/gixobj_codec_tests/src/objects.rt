@@ -10,6 +10,7 @@ use gixobj_base::decode::{Error, LooseHeaderDecodeError};
 use gixobj_base::hash::{Kind as HashKind, ObjectId};
 use gixobj_base::{Blob, Kind, WriteTo};
 use gixobj_codec::{Data, LooseDecodeError, ObjectRef, data};
+use samples::{KINDS, text_of};
 use std::alloc::Global;
 use std::test::Fail;
 
@@ -102,4 +103,19 @@ fn ids_are_verified(rt: HostRuntime) {
         assert!(rt; is_verified(Kind::Blob, blob, tree), "{kind:?}");
         assert!(rt; is_verified(Kind::Tree, tree, blob), "{kind:?}");
     }
+}
+
+/// Whether the object of this kind is copied, borrowed and owned, as it is.
+fn is_copied(alloc: Global, kind: Kind) -> Result<bool, Error> {
+    let object = ObjectRef::from_bytes(alloc, text_of(kind), kind, HashKind::Sha1)?;
+    let owned = object.to_owned(alloc)?;
+    Ok(object.clone()? == object && owned.clone()? == owned && object.into_owned(alloc)? == owned)
+}
+
+#[test]
+fn copies(rt: HostRuntime) -> Result<(), Fail> {
+    for kind in KINDS {
+        assert!(rt; is_copied(rt.alloc(), kind)?, "{kind:?}");
+    }
+    Ok(())
 }

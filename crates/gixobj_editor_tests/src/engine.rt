@@ -1,6 +1,9 @@
 //! Whole runs of the program over memory. Ids are those that `git mktree --missing` answers.
 
-use crate::streams::{Narrow, Stepping, words_in};
+mod growths;
+
+use crate::streams::words_in;
+use gixobj_base_tests::limited::{Limited, Stepping};
 use gixobj_edit::engine::engine;
 use std::alloc::{AllocError, Global};
 use std::test::Fail;
@@ -63,12 +66,12 @@ lookups 0
 
 const USAGE: &str = "usage: gixobj show|tree|edit [sha256]\n";
 
-/// What the program answers of an input: the status, and what it writes on its two outputs.
+/// What the program answers of an input: the status, and what it writes on its two outputs, which have room for it.
 fn answer_of(alloc: Global, line: &str, input: &str) -> Result<(u8, Vec<u8>, Vec<u8>), AllocError> {
     let words = words_in(alloc, line)?;
     let mut rest = input.as_bytes();
-    let mut told = Vec::new(alloc);
-    let mut refused = Vec::new(alloc);
+    let mut told = Vec::with_capacity(alloc, 1024)?;
+    let mut refused = Vec::with_capacity(alloc, 1024)?;
     let status = engine(alloc, words.as_slice(), &mut rest, &mut told, &mut refused);
     Ok((status, told, refused))
 }
@@ -165,7 +168,7 @@ fn output_that_fails(rt: HostRuntime) -> Result<(), Fail> {
     let words = words_in(alloc, "edit")?;
     for (room, front) in [(0, ""), (5, "ok\nok")] {
         let held = Vec::new(alloc);
-        let mut narrow = Narrow { held, room };
+        let mut narrow = Limited { held, room };
         let mut refused = Vec::new(alloc);
         let mut rest = NESTED.as_bytes();
         let status = engine(

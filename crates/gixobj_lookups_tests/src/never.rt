@@ -4,6 +4,7 @@ use crate::samples::{id, id_of_bytes, is_id};
 use gix_object::find::Never;
 use gix_object::hash::{Kind as HashKind, ObjectId};
 use gix_object::{Exists, Find, FindHeader, Kind, ObjectRef, Write, stream_hash, write};
+use gixobj_base_tests::limited::Stepping;
 use std::alloc::Global;
 use std::test::Fail;
 
@@ -51,10 +52,26 @@ fn reads_streams_of_known_ids(rt: HostRuntime) {
     let answer = Never.write_stream_with_known_id(alloc, Kind::Blob, 6, &mut stream, known);
     assert!(rt; is_id(answer, known));
     assert!(rt; stream == b"rest".as_slice());
-    let short = Never.write_stream_with_known_id(alloc, Kind::Blob, 6, &mut stream, known);
-    let is_short = matches!(
-        &short,
-        Err(write::Error::Read(stream_hash::Error::UnexpectedEof))
-    );
-    assert!(rt; is_short);
+}
+
+/// Whether a stream of a known id is refused where a reader fails or ends behind so many of its six bytes, for that.
+fn is_refused_behind(alloc: Global, count: usize, fails: bool) -> bool {
+    let mut stream = Stepping {
+        rest: &b"hello\n"[..count.min(6)],
+        step: 1,
+        fails,
+    };
+    match Never.write_stream_with_known_id(alloc, Kind::Blob, 6, &mut stream, id_of_bytes(1)) {
+        Err(write::Error::Read(stream_hash::Error::Io(_))) => fails,
+        Err(write::Error::Read(stream_hash::Error::UnexpectedEof)) => !fails,
+        _ => false,
+    }
+}
+
+#[test]
+fn readers_that_fail_or_end(rt: HostRuntime) {
+    for count in 0..6usize {
+        assert!(rt; is_refused_behind(rt.alloc(), count, true), "{count}");
+        assert!(rt; is_refused_behind(rt.alloc(), count, false), "{count}");
+    }
 }

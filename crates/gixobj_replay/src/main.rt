@@ -24,6 +24,7 @@ mod recorded;
 mod reports;
 mod scripts;
 mod signed_data;
+mod stored_scripts;
 mod tables;
 mod tags;
 mod texts;

@@ -21,6 +21,7 @@ use crate::recorded::tables::{Recorded, behind_source, named_parts};
 use crate::reports::{gpg_report_answer, marker_answer, ssh_report_answer, trust_answer};
 use crate::scripts::{command_answer, script_answer};
 use crate::signed_data::signed_data_answer;
+use crate::stored_scripts::stored_script_answer;
 use crate::tags::{name_answer, tag_answer, tag_token_answer};
 use crate::times::time_answer;
 use crate::trees::{tree_answer, tree_token_answer};
@@ -130,6 +131,8 @@ pub(crate) enum Table {
     Scripts,
     /// The same, drawn at random.
     RandomScripts,
+    /// Scripts of edits run over a store of objects.
+    StoredScripts,
 }
 
 /// All of them.
@@ -184,6 +187,7 @@ pub(crate) const TABLES: &[Table] = &[
     Table::Commands,
     Table::Scripts,
     Table::RandomScripts,
+    Table::StoredScripts,
 ];
 
 impl Recorded for Table {
@@ -239,6 +243,7 @@ impl Recorded for Table {
             Table::Commands => ("commands", "commands.tsv"),
             Table::Scripts => ("scripts", "scripts.tsv"),
             Table::RandomScripts => ("random scripts", "random-scripts.tsv"),
+            Table::StoredScripts => ("stored scripts", "stored-scripts.tsv"),
         }
     }
 
@@ -288,6 +293,7 @@ impl Recorded for Table {
             Table::GitObjects => loose_answer(alloc, question),
             Table::Commands => command_answer(alloc, question),
             Table::Scripts | Table::RandomScripts => script_answer(alloc, question),
+            Table::StoredScripts => stored_script_answer(alloc, question),
         }
     }
 
@@ -300,7 +306,8 @@ impl Recorded for Table {
             | Table::NearNames
             | Table::Commands
             | Table::Scripts
-            | Table::RandomScripts => split_at_last_byte(behind_source(line)?, b'\t'),
+            | Table::RandomScripts
+            | Table::StoredScripts => split_at_last_byte(behind_source(line)?, b'\t'),
             Table::Modes
             | Table::ModeNumbers
             | Table::LooseHeaders

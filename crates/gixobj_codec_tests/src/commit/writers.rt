@@ -9,7 +9,7 @@ use std::alloc::{AllocError, Global};
 use std::test::Fail;
 
 /// A thousand parents, and a thousand headers of two lines.
-fn long_commit(alloc: Global) -> Result<Vec<u8>, AllocError> {
+pub(crate) fn long_commit(alloc: Global) -> Result<Vec<u8>, AllocError> {
     let mut text = Vec::from_slice(alloc, b"tree 4b825dc642cb6eb9a060e54bf8d69288fbee4904\n")?;
     for _ in 0..1000u32 {
         text.extend_from_slice(b"parent 4b825dc642cb6eb9a060e54bf8d69288fbee4904\n")?;
@@ -99,10 +99,13 @@ const TEXT: &[u8] = b"tree 4b825dc642cb6eb9a060e54bf8d69288fbee4904\n\
     y \n\
     \nhi\n";
 
+/// Of the plain commit, and of the other one.
 #[test]
 fn writers_that_fail(rt: HostRuntime) -> Result<(), Fail> {
-    let commit = CommitRef::from_bytes(rt.alloc(), TEXT, Kind::Sha1)?;
-    assert!(rt; stops(rt.alloc(), &commit, TEXT));
+    for text in [PLAIN, TEXT] {
+        let commit = CommitRef::from_bytes(rt.alloc(), text, Kind::Sha1)?;
+        assert!(rt; stops(rt.alloc(), &commit, text));
+    }
     Ok(())
 }
 

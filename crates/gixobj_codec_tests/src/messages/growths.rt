@@ -1,6 +1,7 @@
 //! Messages where a growth is refused on the way: want of memory is an answer of its own, behind which a reader has
 //! nothing, and with memory the same call answers all.
 
+use crate::helpers::Answer;
 use gixobj_base::OutOfMemory;
 use gixobj_codec::commit::MessageRef;
 use gixobj_codec::commit::message::BodyRef;
@@ -10,14 +11,6 @@ use std::borrow::CowSlice;
 
 /// Two trailers of two lines, and one of one line behind them.
 const BODY: &[u8] = b"Signed-off-by: 1\n 2\nLink: 3\n 4\nSigned-off-by: 5\n";
-
-/// What a call came to.
-#[derive(Clone, Copy, Debug, PartialEq, Eq)]
-enum Answer {
-    Whole,
-    WithoutMemory,
-    Other,
-}
 
 /// What a walk is at behind one more answer of its reader, and how many trailers it has come by.
 fn behind(answer: (Answer, usize), given: Result<TrailerRef<'_>, OutOfMemory>) -> (Answer, usize) {
@@ -58,11 +51,52 @@ fn of_summary(alloc: Global) -> Answer {
         Ok(title) => title,
         Err(OutOfMemory) => return Answer::WithoutMemory,
     };
-    if title.as_slice() == b"a b".as_slice() {
-        Answer::Whole
-    } else {
-        Answer::Other
+    Answer::whole_where(title.as_slice() == b"a b".as_slice())
+}
+
+/// Bodies, what stands before their trailers, and the trailers: their tokens and values.
+const BODIES: &[(&[u8], &[u8], &[(&[u8], &[u8])])] = &[
+    (
+        b"text\n\nSigned-off-by: A <a@b>\nnot a trailer\nnot a trailer\nnot a trailer\n",
+        b"text",
+        &[(b"Signed-off-by", b"A <a@b>")],
+    ),
+    (
+        b"text\n\nSigned-off-by: A <a@b>\nnot a trailer\nnot a trailer\nnot a trailer\nnot a trailer\n",
+        b"text\n\nSigned-off-by: A <a@b>\nnot a trailer\nnot a trailer\nnot a trailer\nnot a trailer\n",
+        &[],
+    ),
+    (
+        b"foo: bar\n continued\r\n  here",
+        b"",
+        &[(b"foo", b"bar continued here")],
+    ),
+];
+
+/// Whether a trailer is this one, or there was no memory for it.
+fn of_trailer(
+    given: Option<Result<TrailerRef<'_>, OutOfMemory>>,
+    token: &[u8],
+    value: &[u8],
+) -> Answer {
+    match given {
+        Some(Ok(trailer)) => Answer::whole_where(
+            trailer.token.as_bytes() == token && trailer.value.as_slice() == value,
+        ),
+        Some(Err(OutOfMemory)) => Answer::WithoutMemory,
+        None => Answer::Other,
     }
+}
+
+/// What comes of a body that is cut before these trailers.
+fn of_body(alloc: Global, body: &[u8], before: &[u8], trailers: &[(&[u8], &[u8])]) -> Answer {
+    let body = BodyRef::from_bytes(body);
+    let mut given = body.trailers(alloc);
+    let mut answer = Answer::whole_where(body.without_trailer().as_bytes() == before);
+    for (token, value) in trailers {
+        answer = answer.and(of_trailer(given.next(), token, value));
+    }
+    answer.and(Answer::whole_where(given.next().is_none()))
 }
 
 #[test]
@@ -90,4 +124,15 @@ fn summaries_whatever_is_refused(rt: HostRuntime) {
         answer = of_summary(rt.alloc());
     }
     assert!(rt; answer == Answer::Whole);
+}
+
+#[test]
+fn bodies_whatever_is_refused(rt: HostRuntime) {
+    for &(body, before, trailers) in BODIES {
+        let mut answer = of_body(rt.alloc(), body, before, trailers);
+        if answer == Answer::WithoutMemory {
+            answer = of_body(rt.alloc(), body, before, trailers);
+        }
+        assert!(rt; answer == Answer::Whole, "{body:?}");
+    }
 }

@@ -1,7 +1,8 @@
 //! Whole runs of the program, over readers and writers of memory that may fail.
 
 use super::{ONE_ENTRY, answer_from, answer_of};
-use crate::streams::{Narrow, Stepping, words_in};
+use crate::streams::words_in;
+use gixobj_base_tests::limited::{Limited, Stepping};
 use gixobj_loose::engine::{engine, run};
 use std::io;
 use std::io::{ErrorKind, Read, Write};
@@ -200,7 +201,7 @@ fn a_writer_that_fails_in_mid_line(rt: HostRuntime) -> Result<(), Fail> {
     let line = b"100644 blob 83baae61804e65cc73a7201a7252750c76066a30 test.txt\n".as_slice();
     for room in [1, 12, 61] {
         let mut object = ONE_ENTRY;
-        let mut narrow = Narrow {
+        let mut narrow = Limited {
             held: Vec::new(alloc),
             room,
         };
