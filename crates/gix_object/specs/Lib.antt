@@ -2,8 +2,8 @@ pub use Rattle.gixobj_directories.specs.Calls
 pub use Rattle.gixobj_directories.specs.Handing
 pub use Rattle.gixobj_directories.specs.Openings
 pub use Rattle.gixobj_editor.specs.Cursors
-pub use Rattle.gixobj_editor.specs.Upserts
 pub use Rattle.gixobj_editor.specs.Removals
+pub use Rattle.gixobj_editor.specs.Upserts
 pub use Rattle.gixobj_editor.specs.Writes
 pub use Rattle.gixobj_files.specs.Editing
 pub use Rattle.gixobj_files.specs.Edits
@@ -25,15 +25,15 @@ pub use Rattle.gixobj_lookups.specs.Writers
 pub use Rattle.gixobj_runs.specs.Commands
 pub use Rattle.gixobj_runs.specs.Replies
 pub use Rattle.gixobj_runs.specs.RunTables
-pub use Rattle.gixobj_runner.specs.Calls as ProgramCalls
-pub use Rattle.gixobj_runner.specs.Fields
-pub use Rattle.gixobj_runner.specs.GpgReports
-pub use Rattle.gixobj_runner.specs.Outcomes
-pub use Rattle.gixobj_runner.specs.Plans
-pub use Rattle.gixobj_runner.specs.Signing
-pub use Rattle.gixobj_runner.specs.SshReports
-pub use Rattle.gixobj_runner.specs.Trust
-pub use Rattle.gixobj_verifying.specs.SignedBytes
-pub use Rattle.gixobj_verifying.specs.Verifiers
-pub use Rattle.gixobj_verifying.specs.Verifying
-pub use Rattle.gixobj_verifying.specs.VerifyingCalls
+pub use Rattle.gixobj_signature.specs.Calls as ProgramCalls
+pub use Rattle.gixobj_signature.specs.Fields
+pub use Rattle.gixobj_signature.specs.GpgReports
+pub use Rattle.gixobj_signature.specs.Outcomes
+pub use Rattle.gixobj_signature.specs.Plans
+pub use Rattle.gixobj_signature.specs.SignedBytes
+pub use Rattle.gixobj_signature.specs.Signing
+pub use Rattle.gixobj_signature.specs.SshReports
+pub use Rattle.gixobj_signature.specs.Trust
+pub use Rattle.gixobj_signature.specs.Verifiers
+pub use Rattle.gixobj_signature.specs.Verifying
+pub use Rattle.gixobj_signature.specs.VerifyingCalls

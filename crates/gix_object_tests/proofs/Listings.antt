@@ -5,10 +5,10 @@ use Rattle.std.proofs.lemmas.List.{drop_more, take_more}
 use Rattle.gixobj_base.specs.Entries.{EntryView}
 use Rattle.gixobj_base.specs.Hash.{IsNull, id_kind, id_of}
 use Rattle.gixobj_base.specs.Mode.{is_tree_mode}
-use Rattle.gixobj_base.specs.ids.hash.kind.Kind.{Kind}
-use Rattle.gixobj_base.specs.ids.hash.kind.Kind.TheVariants as hash
-use Rattle.gixobj_base.specs.ids.hash.object_id.ObjectId.{ObjectId}
-use Rattle.gixobj_base.specs.ids.kind.Kind.TheVariants.{Tree}
+use Rattle.gixobj_base.specs.hash.hash.kind.Kind.{Kind}
+use Rattle.gixobj_base.specs.hash.hash.kind.Kind.TheVariants as hash
+use Rattle.gixobj_base.specs.hash.hash.object_id.ObjectId.{ObjectId}
+use Rattle.gixobj_base.specs.hash.kind.Kind.TheVariants.{Tree}
 use Rattle.gixobj_files.specs.Files.{Below, FileSet, Files, Path, SameFiles, Table, is_null, stands_for}
 use Rattle.gixobj_files.specs.Tables.{IsFirst, IsTableOf, Pair}
 use Rattle.gix_object_tests.specs.Lists.{FileView, Lists, in_front}

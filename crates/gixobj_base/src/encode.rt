@@ -2,4 +2,4 @@
 //! (`gitformat-loose`, "Loose object format").
 
 pub use gixobj_fields::encode::{Error, RefNameFault};
-pub use gixobj_ids::encode::loose_header;
+pub use gixobj_hash::encode::loose_header;

@@ -2,17 +2,17 @@
 //! gitformat-signature, "Commit signatures".
 
 use bstr::BString;
-use gixobj_actors::actor::Signature;
-use gixobj_actors::date::Time;
-use gixobj_actors::encode::{size_with_signature, trusted_header_signature};
+use gixobj_actor::actor::Signature;
+use gixobj_actor::date::Time;
+use gixobj_actor::encode::{size_with_signature, trusted_header_signature};
 use gixobj_fields::encode::{
     Error, header_field, header_field_multi_line, size_with_field, size_with_hex, size_with_id,
     size_with_multi_line, trusted_header_field, trusted_header_hex, trusted_header_id,
 };
 use gixobj_fields::streams::put_parts;
-use gixobj_ids::hash::{Kind, ObjectId};
-use gixobj_ids::parse::{hex_hash, id_of_hex};
-use gixobj_texts::parse::{are_digits, number_from_digits};
+use gixobj_hash::hash::{Kind, ObjectId};
+use gixobj_hash::parse::{hex_hash, id_of_hex};
+use gixobj_hash::texts::{are_digits, number_from_digits};
 use std::test::Fail;
 
 const TREE: &[u8] = b"4b825dc642cb6eb9a060e54bf8d69288fbee4904";

@@ -3,8 +3,8 @@ use Rattle.std.proofs.Common.{◌≡◌, ◌+◌, ◌∷◌, ℕ, IfErr, List, [
 use Rattle.std.specs.Prelude.{IsErrAnd}
 use Rattle.std.specs.List.{AllZip}
 use Rattle.gixobj_base.specs.Hash.{Spells}
-use Rattle.gixobj_base.specs.ids.hash.object_id.ObjectId.{ObjectId}
-use Rattle.gixobj_base.specs.ids.kind.Kind.TheVariants.{Tree}
+use Rattle.gixobj_base.specs.hash.hash.object_id.ObjectId.{ObjectId}
+use Rattle.gixobj_base.specs.hash.kind.Kind.TheVariants.{Tree}
 use Rattle.gixobj_codec.specs.EntryGiving.{IsAtEntry}
 use Rattle.gixobj_codec.specs.Lookups.{tree_left}
 use Rattle.gixobj_codec.specs.Stores.{Objects, StoredObject}

@@ -4,7 +4,7 @@ use Rattle.std.specs.Prelude.{IfErr, OnOk}
 use Rattle.std.proofs.lemmas.List.{drop_more, take-append-drop, take_all, take_more}
 use Rattle.gixobj_base.specs.Entries.{EntryView}
 use Rattle.gixobj_base.specs.Mode.{mode_of_kind}
-use Rattle.gixobj_base.specs.ids.hash.kind.Kind.{Kind}
+use Rattle.gixobj_base.specs.hash.hash.kind.Kind.{Kind}
 use Rattle.gixobj_callers.specs.Checkouts.{AreNotPutIn, ArePutIn, IsCheckedOut, IsFilled, IsMade, IsNotFilled, IsNotPutInAt, IsPutInAt, put_at, steps_at}
 use Rattle.gixobj_callers.specs.Plans.{started}
 use Rattle.gixobj_callers.specs.declared.checkout.Planned.{Planned}

@@ -1,7 +1,7 @@
 -- Two writes of a run that starts with no files.
 use Rattle.std.proofs.Common.{◌≡◌, ◌≢◌, ◌<◌, ◌≤◌, ◌↔◌, ◌⊎◌, ℕ, zero, suc, Bool, IsTrue, List, [], ◌∷◌, All, None, Option, Some, ap, arith, get_or, inl, inr, length, max, refl, subst, sym, take, ◌∙◌}
-use Rattle.gixobj_base.specs.ids.hash.kind.Kind.{Kind}
-use Rattle.gixobj_base.specs.ids.hash.object_id.ObjectId.{ObjectId}
+use Rattle.gixobj_base.specs.hash.hash.kind.Kind.{Kind}
+use Rattle.gixobj_base.specs.hash.hash.object_id.ObjectId.{ObjectId}
 use Rattle.gixobj_callers.specs.Plans.{started}
 use Rattle.gixobj_callers.specs.Rebuilds.{AreReplies, IsCompared, Names, RefusesComparison, id_named, up_to}
 use Rattle.gixobj_callers.specs.declared.rebuilder.CompareError.{CompareError}

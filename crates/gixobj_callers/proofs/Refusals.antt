@@ -5,12 +5,12 @@ use Rattle.gixobj_base.specs.Streams.{SinkView}
 use Rattle.gixobj_base.specs.Writing.{FailsAsSink}
 use Rattle.gixobj_base.specs.fields.encode.Error as encode
 use Rattle.gixobj_base.specs.fields.encode.Error.TheVariants as written
-use Rattle.gixobj_base.specs.ids.decode.Error.{Error}
-use Rattle.gixobj_base.specs.ids.decode.Error.TheVariants.{Malformed, OutOfMemory}
+use Rattle.gixobj_base.specs.hash.decode.Error.{Error}
+use Rattle.gixobj_base.specs.hash.decode.Error.TheVariants.{Malformed, OutOfMemory}
 use Rattle.gixobj_base.specs.Entries.{EntryView}
 use Rattle.gixobj_base.specs.Hash.{Spells}
-use Rattle.gixobj_base.specs.ids.hash.kind.Kind.{Kind}
-use Rattle.gixobj_base.specs.ids.hash.object_id.ObjectId.{ObjectId}
+use Rattle.gixobj_base.specs.hash.hash.kind.Kind.{Kind}
+use Rattle.gixobj_base.specs.hash.hash.object_id.ObjectId.{ObjectId}
 use Rattle.gixobj_codec.specs.Commit.{CommitLines, IsCommitText, IsNoCommitText, RefusesCommit}
 use Rattle.gixobj_codec.specs.Rewriting.{RefusesOwnForm}
 use Rattle.gixobj_codec.specs.TreeReading.{IsTreeText, RefusesTreeText}

@@ -1,8 +1,8 @@
 -- What a reader of tokens tells of the text of a tag, by the laws of both readers.
 use Rattle.std.proofs.Common.{◌≡◌, ◌≤◌, ℕ, List, [], ◌∷◌, ◌++◌, Some, None, Ok, ap, arith, length, sym, subst, ◌∙◌}
 use Rattle.gixobj_base.specs.Hash.{Spells}
-use Rattle.gixobj_base.specs.ids.hash.kind.Kind.{Kind}
-use Rattle.gixobj_base.specs.ids.hash.object_id.ObjectId.{ObjectId}
+use Rattle.gixobj_base.specs.hash.hash.kind.Kind.{Kind}
+use Rattle.gixobj_base.specs.hash.hash.object_id.ObjectId.{ObjectId}
 use Rattle.gixobj_callers.specs.Told.{IsToTell}
 use Rattle.gixobj_codec.specs.Runs.{Ending, complete, tells_end, tells_piece}
 use Rattle.gixobj_codec.specs.TagReaders.{AreTokensOf, MayMiss, NameCame, misses_body, misses_nothing, misses_tagger_and_body}

@@ -4,7 +4,7 @@ use Rattle.std.proofs.lemmas.List.{append-nil, get_or-map, length-map, map-appen
 use Rattle.std.proofs.lemmas.List.Elements.{All-append, All-cons, All-map, All-nil, All-weaker, Contains-append_left, Contains-append_right}
 use Rattle.std.specs.List.{AllByRecursion}
 use Rattle.gixobj_base.specs.Entries.{EachLater, EntryView, IsWellFormed}
-use Rattle.gixobj_base.specs.ids.hash.object_id.ObjectId.{ObjectId}
+use Rattle.gixobj_base.specs.hash.hash.object_id.ObjectId.{ObjectId}
 use Rattle.gixobj_callers.proofs.Once.{IsOf, IsPerhaps, Starts, once_all, other_names, starts_all, starts_more, under}
 use Rattle.gixobj_callers.specs.Uploads.{IsChanged, IsDivided, IsOwnTree, IsSorted, IsUnchanged, Once, Sent, pair_of, path_of}
 use Rattle.gixobj_files.specs.Edits.{raised}

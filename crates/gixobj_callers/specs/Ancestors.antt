@@ -1,8 +1,8 @@
 -- Commits of a store, their first parents and their trees, and why a walk stops.
 use Rattle.std.specs.Prelude.{◌≡◌, ◌∷◌, ◌<◌, ℕ, Bool, List, Some, [], suc, zero}
 use Rattle.gixobj_base.specs.Hash.{Spells}
-use Rattle.gixobj_base.specs.ids.hash.object_id.ObjectId.{ObjectId}
-use Rattle.gixobj_base.specs.ids.kind.Kind.TheVariants.{Commit, Tree}
+use Rattle.gixobj_base.specs.hash.hash.object_id.ObjectId.{ObjectId}
+use Rattle.gixobj_base.specs.hash.kind.Kind.TheVariants.{Commit, Tree}
 use Rattle.gixobj_codec.specs.Commit.{CommitLines, IsCommitText}
 use Rattle.gixobj_codec.specs.Lookups.{Name, RefusesPath}
 use Rattle.gixobj_codec.specs.Stores.{Names, Objects, StoredObject}

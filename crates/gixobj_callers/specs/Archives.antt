@@ -1,9 +1,9 @@
 -- What a history comes to that was imported.
 use Rattle.std.specs.Prelude.{◌≡◌, ◌++◌, ◌∷◌, ℕ, List, [], None, Option, length}
 use Rattle.gixobj_base.specs.Hash.{id_of}
-use Rattle.gixobj_base.specs.ids.hash.kind.Kind as hash
-use Rattle.gixobj_base.specs.ids.hash.object_id.ObjectId.{ObjectId}
-use Rattle.gixobj_base.specs.ids.kind.Kind.TheVariants.{Commit}
+use Rattle.gixobj_base.specs.hash.hash.kind.Kind as hash
+use Rattle.gixobj_base.specs.hash.hash.object_id.ObjectId.{ObjectId}
+use Rattle.gixobj_base.specs.hash.kind.Kind.TheVariants.{Commit}
 use Rattle.gixobj_codec.specs.Commit.{IsCommitText}
 use Rattle.gixobj_codec.specs.Stores.{Objects}
 use Rattle.gixobj_files.specs.Files.{NamedFiles, SameFiles, Table}

@@ -1,7 +1,7 @@
 -- Why a commit that was read is not written back.
 use Rattle.std.specs.Prelude.{◌⊎◌, ⊤}
 use Rattle.gixobj_base.specs.fields.encode.Error.TheVariants as encode
-use Rattle.gixobj_base.specs.ids.decode.Error.TheVariants as decode
+use Rattle.gixobj_base.specs.hash.decode.Error.TheVariants as decode
 use Rattle.gixobj_codec.specs.Commit.{CommitLines}
 use Rattle.gixobj_codec.specs.ActorWriting.{IsUnwritable}
 use Rattle.gixobj_codec.specs.Rewriting.{HasEmptyEncoding}

@@ -2,9 +2,9 @@
 use Rattle.std.specs.Prelude.{◌≡◌, ◌≢◌, ℕ, Bool, List, []}
 use Rattle.gixobj_base.specs.Entries.{EntryView, IsWellFormed}
 use Rattle.gixobj_base.specs.Hash.{id_kind}
-use Rattle.gixobj_base.specs.ids.hash.kind.Kind as hash
-use Rattle.gixobj_base.specs.ids.hash.object_id.ObjectId.{ObjectId}
-use Rattle.gixobj_base.specs.ids.kind.Kind.TheVariants.{Tree}
+use Rattle.gixobj_base.specs.hash.hash.kind.Kind as hash
+use Rattle.gixobj_base.specs.hash.hash.object_id.ObjectId.{ObjectId}
+use Rattle.gixobj_base.specs.hash.kind.Kind.TheVariants.{Tree}
 use Rattle.gixobj_codec.specs.Stores.{Objects}
 use Rattle.gixobj_codec.specs.TreeReading.{IsTreeText}
 use Rattle.gixobj_directories.specs.Handing.{Stopped}

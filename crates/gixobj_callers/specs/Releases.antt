@@ -10,35 +10,35 @@ use Rattle.gixobj_commits.specs.CommitViews.{owned_lines}
 use Rattle.gixobj_commits.specs.CommitWriting.{commit_text}
 use Rattle.gixobj_commits.specs.declared.commit.Commit.{Commit}
 use Rattle.gixobj_fields.specs.declared.encode.Error as encode
-use Rattle.gixobj_ids.specs.Hash.{id_kind}
-use Rattle.gixobj_ids.specs.declared.decode.Error as decode
-use Rattle.gixobj_ids.specs.declared.hash.kind.Kind as hash
-use Rattle.gixobj_ids.specs.declared.kind.Kind.{Kind}
-use Rattle.gixobj_ids.specs.declared.kind.Kind.TheVariants as kind
-use Rattle.gixobj_runner.specs.Calls.{Answer, CallView, OutputView, ran}
-use Rattle.gixobj_runner.specs.GpgReports.{gpg_report, status_of, told_lines, trust_in}
-use Rattle.gixobj_runner.specs.Outcomes.{OutcomeView, is_trusted, judged}
-use Rattle.gixobj_runner.specs.Plans.{Carries}
-use Rattle.gixobj_runner.specs.Signing as signing
-use Rattle.gixobj_runner.specs.Signing.{sign_plan}
-use Rattle.gixobj_runner.specs.SshReports.{ssh_report}
-use Rattle.gixobj_runner.specs.declared.signature.report.Outcome.{Outcome}
-use Rattle.gixobj_runner.specs.declared.signature.report.Status.TheVariants as status
-use Rattle.gixobj_runner.specs.declared.signature.report.TrustLevel.TheVariants as trust
-use Rattle.gixobj_runner.specs.declared.signature.sign.Error as sign
-use Rattle.gixobj_runner.specs.declared.signature.sign.Error.TheVariants.{Encode}
-use Rattle.gixobj_runner.specs.declared.signature.sign.Options.{Options}
-use Rattle.gixobj_signing.specs.Markers.{HasNoMarker}
-use Rattle.gixobj_signing.specs.declared.signature.Format.{Format}
-use Rattle.gixobj_signing.specs.declared.signature.Format.TheVariants as format
+use Rattle.gixobj_hash.specs.Hash.{id_kind}
+use Rattle.gixobj_hash.specs.declared.decode.Error as decode
+use Rattle.gixobj_hash.specs.declared.hash.kind.Kind as hash
+use Rattle.gixobj_hash.specs.declared.kind.Kind.{Kind}
+use Rattle.gixobj_hash.specs.declared.kind.Kind.TheVariants as kind
+use Rattle.gixobj_signature.specs.Calls.{Answer, CallView, OutputView, ran}
+use Rattle.gixobj_signature.specs.GpgReports.{gpg_report, status_of, told_lines, trust_in}
+use Rattle.gixobj_signature.specs.Outcomes.{OutcomeView, is_trusted, judged}
+use Rattle.gixobj_signature.specs.Plans.{Carries}
+use Rattle.gixobj_signature.specs.Signing as signing
+use Rattle.gixobj_signature.specs.Signing.{sign_plan}
+use Rattle.gixobj_signature.specs.SshReports.{ssh_report}
+use Rattle.gixobj_signature.specs.declared.signature.report.Outcome.{Outcome}
+use Rattle.gixobj_signature.specs.declared.signature.report.Status.TheVariants as status
+use Rattle.gixobj_signature.specs.declared.signature.report.TrustLevel.TheVariants as trust
+use Rattle.gixobj_signature.specs.declared.signature.sign.Error as sign
+use Rattle.gixobj_signature.specs.declared.signature.sign.Error.TheVariants.{Encode}
+use Rattle.gixobj_signature.specs.declared.signature.sign.Options.{Options}
+use Rattle.gixobj_text.specs.Markers.{HasNoMarker}
+use Rattle.gixobj_text.specs.declared.signature.Format.{Format}
+use Rattle.gixobj_text.specs.declared.signature.Format.TheVariants as format
 use Rattle.gixobj_tag_tokens.specs.TagExtracting as tags
 use Rattle.gixobj_tokens.specs.Extracting as commits
-use Rattle.gixobj_verifying.specs.SignedBytes.{signed_bytes}
-use Rattle.gixobj_verifying.specs.Verifiers.{OptionsView, ProgramView, SshView, by_open_pgp, by_ssh, by_x509}
-use Rattle.gixobj_verifying.specs.Verifying.{ComesOf, IsFormatOf, accepts, human, principals_in, verify_plan}
-use Rattle.gixobj_verifying.specs.VerifyingCalls.{open_pgp_call, principal_call, principals_call, x509_call}
-use Rattle.gixobj_verifying.specs.declared.signature.SignedData.{SignedData}
-use Rattle.gixobj_verifying.specs.declared.signature.verify.Error.{Error}
+use Rattle.gixobj_signature.specs.SignedBytes.{signed_bytes}
+use Rattle.gixobj_signature.specs.Verifiers.{OptionsView, ProgramView, SshView, by_open_pgp, by_ssh, by_x509}
+use Rattle.gixobj_signature.specs.Verifying.{ComesOf, IsFormatOf, accepts, human, principals_in, verify_plan}
+use Rattle.gixobj_signature.specs.VerifyingCalls.{open_pgp_call, principal_call, principals_call, x509_call}
+use Rattle.gixobj_signature.specs.declared.signature.signed_data.SignedData.{SignedData}
+use Rattle.gixobj_signature.specs.declared.signature.verify.Error.{Error}
 use Rattle.gixobj_callers.specs.declared.releases.AuditError.{AuditError}
 use Rattle.gixobj_callers.specs.declared.releases.AuditError.TheVariants as audit
 

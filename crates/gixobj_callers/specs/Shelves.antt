@@ -1,7 +1,7 @@
 -- What a shelf means as a store.
 use Rattle.std.specs.Prelude.{List, map}
 use Rattle.std.specs.FinMap as finite
-use Rattle.gixobj_base.specs.ids.hash.object_id.ObjectId.{ObjectId}
+use Rattle.gixobj_base.specs.hash.hash.object_id.ObjectId.{ObjectId}
 use Rattle.gixobj_codec.specs.Stores.{Objects, stored}
 use Rattle.gixobj_codec.specs.unread.«data».Data.{Data}
 use Rattle.gixobj_callers.specs.declared.shelf.Shelf.{Shelf}

@@ -4,7 +4,7 @@ use Rattle.gixobj_base.specs.Hash.{id_kind, id_of}
 use Rattle.gixobj_base.specs.Streams.{SinkView}
 use Rattle.gixobj_base.specs.Writing.{SaysWhy}
 use Rattle.gixobj_base.specs.fields.encode.Error.{Error}
-use Rattle.gixobj_base.specs.ids.hash.object_id.ObjectId.{ObjectId}
+use Rattle.gixobj_base.specs.hash.hash.object_id.ObjectId.{ObjectId}
 use Rattle.gixobj_codec.specs.BorrowedObjects.{RefusesBorrowedObject, borrowed_kind, borrowed_object_text}
 use Rattle.gixobj_codec.specs.Checksums.{HasBothIds}
 use Rattle.gixobj_codec.specs.LooseObjects.{IsLooseObject, RefusesLooseObject}

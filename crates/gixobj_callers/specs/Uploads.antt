@@ -2,7 +2,7 @@
 use Rattle.std.specs.Prelude.{◌≡◌, ◌≢◌, ◌⊎◌, ◌++◌, ◌∷◌, ℕ, All, Contains, IsFalse, List, [], Some, length, map}
 use Rattle.gixobj_base.specs.Entries.{EachLater, EntryView}
 use Rattle.gixobj_base.specs.Mode.{is_tree_mode}
-use Rattle.gixobj_base.specs.ids.hash.object_id.ObjectId.{ObjectId}
+use Rattle.gixobj_base.specs.hash.hash.object_id.ObjectId.{ObjectId}
 use Rattle.gixobj_callers.specs.declared.upload.Upload.{Upload}
 use Rattle.gixobj_files.specs.Bases.{HasBases}
 use Rattle.gixobj_files.specs.Edits.{raised}

@@ -4,7 +4,7 @@ ghost use Rattle.std.specs.List.{AllZip};
 ghost use Rattle.bstr.specs.BStr.{bstr_bytes};
 ghost use Rattle.gixobj_base.specs.Hash.{IsHexOfAnId};
 ghost use Rattle.gixobj_base.specs.Hash.Hex.{IsHexOf};
-ghost use Rattle.gixobj_base.specs.ids.hash.kind.Kind.{Kind};
+ghost use Rattle.gixobj_base.specs.hash.hash.kind.Kind.{Kind};
 ghost use Rattle.gixobj_codec.specs.CommitViews.{commit_lines, owned_lines};
 ghost use Rattle.gixobj_codec.specs.ExtraHeaders.{IsFirstPlace, IsFirstValue, values_named};
 ghost use Rattle.gixobj_codec.specs.Mergetags.{IsTagOf};

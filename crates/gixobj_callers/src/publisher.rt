@@ -2,7 +2,7 @@
 ghost use Rattle.std.specs.Prelude.{◌≡◌, IfErr, IfOk, MatchOption, Some};
 ghost use Rattle.bstr.specs.BStr.{bstr_bytes};
 ghost use Rattle.gixobj_base.specs.Hash.{Spells};
-ghost use Rattle.gixobj_base.specs.ids.hash.object_id.ObjectId.{ObjectId};
+ghost use Rattle.gixobj_base.specs.hash.hash.object_id.ObjectId.{ObjectId};
 ghost use Rattle.gixobj_codec.specs.NameRule.{IsTagName};
 ghost use Rattle.gixobj_codec.specs.TagRewriting.{KeepsBody};
 ghost use Rattle.gixobj_codec.specs.TagText.{IsTagText, TagLines};

@@ -5,21 +5,20 @@ ghost use Rattle.std.specs.Cow.{cow_slice_items};
 ghost use Rattle.gixobj_commits.specs.CommitSigning.{RefusesWriting};
 ghost use Rattle.gixobj_commits.specs.CommitViews.{owned_lines};
 ghost use Rattle.gixobj_commits.specs.CommitWriting.{commit_text};
-ghost use Rattle.gixobj_runner.specs.Outcomes.{outcome_view};
-ghost use Rattle.gixobj_runner.specs.Signing as signing;
-ghost use Rattle.gixobj_verifying.specs.SignedBytes.{signed_bytes};
-ghost use Rattle.gixobj_verifying.specs.Verifiers.{options_view};
+ghost use Rattle.gixobj_signature.specs.Outcomes.{outcome_view};
+ghost use Rattle.gixobj_signature.specs.Signing as signing;
+ghost use Rattle.gixobj_signature.specs.SignedBytes.{signed_bytes};
+ghost use Rattle.gixobj_signature.specs.Verifiers.{options_view};
 ghost use Rattle.gixobj_callers.specs.Releases.{ComesOfVerifying, GivesSignature, IsAccepted, IsAudit, IsSignedText, RefusesAudit, RefusesSignature, RefusesSignedText, Vouches};
 
 use bstr::BStr;
 use gixobj_commits::Commit;
 use gixobj_fields::{WriteTo, encode};
-use gixobj_ids::{Kind, decode, hash};
-use gixobj_runner::signature::{Runner, sign};
+use gixobj_hash::{Kind, decode, hash};
+use gixobj_signature::signature::{Runner, SignedData, sign};
 use gixobj_tag_tokens::TagRefIter;
 use gixobj_tokens::CommitRefIter;
-use gixobj_verifying::signature::SignedData;
-use gixobj_verifying::signature::verify::{self, Options, Outcome};
+use gixobj_signature::signature::verify::{self, Options, Outcome};
 use std::alloc::Global;
 use std::borrow::CowSlice;
 

@@ -1,6 +1,6 @@
 //! A reader of messages, who lists who signed a commit off, and takes a body apart.
 ghost use Rattle.std.specs.Prelude.{◌≡◌, IfErr, IfOk, map};
-ghost use Rattle.gixobj_base.specs.ids.decode.Error.TheVariants.{Malformed};
+ghost use Rattle.gixobj_base.specs.hash.decode.Error.TheVariants.{Malformed};
 ghost use Rattle.gixobj_codec.specs.Blocks.{joined_parts};
 ghost use Rattle.gixobj_codec.specs.Bodies.{bytes_of_body};
 ghost use Rattle.gixobj_codec.specs.Commit.{CommitLines, IsCommitText, IsNoCommitText};

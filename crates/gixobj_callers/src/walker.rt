@@ -3,7 +3,7 @@ ghost use Rattle.std.specs.Prelude.{◌≡◌, IfErr, IfOk, IsTrue};
 ghost use Rattle.std.specs.List.{AllZip};
 ghost use Rattle.bstr.specs.BStr.{bstr_bytes};
 ghost use Rattle.gixobj_base.specs.Hash.{Spells};
-ghost use Rattle.gixobj_base.specs.ids.decode.Error.TheVariants as decode;
+ghost use Rattle.gixobj_base.specs.hash.decode.Error.TheVariants as decode;
 ghost use Rattle.gixobj_codec.specs.Commit.{CommitLines, IsCommitText, IsNoCommitText};
 
 use bstr::BStr;

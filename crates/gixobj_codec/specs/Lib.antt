@@ -1,7 +1,7 @@
-pub use Rattle.gixobj_actors.specs.Actor
-pub use Rattle.gixobj_actors.specs.ActorWriting
-pub use Rattle.gixobj_actors.specs.Date
-pub use Rattle.gixobj_actors.specs.declared as actors
+pub use Rattle.gixobj_actor.specs.Actor
+pub use Rattle.gixobj_actor.specs.ActorWriting
+pub use Rattle.gixobj_actor.specs.Date
+pub use Rattle.gixobj_actor.specs.declared as actor
 pub use Rattle.gixobj_commits.specs.CommitOwned
 pub use Rattle.gixobj_commits.specs.CommitViews
 pub use Rattle.gixobj_commits.specs.CommitWriting
@@ -25,11 +25,14 @@ pub use Rattle.gixobj_fields.specs.Runs
 pub use Rattle.gixobj_fields.specs.Streams
 pub use Rattle.gixobj_fields.specs.Writing
 pub use Rattle.gixobj_fields.specs.declared as fields
-pub use Rattle.gixobj_ids.specs.Decode
-pub use Rattle.gixobj_ids.specs.Encode
-pub use Rattle.gixobj_ids.specs.Hash
-pub use Rattle.gixobj_ids.specs.Kind
-pub use Rattle.gixobj_ids.specs.declared as ids
+pub use Rattle.gixobj_hash.specs.Bytes
+pub use Rattle.gixobj_hash.specs.Decode
+pub use Rattle.gixobj_hash.specs.Encode
+pub use Rattle.gixobj_hash.specs.Hash
+pub use Rattle.gixobj_hash.specs.Kind
+pub use Rattle.gixobj_hash.specs.Optional
+pub use Rattle.gixobj_hash.specs.Texts
+pub use Rattle.gixobj_hash.specs.declared as hash
 pub use Rattle.gixobj_lines.specs.Commit
 pub use Rattle.gixobj_lines.specs.Lines
 pub use Rattle.gixobj_lines.specs.declared as lines
@@ -39,8 +42,6 @@ pub use Rattle.gixobj_object_readers.specs.ObjectReading
 pub use Rattle.gixobj_object_readers.specs.declared as object_readers
 pub use Rattle.gixobj_objects.specs.Objects
 pub use Rattle.gixobj_objects.specs.declared as objects
-pub use Rattle.gixobj_signing.specs.Markers
-pub use Rattle.gixobj_signing.specs.declared as signing
 pub use Rattle.gixobj_tag_names.specs.NameRule
 pub use Rattle.gixobj_tag_names.specs.declared as tag_names
 pub use Rattle.gixobj_tag_tokens.specs.Readers as TagReaders
@@ -61,6 +62,7 @@ pub use Rattle.gixobj_text.specs.BodyLines
 pub use Rattle.gixobj_text.specs.Filters
 pub use Rattle.gixobj_text.specs.GivingBlocks
 pub use Rattle.gixobj_text.specs.GivingTrailers
+pub use Rattle.gixobj_text.specs.Markers
 pub use Rattle.gixobj_text.specs.MessageTrailers
 pub use Rattle.gixobj_text.specs.Summing
 pub use Rattle.gixobj_text.specs.Titles
@@ -69,9 +71,6 @@ pub use Rattle.gixobj_text.specs.TrailerNames
 pub use Rattle.gixobj_text.specs.Trailers
 pub use Rattle.gixobj_text.specs.Unfolding
 pub use Rattle.gixobj_text.specs.declared as text
-pub use Rattle.gixobj_texts.specs.Bytes
-pub use Rattle.gixobj_texts.specs.Optional
-pub use Rattle.gixobj_texts.specs.Parse
 pub use Rattle.gixobj_tokens.specs.CommitRuns
 pub use Rattle.gixobj_tokens.specs.CommitTokens
 pub use Rattle.gixobj_tokens.specs.Readers

@@ -12,7 +12,7 @@ pub use gixobj_extra_headers::laws::{
     owned_mergetags_are_found,
 };
 pub use gixobj_fields::laws::header_reads_back;
-pub use gixobj_ids::laws::hex_spells_one_id;
+pub use gixobj_hash::laws::hex_spells_one_id;
 pub use gixobj_tag_tokens::laws::{
     parts_of_tags_are_found, tag_readers_read_one_language, tag_tokens_are_passed,
     tag_tokens_have_one_reading,

@@ -9,13 +9,12 @@ use bstr::BString;
 use gixobj_base::hash::Kind;
 use gixobj_base::{OutOfMemory, decode, encode};
 use gixobj_codec::{CommitRef, CommitRefIter, TagRef, TagRefIter};
-use gixobj_runner::signature::report::{TrustLevel, parse_ssh_output};
-use gixobj_runner::signature::sign::{Error, Options};
-use gixobj_runner::signature::words::text;
-use gixobj_runner::signature::{Call, Output};
-use gixobj_signing::signature::Format;
+use gixobj_signature::signature::report::{TrustLevel, parse_ssh_output};
+use gixobj_signature::signature::sign::{Error, Options};
+use gixobj_signature::signature::words::text;
+use gixobj_signature::signature::{Call, Output, verify};
+use gixobj_text::signature::Format;
 use gixobj_signing_tests::played::Played;
-use gixobj_verifying::signature::verify;
 use std::alloc::Global;
 use std::test::Fail;
 

@@ -1,6 +1,6 @@
 //! What a run is asked for.
 use bstr::BString;
-use gixobj_ids::hash::ObjectId;
+use gixobj_hash::hash::ObjectId;
 use gixobj_trees::Tree;
 use gixobj_trees::tree::EntryKind;
 

@@ -9,14 +9,14 @@ use Rattle.gixobj_commits.specs.declared.commit.Commit.{Commit}
 use Rattle.gixobj_extra_headers.specs.ExtraHeaders.{signature_field}
 use Rattle.gixobj_fields.specs.Writing.{Refused, RefusesNothing, SaysWhy}
 use Rattle.gixobj_fields.specs.declared.encode.Error as encode
-use Rattle.gixobj_ids.specs.Hash.{id_kind}
+use Rattle.gixobj_hash.specs.Hash.{id_kind}
 use Rattle.gixobj_lines.specs.Commit.{CommitLines}
-use Rattle.gixobj_runner.specs.Calls.{Answer, CallView}
-use Rattle.gixobj_runner.specs.Plans.{Begins, Carries, Goes, Plan, ask, done, no_more}
-use Rattle.gixobj_runner.specs.Signing.{options_view, sign_plan, signature, signer_refusal}
-use Rattle.gixobj_runner.specs.declared.signature.sign.Error.{Error}
-use Rattle.gixobj_runner.specs.declared.signature.sign.Error.TheVariants as sign
-use Rattle.gixobj_runner.specs.declared.signature.sign.Options.{Options}
+use Rattle.gixobj_signature.specs.Calls.{Answer, CallView}
+use Rattle.gixobj_signature.specs.Plans.{Begins, Carries, Goes, Plan, ask, done, no_more}
+use Rattle.gixobj_signature.specs.Signing.{options_view, sign_plan, signature, signer_refusal}
+use Rattle.gixobj_signature.specs.declared.signature.sign.Error.{Error}
+use Rattle.gixobj_signature.specs.declared.signature.sign.Error.TheVariants as sign
+use Rattle.gixobj_signature.specs.declared.signature.sign.Options.{Options}
 
 -- what was carried out was begun
 pub begun : {S R : Type 0} (runs : S → CallView → Answer → S → Type 0) (plan : Plan R) (s t : S) (outcome : R) → Carries runs plan s outcome t → Begins runs plan s t

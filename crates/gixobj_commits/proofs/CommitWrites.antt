@@ -11,17 +11,17 @@ use Rattle.bstr.specs.BStr.{bstr_bytes}
 use Rattle.bstr.specs.declared.bstr.BStr.{BStr}
 use Rattle.bstr.specs.declared.bstring.BString.{BString}
 use Rattle.bstr.specs.Owned.{bstring_bytes}
-use Rattle.gixobj_actors.specs.ActorWriting.{IsLegal, RefusesSignature, owned_text}
-use Rattle.gixobj_ids.specs.Hash.{Spells, hex_text}
+use Rattle.gixobj_actor.specs.ActorWriting.{IsLegal, RefusesSignature, owned_text}
+use Rattle.gixobj_hash.specs.Hash.{Spells, hex_text}
 use Rattle.gixobj_fields.specs.HeaderReading.{header_of, owned_header_of}
 use Rattle.gixobj_fields.specs.HeaderText.{field_text}
 use Rattle.gixobj_fields.specs.Writing.{Refused, RefusesNothing}
-use Rattle.gixobj_ids.specs.declared.hash.object_id.ObjectId.{ObjectId}
-use Rattle.gixobj_ids.proofs.HexCase.{hex_in_lower_case}
+use Rattle.gixobj_hash.specs.declared.hash.object_id.ObjectId.{ObjectId}
+use Rattle.gixobj_hash.proofs.HexCase.{hex_in_lower_case}
 use Rattle.gixobj_fields.proofs.Steps.{IsInParts, in_parts}
 use Rattle.gixobj_lines.specs.Commit.{before_encoding, encoding_text, ids_text, parent_text}
 use Rattle.gixobj_commits.specs.CommitViews.{commit_lines, owned_lines}
-use Rattle.gixobj_texts.specs.Optional.{bytes_if_some, owned_bytes_if_some}
+use Rattle.gixobj_hash.specs.Optional.{bytes_if_some, owned_bytes_if_some}
 use Rattle.gixobj_commits.specs.CommitWriting.{RefusesEncoding, RefusesLines, RefusesOwned, commit_text, hex_parent, in_lower_case, RefusesEncodingLine}
 use Rattle.gixobj_fields.specs.FieldWriting.{header_text}
 use Rattle.gixobj_commits.specs.declared.commit.Commit.{Commit}

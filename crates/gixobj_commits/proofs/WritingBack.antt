@@ -5,18 +5,18 @@ use Rattle.std.specs.List.{AllZip}
 use Rattle.std.specs.Str.{str_to_ascii_lowercase}
 use Rattle.std.proofs.lemmas.List.Elements.{All-contains}
 use Rattle.bstr.specs.Owned.{bstring_bytes}
-use Rattle.gixobj_actors.proofs.OwnedActors.{canonical, unwritable}
-use Rattle.gixobj_actors.specs.ActorWriting.{IsUnwritable}
-use Rattle.gixobj_ids.specs.Hash.{Spells, hex_text}
+use Rattle.gixobj_actor.proofs.OwnedActors.{canonical, unwritable}
+use Rattle.gixobj_actor.specs.ActorWriting.{IsUnwritable}
+use Rattle.gixobj_hash.specs.Hash.{Spells, hex_text}
 use Rattle.gixobj_fields.specs.HeaderText.{Header}
 use Rattle.gixobj_fields.specs.Streams.{SinkView}
 use Rattle.gixobj_fields.specs.Writing.{Refused, SaysWhy, bad_name, empty_header, header_with_newline, illegal_actor, name_with_dash, name_with_zero_byte}
-use Rattle.gixobj_ids.specs.declared.decode.Error.TheVariants.{Malformed}
+use Rattle.gixobj_hash.specs.declared.decode.Error.TheVariants.{Malformed}
 use Rattle.gixobj_fields.specs.declared.encode.Error.{Error}
 use Rattle.gixobj_fields.specs.declared.encode.Error.TheVariants as encode
-use Rattle.gixobj_ids.specs.declared.hash.kind.Kind.{Kind}
-use Rattle.gixobj_ids.specs.declared.hash.object_id.ObjectId.{ObjectId}
-use Rattle.gixobj_ids.proofs.HexCase.{hex_in_lower_case}
+use Rattle.gixobj_hash.specs.declared.hash.kind.Kind.{Kind}
+use Rattle.gixobj_hash.specs.declared.hash.object_id.ObjectId.{ObjectId}
+use Rattle.gixobj_hash.proofs.HexCase.{hex_in_lower_case}
 use Rattle.gixobj_lines.specs.Commit.{CommitLines, IsCommitText, IsEncoding}
 use Rattle.gixobj_commits.specs.CommitOwned.{IsOwnedForm, RefusesOwning}
 use Rattle.gixobj_commits.specs.CommitViews.{owned_lines}

@@ -3,13 +3,13 @@ use Rattle.std.proofs.Common.{◌≡◌, ◌≢◌, ℕ, List, [], ◌∷◌, �
 use Rattle.std.specs.List.{AllPass, flat_map}
 use Rattle.std.specs.Str.{str_to_ascii_lowercase}
 use Rattle.std.proofs.lemmas.List.Elements.{All-head, All-tail}
-use Rattle.gixobj_ids.specs.Hash.{is_lower_hex_digit}
+use Rattle.gixobj_hash.specs.Hash.{is_lower_hex_digit}
 use Rattle.gixobj_fields.specs.HeaderText.{Header, field_text}
 use Rattle.gixobj_fields.specs.Writing.{Refused, RefusesNothing}
-use Rattle.gixobj_ids.specs.declared.hash.kind.Kind.{Kind}
+use Rattle.gixobj_hash.specs.declared.hash.kind.Kind.{Kind}
 use Rattle.gixobj_fields.proofs.FieldWrites.{holds_none}
 use Rattle.gixobj_fields.proofs.HeadersBack.{header_reads_back}
-use Rattle.gixobj_ids.proofs.HexCase.{lower_case_stays}
+use Rattle.gixobj_hash.proofs.HexCase.{lower_case_stays}
 use Rattle.gixobj_lines.specs.Commit.{AreHeaderTexts, CommitLines, IsCommitText, IsEncoding, encoding_text, parent_text}
 use Rattle.gixobj_commits.specs.CommitWriting.{RefusesEncoding, RefusesLines, commit_text, in_lower_case}
 use Rattle.gixobj_fields.specs.FieldWriting.{header_text}

@@ -2,14 +2,14 @@
 use Rattle.std.specs.Prelude.{◌≡◌, ◌⊎◌, ℕ, List, map}
 use Rattle.std.specs.List.{AllZip}
 use Rattle.bstr.specs.Owned.{bstring_bytes}
-use Rattle.gixobj_actors.specs.Actor.{IsActor, IsNoActor, IsOwnedActor, IsTimeOrDefault, NamesActor}
-use Rattle.gixobj_ids.specs.Hash.{Spells}
+use Rattle.gixobj_actor.specs.Actor.{IsActor, IsNoActor, IsOwnedActor, IsTimeOrDefault, NamesActor}
+use Rattle.gixobj_hash.specs.Hash.{Spells}
 use Rattle.gixobj_fields.specs.HeaderReading.{owned_header_of}
-use Rattle.gixobj_actors.specs.declared.date.Time.{Time}
-use Rattle.gixobj_ids.specs.declared.decode.Error.{Error}
-use Rattle.gixobj_ids.specs.declared.decode.Error.TheVariants.{Malformed, OutOfMemory}
+use Rattle.gixobj_actor.specs.declared.date.Time.{Time}
+use Rattle.gixobj_hash.specs.declared.decode.Error.{Error}
+use Rattle.gixobj_hash.specs.declared.decode.Error.TheVariants.{Malformed, OutOfMemory}
 use Rattle.gixobj_lines.specs.Commit.{CommitLines}
-use Rattle.gixobj_texts.specs.Optional.{owned_bytes_if_some}
+use Rattle.gixobj_hash.specs.Optional.{owned_bytes_if_some}
 use Rattle.gixobj_commits.specs.declared.commit.Commit.{Commit}
 
 -- the time of the line's actor, or the default one

@@ -10,16 +10,16 @@ use Rattle.gixobj_fields.specs.HeaderText.{Header}
 use Rattle.gixobj_fields.specs.Streams.{SinkView}
 use Rattle.gixobj_fields.specs.Writing.{RefusesNothing, SaysWhy}
 use Rattle.gixobj_fields.specs.declared.encode.Error as encode
-use Rattle.gixobj_ids.specs.Hash.{id_kind}
-use Rattle.gixobj_ids.specs.declared.decode.Error as decode
-use Rattle.gixobj_ids.specs.declared.hash.kind.Kind.{Kind}
+use Rattle.gixobj_hash.specs.Hash.{id_kind}
+use Rattle.gixobj_hash.specs.declared.decode.Error as decode
+use Rattle.gixobj_hash.specs.declared.hash.kind.Kind.{Kind}
 use Rattle.gixobj_lines.specs.Commit.{CommitLines}
-use Rattle.gixobj_runner.specs.Calls.{Answer, CallView}
-use Rattle.gixobj_runner.specs.Plans.{Carries, Goes}
-use Rattle.gixobj_runner.specs.Signing.{options_view, sign_plan, signature, signer_refusal}
-use Rattle.gixobj_runner.specs.declared.signature.sign.Error.{Error}
-use Rattle.gixobj_runner.specs.declared.signature.sign.Error.TheVariants as sign
-use Rattle.gixobj_runner.specs.declared.signature.sign.Options.{Options}
+use Rattle.gixobj_signature.specs.Calls.{Answer, CallView}
+use Rattle.gixobj_signature.specs.Plans.{Carries, Goes}
+use Rattle.gixobj_signature.specs.Signing.{options_view, sign_plan, signature, signer_refusal}
+use Rattle.gixobj_signature.specs.declared.signature.sign.Error.{Error}
+use Rattle.gixobj_signature.specs.declared.signature.sign.Error.TheVariants as sign
+use Rattle.gixobj_signature.specs.declared.signature.sign.Options.{Options}
 
 -- the header has this name
 abbrev pub is_named : List ℕ → Header → Bool

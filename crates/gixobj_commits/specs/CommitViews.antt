@@ -2,13 +2,13 @@
 use Rattle.std.specs.Prelude.{All, map}
 use Rattle.bstr.specs.BStr.{bstr_bytes}
 use Rattle.bstr.specs.Owned.{bstring_bytes}
-use Rattle.gixobj_actors.specs.ActorWriting.{owned_text}
-use Rattle.gixobj_ids.specs.Hash.{hex_text}
+use Rattle.gixobj_actor.specs.ActorWriting.{owned_text}
+use Rattle.gixobj_hash.specs.Hash.{hex_text}
 use Rattle.gixobj_fields.specs.HeaderReading.{BorrowsOneLine, header_of, owned_header_of}
 use Rattle.gixobj_lines.specs.Commit.{CommitLines}
 use Rattle.gixobj_commits.specs.declared.commit.Commit.{Commit}
 use Rattle.gixobj_commits.specs.declared.commit.CommitRef.{CommitRef}
-use Rattle.gixobj_texts.specs.Optional.{bytes_if_some, owned_bytes_if_some}
+use Rattle.gixobj_hash.specs.Optional.{bytes_if_some, owned_bytes_if_some}
 
 -- what a borrowed commit holds
 abbrev pub commit_lines : CommitRef → CommitLines

@@ -4,16 +4,16 @@ use Rattle.std.specs.List.{flat_map}
 use Rattle.std.specs.Str.{str_to_ascii_lowercase}
 use Rattle.bstr.specs.BStr.{bstr_bytes}
 use Rattle.bstr.specs.declared.bstr.BStr.{BStr}
-use Rattle.gixobj_actors.specs.ActorWriting.{IsLegal}
-use Rattle.gixobj_ids.specs.Hash.{IsHexOfAnId, hex_text}
-use Rattle.gixobj_ids.specs.Hash.Hex.{spelled_id}
+use Rattle.gixobj_actor.specs.ActorWriting.{IsLegal}
+use Rattle.gixobj_hash.specs.Hash.{IsHexOfAnId, hex_text}
+use Rattle.gixobj_hash.specs.Hash.Hex.{spelled_id}
 use Rattle.gixobj_fields.specs.FieldWriting.{RefusesValue, header_text}
 use Rattle.gixobj_fields.specs.HeaderText.{field_text}
 use Rattle.gixobj_fields.specs.Writing.{Refused, illegal_actor}
 use Rattle.gixobj_lines.specs.Commit.{CommitLines, before_encoding, encoding_text, ids_text, parent_text}
 use Rattle.gixobj_commits.specs.CommitViews.{owned_lines}
 use Rattle.gixobj_commits.specs.declared.commit.Commit.{Commit}
-use Rattle.gixobj_texts.specs.Bytes.{newline, space}
+use Rattle.gixobj_hash.specs.Bytes.{newline, space}
 
 -- a commit with its hex in lower case
 abbrev pub in_lower_case : CommitLines → CommitLines

@@ -1,7 +1,7 @@
 -- Commits that are read and written back.
 use Rattle.std.specs.Prelude.{◌≡◌, ◌⊎◌, ℕ, List, [], Some, map}
 use Rattle.std.specs.Str.{str_to_ascii_lowercase}
-use Rattle.gixobj_actors.specs.ActorWriting.{IsCanonical, IsUnwritable}
+use Rattle.gixobj_actor.specs.ActorWriting.{IsCanonical, IsUnwritable}
 use Rattle.gixobj_fields.specs.Streams.{PutsFront, SinkView}
 use Rattle.gixobj_fields.specs.declared.encode.Error.{Error}
 use Rattle.gixobj_fields.specs.declared.encode.Error.TheVariants as error

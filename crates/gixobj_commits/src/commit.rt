@@ -2,17 +2,17 @@
 ghost use Rattle.std.specs.Prelude.{◌≡◌, All, IfErr, IfOk, map};
 ghost use Rattle.std.specs.List.{AllZip};
 ghost use Rattle.bstr.specs.BStr.{bstr_bytes};
-ghost use Rattle.gixobj_actors.specs.Actor.{IsActor, IsNoActor, IsTrimmedActor};
-ghost use Rattle.gixobj_ids.specs.Hash.{IsHexOfAnId, Spells, id_kind};
+ghost use Rattle.gixobj_actor.specs.Actor.{IsActor, IsNoActor, IsTrimmedActor};
+ghost use Rattle.gixobj_hash.specs.Hash.{IsHexOfAnId, Spells, id_kind};
 ghost use Rattle.gixobj_fields.specs.HeaderReading.{owned_header_of};
-ghost use Rattle.gixobj_ids.specs.declared.decode.Error.TheVariants.{Malformed};
+ghost use Rattle.gixobj_hash.specs.declared.decode.Error.TheVariants.{Malformed};
 ghost use Rattle.gixobj_extra_headers.specs.ParentsLeft.{parents_left};
 ghost use Rattle.gixobj_commits.specs.CommitOwned.{IsOwnedForm, IsTimeOfLine, RefusesOwning};
 ghost use Rattle.gixobj_commits.specs.CommitViews.{commit_lines};
 ghost use Rattle.gixobj_commits.specs.CommitWriting.{HasIds};
 ghost use Rattle.gixobj_extra_headers.specs.ExtraHeaders.{hash_kind_of, iterator_of};
 ghost use Rattle.gixobj_extra_headers.specs.HeadersLeft.{headers_left, owned_headers_left};
-ghost use Rattle.gixobj_ids.specs.Hash.Hex.{IsHexOf};
+ghost use Rattle.gixobj_hash.specs.Hash.Hex.{IsHexOf};
 
 mod decode;
 mod message;
@@ -21,16 +21,16 @@ mod sign;
 mod write;
 
 use bstr::{BStr, BString};
-use gixobj_actors::actor::{Signature, SignatureRef};
-use gixobj_actors::date::Time;
-use gixobj_actors::parse::{actor_of_line, trimmed_actor};
+use gixobj_actor::actor::{Signature, SignatureRef};
+use gixobj_actor::date::Time;
+use gixobj_actor::parse::{actor_of_line, trimmed_actor};
 pub use gixobj_extra_headers::{
     BorrowedHeaders, ExtraHeaders, FindAll, Mergetags, OwnedHeaders, Parents, SIGNATURE_FIELD_NAME,
     SIGNATURE_FIELD_NAME_SHA256, signature_field_name,
 };
-use gixobj_ids::decode::Error;
-use gixobj_ids::hash::ObjectId;
-use gixobj_ids::parse::id_of_hex;
+use gixobj_hash::decode::Error;
+use gixobj_hash::hash::ObjectId;
+use gixobj_hash::parse::id_of_hex;
 use smallvec::SmallVec;
 use std::alloc::Global;
 use std::borrow::CowSlice;
@@ -84,7 +84,7 @@ impl<'a> CommitRef<'a> {
     }
 
     /// The ids of the parents, in order. It takes no memory.
-    #[tactic(auto, using(gixobj_ids::proofs::HexIds::all_spelled))]
+    #[tactic(auto, using(gixobj_hash::proofs::HexIds::all_spelled))]
     pub fn parents(&self) -> Parents<'_>
         requires { All IsHexOfAnId (commit_lines self.now).parents }
         ensures { AllZip Spells (commit_lines self.now).parents (parents_left result) }

@@ -2,12 +2,12 @@
 //! their contracts say what the calls answer; the others do nothing, and their contract is the law.
 ghost use Rattle.std.specs.Prelude.{◌≡◌, ◌≢◌, ◌<◌, ◌+◌, ◌++◌, ℕ, All, IfErr, List, [], OnOk, Some, length, vec_capacity, vec_len};
 ghost use Rattle.std.specs.List.{AllPass};
-ghost use Rattle.gixobj_ids.specs.Hash.{is_lower_hex_digit};
+ghost use Rattle.gixobj_hash.specs.Hash.{is_lower_hex_digit};
 ghost use Rattle.gixobj_fields.specs.Streams.{SinkView, list_view};
 ghost use Rattle.gixobj_fields.specs.Writing.{FailsAsSink, RefusesNothing, SaysWhy};
 ghost use Rattle.gixobj_fields.specs.declared.encode.Error.{Error};
-ghost use Rattle.gixobj_ids.specs.declared.decode.Error.TheVariants.{Malformed};
-ghost use Rattle.gixobj_ids.specs.declared.hash.kind.Kind.{Kind};
+ghost use Rattle.gixobj_hash.specs.declared.decode.Error.TheVariants.{Malformed};
+ghost use Rattle.gixobj_hash.specs.declared.hash.kind.Kind.{Kind};
 ghost use Rattle.gixobj_lines.specs.Commit.{CommitLines, IsCommitText};
 ghost use Rattle.gixobj_commits.specs.CommitOwned.{IsOwnedForm, RefusesOwning};
 ghost use Rattle.gixobj_commits.specs.CommitViews.{commit_lines, owned_lines};

@@ -2,7 +2,7 @@
 use Rattle.std.proofs.Common.{◌≡◌, ◌≢◌, ◌≤◌, ◌++◌, ◌∷◌, ℕ, List, [], ap, append_assoc, arith, length, length-append, refl, sym, ◌∙◌}
 use Rattle.std.specs.List.{AllZip, concat}
 use Rattle.gixobj_fields.specs.Runs.{Ending, broken, tells_end, tells_error, tells_piece}
-use Rattle.gixobj_ids.specs.declared.hash.kind.Kind.{Kind}
+use Rattle.gixobj_hash.specs.declared.hash.kind.Kind.{Kind}
 use Rattle.gixobj_trees.specs.Entries.{EntryView}
 use Rattle.gixobj_tree_readers.proofs.OneEntry.{one_entry}
 use Rattle.gixobj_tree_readers.specs.TreeReading.{BeginsWithEntry, BeginsWithNoEntry, IsEntryText, IsTreeText, TellsEntries}

@@ -5,8 +5,8 @@ use Rattle.std.proofs.lemmas.List.Elements.{All-append, All-cons, All-head, All-
 use Rattle.std.proofs.lemmas.List.{append-nil}
 use Rattle.std.proofs.Math.Decide.{ℕ_discrete}
 use Rattle.std.specs.List.{flat_map}
-use Rattle.gixobj_texts.specs.Bytes.{slash}
-use Rattle.gixobj_texts.specs.Parse.{IsFree, SplitsAt}
+use Rattle.gixobj_hash.specs.Bytes.{slash}
+use Rattle.gixobj_hash.specs.Texts.{IsFree, SplitsAt}
 use Rattle.gixobj_data.specs.Lookups.{AreNamesOf, IsCutInto, Name, and_slash, named_parts}
 
 -- the parts in front of the rest of the path, and the names among them

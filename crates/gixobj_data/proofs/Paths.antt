@@ -4,10 +4,10 @@ use Rattle.std.proofs.lemmas.List.Elements.{All-head, All-tail}
 use Rattle.std.specs.Prelude.{Bool, IsTrue, Option, Some, None}
 use Rattle.gixobj_fields.specs.Runs as runs
 use Rattle.gixobj_fields.specs.Runs.{Ending, tells_end, tells_error, tells_piece}
-use Rattle.gixobj_ids.specs.declared.hash.kind.Kind as hash
-use Rattle.gixobj_ids.specs.declared.hash.object_id.ObjectId.{ObjectId}
-use Rattle.gixobj_ids.specs.declared.kind.Kind.{Kind}
-use Rattle.gixobj_ids.specs.declared.kind.Kind.TheVariants.{Blob, Commit, Tag, Tree}
+use Rattle.gixobj_hash.specs.declared.hash.kind.Kind as hash
+use Rattle.gixobj_hash.specs.declared.hash.object_id.ObjectId.{ObjectId}
+use Rattle.gixobj_hash.specs.declared.kind.Kind.{Kind}
+use Rattle.gixobj_hash.specs.declared.kind.Kind.TheVariants.{Blob, Commit, Tag, Tree}
 use Rattle.gixobj_trees.specs.Entries.{EntryView}
 use Rattle.gixobj_tree_readers.proofs.OneEntry.{one_entry, shorter}
 use Rattle.gixobj_tree_readers.specs.TreeReading.{BeginsWithEntry, HasEntry, TellsEntries}

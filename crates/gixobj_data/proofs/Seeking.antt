@@ -3,9 +3,9 @@ use Rattle.std.proofs.Common.{◌≡◌, ◌≤◌, ℕ, List, arith, length, re
 use Rattle.std.specs.Prelude.{⊤, Some, None, Result, Ok, Err}
 use Rattle.gixobj_fields.proofs.Readers as readers
 use Rattle.gixobj_fields.specs.Runs.{broken, complete}
-use Rattle.gixobj_ids.specs.declared.decode.Error.{Error}
-use Rattle.gixobj_ids.specs.declared.decode.Error.TheVariants.{Malformed, OutOfMemory}
-use Rattle.gixobj_ids.specs.declared.hash.kind.Kind.{Kind}
+use Rattle.gixobj_hash.specs.declared.decode.Error.{Error}
+use Rattle.gixobj_hash.specs.declared.decode.Error.TheVariants.{Malformed, OutOfMemory}
+use Rattle.gixobj_hash.specs.declared.hash.kind.Kind.{Kind}
 use Rattle.gixobj_trees.specs.Entries.{EntryView}
 use Rattle.gixobj_tree_readers.proofs.OneEntry.{shorter}
 use Rattle.gixobj_tree_readers.specs.TreeReading.{HasEntry}

@@ -5,9 +5,9 @@ use Rattle.std.specs.Prelude.{⊤, Option, Result}
 use Rattle.gixobj_fields.proofs.Runs.{passes_one, tells_passed}
 use Rattle.gixobj_fields.specs.Readers.{Standing}
 use Rattle.gixobj_fields.specs.Runs.{broken, complete, tells_end, tells_error}
-use Rattle.gixobj_ids.specs.declared.decode.Error.{Error}
-use Rattle.gixobj_ids.specs.declared.decode.Error.TheVariants.{Malformed, OutOfMemory}
-use Rattle.gixobj_ids.specs.declared.hash.kind.Kind.{Kind}
+use Rattle.gixobj_hash.specs.declared.decode.Error.{Error}
+use Rattle.gixobj_hash.specs.declared.decode.Error.TheVariants.{Malformed, OutOfMemory}
+use Rattle.gixobj_hash.specs.declared.hash.kind.Kind.{Kind}
 use Rattle.gixobj_trees.specs.Entries.{EntryView}
 use Rattle.gixobj_tree_readers.specs.TreeReading.{HasEntry, TellsEntries}
 use Rattle.gixobj_tree_readers.specs.TreeViews.{entry_view}

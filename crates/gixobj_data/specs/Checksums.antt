@@ -1,8 +1,8 @@
 -- The ids of objects whose content is not yet read.
 use Rattle.std.specs.Prelude.{◌≡◌}
-use Rattle.gixobj_ids.specs.Hash.{id_of}
-use Rattle.gixobj_ids.specs.declared.hash.kind.Kind.{Kind}
-use Rattle.gixobj_ids.specs.declared.hash.object_id.ObjectId.{ObjectId}
+use Rattle.gixobj_hash.specs.Hash.{id_of}
+use Rattle.gixobj_hash.specs.declared.hash.kind.Kind.{Kind}
+use Rattle.gixobj_hash.specs.declared.hash.object_id.ObjectId.{ObjectId}
 use Rattle.gixobj_data.specs.declared.«data».Data.{Data}
 use Rattle.gixobj_data.specs.declared.«data».verify.Error.{Error}
 use Rattle.gixobj_data.specs.declared.«data».verify.Error.TheVariants.{Verify}

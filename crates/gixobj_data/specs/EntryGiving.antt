@@ -3,8 +3,8 @@ use Rattle.std.specs.Prelude.{◌≡◌, ◌++◌, ℕ, List, Option, Result, le
 use Rattle.std.specs.Iterator.{Count, at_most}
 use Rattle.gixobj_fields.specs.Readers.{Gives, Standing}
 use Rattle.gixobj_fields.specs.Runs as runs
-use Rattle.gixobj_ids.specs.declared.decode.Error.{Error}
-use Rattle.gixobj_ids.specs.declared.hash.kind.Kind.{Kind}
+use Rattle.gixobj_hash.specs.declared.decode.Error.{Error}
+use Rattle.gixobj_hash.specs.declared.hash.kind.Kind.{Kind}
 use Rattle.gixobj_trees.specs.Entries.{EntryView}
 use Rattle.gixobj_tree_readers.specs.TreeReading.{HasEntry}
 use Rattle.gixobj_tree_readers.specs.TreeViews.{entry_view}

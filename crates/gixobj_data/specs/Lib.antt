@@ -3,10 +3,10 @@ pub mod EntryGiving
 pub mod Lookups
 pub mod Stores
 pub mod TreeReaders
-pub use Rattle.gixobj_ids.specs.Decode
-pub use Rattle.gixobj_ids.specs.Encode
-pub use Rattle.gixobj_ids.specs.Hash
-pub use Rattle.gixobj_ids.specs.Kind
+pub use Rattle.gixobj_hash.specs.Decode
+pub use Rattle.gixobj_hash.specs.Encode
+pub use Rattle.gixobj_hash.specs.Hash
+pub use Rattle.gixobj_hash.specs.Kind
 pub use Rattle.gixobj_object_readers.specs.BorrowedObjects
 pub use Rattle.gixobj_object_readers.specs.ObjectReading
 pub use Rattle.gixobj_tag_tokens.specs.TokenGiving as TagTokenGiving

@@ -2,11 +2,11 @@
 use Rattle.std.specs.Prelude.{◌≡◌, ℕ, Bool, IsTrue, List, Option, Some, length, ⊤}
 use Rattle.std.specs.FinMap as map
 use Rattle.std.specs.Option.{option_map}
-use Rattle.gixobj_ids.specs.Hash.Order.{id_cmp}
-use Rattle.gixobj_ids.specs.declared.hash.kind.Kind as hash
-use Rattle.gixobj_ids.specs.declared.hash.object_id.ObjectId.{ObjectId}
-use Rattle.gixobj_ids.specs.declared.header.Header.{Header}
-use Rattle.gixobj_ids.specs.declared.kind.Kind.{Kind}
+use Rattle.gixobj_hash.specs.Hash.Order.{id_cmp}
+use Rattle.gixobj_hash.specs.declared.hash.kind.Kind as hash
+use Rattle.gixobj_hash.specs.declared.hash.object_id.ObjectId.{ObjectId}
+use Rattle.gixobj_hash.specs.declared.header.Header.{Header}
+use Rattle.gixobj_hash.specs.declared.kind.Kind.{Kind}
 use Rattle.gixobj_data.specs.declared.«data».Data.{Data}
 use Rattle.gixobj_data.specs.declared.find.Error.{Error}
 use Rattle.gixobj_data.specs.declared.find.Error.TheVariants.{OutOfMemory, Store}

@@ -1,6 +1,6 @@
 //! Objects whose content is not yet read.
 ghost use Rattle.std.specs.Prelude.{◌≡◌, ◌↔◌, IfErr, IfOk, IfSome, IsSome};
-ghost use Rattle.gixobj_ids.specs.declared.kind.Kind.TheVariants as object;
+ghost use Rattle.gixobj_hash.specs.declared.kind.Kind.TheVariants as object;
 ghost use Rattle.gixobj_data.specs.EntryGiving.{IsAtEntry};
 ghost use Rattle.gixobj_object_readers.specs.BorrowedObjects.{HasObjectIds, IsReadyToWrite};
 ghost use Rattle.gixobj_object_readers.specs.ObjectReading.{IsObjectText, RefusesObjectText};
@@ -10,8 +10,8 @@ ghost use Rattle.gixobj_tokens.specs.TokenGiving.{IsAtStart};
 pub mod verify;
 
 use crate::tree::TreeRefIter;
-use gixobj_ids::decode::Error;
-use gixobj_ids::{Kind, hash};
+use gixobj_hash::decode::Error;
+use gixobj_hash::{Kind, hash};
 use gixobj_object_readers::ObjectRef;
 use gixobj_tag_tokens::TagRefIter;
 use gixobj_tokens::CommitRefIter;

@@ -1,6 +1,6 @@
 //! Why a store of objects finds none.
 use bstr::BString;
-use gixobj_ids::OutOfMemory;
+use gixobj_hash::OutOfMemory;
 use std::alloc::{AllocError, AllocFailed};
 
 /// The refusal of a lookup in a store.

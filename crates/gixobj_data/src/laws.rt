@@ -2,9 +2,9 @@
 ghost use Rattle.std.specs.Prelude.{◌≡◌, ◌≢◌, ◌⊎◌, ◌++◌, ◌∷◌, [], ℕ, Err, List, None, Ok, Option, Result, Some};
 ghost use Rattle.std.specs.FinMap as finite;
 ghost use Rattle.gixobj_fields.specs.Runs.{Ending, broken, complete};
-ghost use Rattle.gixobj_ids.specs.declared.decode.Error.{Error};
-ghost use Rattle.gixobj_ids.specs.declared.hash.kind.Kind.{Kind};
-ghost use Rattle.gixobj_ids.specs.declared.hash.object_id.ObjectId.{ObjectId};
+ghost use Rattle.gixobj_hash.specs.declared.decode.Error.{Error};
+ghost use Rattle.gixobj_hash.specs.declared.hash.kind.Kind.{Kind};
+ghost use Rattle.gixobj_hash.specs.declared.hash.object_id.ObjectId.{ObjectId};
 ghost use Rattle.gixobj_trees.specs.Entries.{EntryView};
 ghost use Rattle.gixobj_tree_readers.specs.TreeReading.{IsTreeText, TellsEntries};
 ghost use Rattle.gixobj_tree_readers.specs.TreeViews.{entry_view};

@@ -1,14 +1,14 @@
 //! What a store of objects is, and how objects are looked up in it.
 ghost use Rattle.std.specs.Prelude.{◌≡◌, IfErr, IfOk, IsFalse, is_some};
 ghost use Rattle.gixobj_data.specs.Stores.{IsFound, IsHeaderFound, RefusesFind, named};
-ghost use Rattle.gixobj_ids.specs.Hash.Borrowed.{borrowed_id};
+ghost use Rattle.gixobj_hash.specs.Hash.Borrowed.{borrowed_id};
 
 mod impls;
 
 use crate::data::Data;
 use crate::find::Error;
-use gixobj_ids::Header;
-use gixobj_ids::hash::oid;
+use gixobj_hash::Header;
+use gixobj_hash::hash::oid;
 
 /// A store of objects, as contracts see it. It has no calls of its own.
 ///
@@ -17,7 +17,7 @@ use gixobj_ids::hash::oid;
 pub trait Store {
     ghost use Rattle.std.specs.Prelude.{Bool};
     ghost use Rattle.gixobj_data.specs.Stores.{Objects};
-    ghost use Rattle.gixobj_ids.specs.declared.hash.object_id.ObjectId.{ObjectId};
+    ghost use Rattle.gixobj_hash.specs.declared.hash.object_id.ObjectId.{ObjectId};
 
     /// Which object each id names.
     ghost objects: { Self → Objects };

@@ -6,8 +6,8 @@ ghost use Rattle.gixobj_tree_readers.specs.TreeViews.{entry_view};
 
 mod lookup;
 
-use gixobj_ids::decode::Error;
-use gixobj_ids::hash;
+use gixobj_hash::decode::Error;
+use gixobj_hash::hash;
 use gixobj_tree_readers::TreeRef;
 use gixobj_tree_readers::tree::EntryRef;
 use gixobj_tree_readers::tree::decode::read_entry;
@@ -33,7 +33,7 @@ impl<'a> TreeRefIter<'a> {
 }
 
 impl<'a> Default for TreeRefIter<'a> {
-    ghost use Rattle.gixobj_ids.specs.declared.hash.kind.Kind.TheVariants.{Sha1};
+    ghost use Rattle.gixobj_hash.specs.declared.hash.kind.Kind.TheVariants.{Sha1};
 
     ghost is_default = { IsAtEntry Sha1 [] };
 

@@ -4,8 +4,8 @@ use Rattle.std.specs.Cmp.Lexicographic.{bytes_decides, slice_cmp}
 use Rattle.std.specs.List.{AllByRecursion}
 use Rattle.std.specs.Ordering.{nat_cmp}
 use Rattle.gixobj_files.specs.Editing.{same_name}
-use Rattle.gixobj_texts.proofs.Splits.{free_of_cut}
-use Rattle.gixobj_texts.specs.Parse.{IsFree}
+use Rattle.gixobj_hash.proofs.Splits.{free_of_cut}
+use Rattle.gixobj_hash.specs.Texts.{IsFree}
 use Rattle.gixobj_tree_readers.proofs.Deciding.{cut_or_free}
 use Rattle.gixobj_trees.specs.Entries.{ComesBefore, EachLater, EntryView, IsEntryName, IsWellFormed, entry_key}
 

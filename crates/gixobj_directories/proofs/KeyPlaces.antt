@@ -16,7 +16,7 @@ use Rattle.std.proofs.lemmas.List.Folds.{list_any_at, list_any_none}
 use Rattle.std.proofs.lemmas.List.Quantifiers.{position-Some}
 use Rattle.std.proofs.lemmas.List.Sums.{prefix_len-le-length, prefix_len_passes, prefix_len_stops}
 use Rattle.gixobj_files.specs.Editing.{has_tree, same_name}
-use Rattle.gixobj_texts.specs.Parse.{IsFree}
+use Rattle.gixobj_hash.specs.Texts.{IsFree}
 use Rattle.gixobj_trees.proofs.NameKeys.{by_keys}
 use Rattle.gixobj_trees.proofs.WellFormed.{found, same_key}
 use Rattle.gixobj_trees.specs.Entries.{EntryView, IsEntryName, IsWellFormed, entry_key, key_of, name_cmp}

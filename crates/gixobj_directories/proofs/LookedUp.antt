@@ -8,9 +8,9 @@ use Rattle.gixobj_fields.specs.Runs as runs
 use Rattle.gixobj_fields.specs.Runs.{complete, tells_end, tells_piece}
 use Rattle.gixobj_files.specs.Files.{Below, Files, Has, Table, Trees, is_null, stands_for}
 use Rattle.gixobj_files.specs.Tables.{AgreesWithStore}
-use Rattle.gixobj_ids.specs.Hash.{id_bytes}
-use Rattle.gixobj_ids.specs.declared.hash.kind.Kind.{Kind}
-use Rattle.gixobj_ids.specs.declared.hash.object_id.ObjectId.{ObjectId}
+use Rattle.gixobj_hash.specs.Hash.{id_bytes}
+use Rattle.gixobj_hash.specs.declared.hash.kind.Kind.{Kind}
+use Rattle.gixobj_hash.specs.declared.hash.object_id.ObjectId.{ObjectId}
 use Rattle.gixobj_tree_readers.proofs.EntryRuns.{told}
 use Rattle.gixobj_tree_readers.proofs.OneEntry.{one_entry}
 use Rattle.gixobj_tree_readers.specs.TreeReading.{BeginsWithEntry, HasEntry, IsTreeText, TellsEntries}

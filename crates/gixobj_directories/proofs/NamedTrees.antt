@@ -2,9 +2,9 @@
 use Rattle.std.proofs.Common.{◌≡◌, ◌≢◌, ⊎_elim, List, Option, Some, None, ap, refl, sym, subst, ◌∙◌}
 use Rattle.gixobj_data.specs.Stores.{Objects, StoredObject, named}
 use Rattle.gixobj_files.specs.Files.{Trees}
-use Rattle.gixobj_ids.specs.declared.hash.object_id.ObjectId.{ObjectId}
-use Rattle.gixobj_ids.specs.declared.kind.Kind.{Kind}
-use Rattle.gixobj_ids.specs.declared.kind.Kind.TheVariants.{Blob, Commit, Tag, Tree}
+use Rattle.gixobj_hash.specs.declared.hash.object_id.ObjectId.{ObjectId}
+use Rattle.gixobj_hash.specs.declared.kind.Kind.{Kind}
+use Rattle.gixobj_hash.specs.declared.kind.Kind.TheVariants.{Blob, Commit, Tag, Tree}
 use Rattle.gixobj_tree_readers.proofs.Deciding.{tree_or_none}
 use Rattle.gixobj_tree_readers.proofs.EntryRuns.{one_tree}
 use Rattle.gixobj_tree_readers.specs.TreeReading.{IsTreeText}

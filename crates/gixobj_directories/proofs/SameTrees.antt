@@ -6,9 +6,9 @@ use Rattle.std.specs.Cmp.{tied_then}
 use Rattle.std.specs.Cmp.Lexicographic.{bytes_decides, slice_cmp, texts_ties}
 use Rattle.std.specs.Ordering.{is_eq, nat_cmp}
 use Rattle.std.proofs.lemmas.Bool.{eqb-true}
-use Rattle.gixobj_ids.specs.Hash.Order.{id_cmp}
-use Rattle.gixobj_ids.specs.declared.hash.object_id.ObjectId.{ObjectId}
-use Rattle.gixobj_ids.specs.declared.hash.object_id.ObjectId.TheVariants.{Sha1, Sha256}
+use Rattle.gixobj_hash.specs.Hash.Order.{id_cmp}
+use Rattle.gixobj_hash.specs.declared.hash.object_id.ObjectId.{ObjectId}
+use Rattle.gixobj_hash.specs.declared.hash.object_id.ObjectId.TheVariants.{Sha1, Sha256}
 use Rattle.gixobj_trees.specs.Entries.{EntryView, entry_of}
 use Rattle.gixobj_trees.specs.EntryOrder.{same_entry, same_tree}
 use Rattle.gixobj_trees.specs.EntryOrderLaws.{tree_equiv}

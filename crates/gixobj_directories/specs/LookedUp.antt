@@ -4,8 +4,8 @@ use Rattle.gixobj_data.specs.Lookups.{IsPath, Name}
 use Rattle.gixobj_data.specs.Stores.{Objects}
 use Rattle.gixobj_files.specs.Files.{Table, is_null, stands_for}
 use Rattle.gixobj_files.specs.Tables.{IsEmptyId}
-use Rattle.gixobj_ids.specs.declared.hash.kind.Kind.{Kind}
-use Rattle.gixobj_ids.specs.declared.kind.Kind.TheVariants.{Tree}
+use Rattle.gixobj_hash.specs.declared.hash.kind.Kind.{Kind}
+use Rattle.gixobj_hash.specs.declared.kind.Kind.TheVariants.{Tree}
 use Rattle.gixobj_trees.specs.Entries.{EntryView}
 use Rattle.gixobj_trees.specs.Mode.{is_tree_mode}
 use Rattle.gixobj_directories.specs.Openings.{NamesTree}

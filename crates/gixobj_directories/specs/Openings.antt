@@ -4,9 +4,9 @@ use Rattle.gixobj_data.specs.Stores.{Objects}
 use Rattle.gixobj_data.specs.declared.find.Error.TheVariants as find
 use Rattle.gixobj_files.specs.Edits.{IsNoTree, IsUnasked}
 use Rattle.gixobj_files.specs.Files.{Trees}
-use Rattle.gixobj_ids.specs.declared.decode.Error.TheVariants as decode
-use Rattle.gixobj_ids.specs.declared.hash.object_id.ObjectId.{ObjectId}
-use Rattle.gixobj_ids.specs.declared.kind.Kind.TheVariants.{Tree}
+use Rattle.gixobj_hash.specs.declared.decode.Error.TheVariants as decode
+use Rattle.gixobj_hash.specs.declared.hash.object_id.ObjectId.{ObjectId}
+use Rattle.gixobj_hash.specs.declared.kind.Kind.TheVariants.{Tree}
 use Rattle.gixobj_lookups.specs.Existing.{NamesSuch, RefusesObject}
 use Rattle.gixobj_lookups.specs.declared.find.existing_object.Error as found
 use Rattle.gixobj_lookups.specs.declared.find.existing_object.Error.TheVariants as object

@@ -1,7 +1,7 @@
 -- A tree that is made beside a base: its entries so far.
 use Rattle.std.specs.Prelude.{◌≢◌, ◌≤◌, List, ◌++◌, length, take}
 use Rattle.gixobj_trees.specs.Entries.{EntryView}
-use Rattle.gixobj_ids.specs.declared.hash.object_id.ObjectId.{ObjectId}
+use Rattle.gixobj_hash.specs.declared.hash.object_id.ObjectId.{ObjectId}
 use Rattle.gixobj_directories.specs.declared.own_tree.OwnTree.{OwnTree}
 use Rattle.gixobj_directories.specs.declared.own_tree.OwnTree.TheVariants.{Front, Own}
 

@@ -10,7 +10,7 @@ ghost use Rattle.gixobj_files.specs.Bases.{edited_bases};
 
 use crate::open::{Open, add_directory, child_at};
 use bstr::BString;
-use gixobj_ids::hash::ObjectId;
+use gixobj_hash::hash::ObjectId;
 use gixobj_trees::Tree;
 use std::alloc::{AllocError, Global};
 

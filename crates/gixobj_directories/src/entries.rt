@@ -3,8 +3,8 @@ ghost use Rattle.std.specs.Prelude.{◌≡◌, ◌≢◌, ◌≤◌, ◌<◌, If
 ghost use Rattle.std.specs.List.{position, prefix_len};
 ghost use Rattle.gixobj_trees.specs.Entries.{EachLater, IsEntryName, IsWellFormed, entry_key};
 ghost use Rattle.gixobj_trees.specs.WellFormed.{HasKey};
-ghost use Rattle.gixobj_texts.specs.Parse.{IsFree};
-ghost use Rattle.gixobj_texts.specs.Bytes.{slash};
+ghost use Rattle.gixobj_hash.specs.Texts.{IsFree};
+ghost use Rattle.gixobj_hash.specs.Bytes.{slash};
 ghost use Rattle.gixobj_files.specs.Editing.{comes_before, kept, same_name, with_entry, without};
 ghost use Rattle.gixobj_files.specs.Files.{is_null};
 

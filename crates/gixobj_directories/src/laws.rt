@@ -6,7 +6,7 @@ ghost use Rattle.gixobj_directories.specs.LookedUp.{IsFileIn, IsLookedUp};
 ghost use Rattle.gixobj_directories.specs.Openings.{AreTreesOf};
 ghost use Rattle.gixobj_files.specs.Files.{Files, Table, Trees};
 ghost use Rattle.gixobj_files.specs.Tables.{AgreesWithStore};
-ghost use Rattle.gixobj_ids.specs.declared.hash.kind.Kind.{Kind};
+ghost use Rattle.gixobj_hash.specs.declared.hash.kind.Kind.{Kind};
 ghost use Rattle.gixobj_tree_readers.specs.TreeReading.{IsTreeText};
 ghost use Rattle.gixobj_trees.specs.Entries.{EntryView};
 

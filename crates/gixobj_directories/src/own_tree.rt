@@ -5,7 +5,7 @@ ghost use Rattle.gixobj_trees.specs.EntryOrder.{same_entry};
 ghost use Rattle.gixobj_directories.specs.OwnTrees.{IsBeside, so_far, with_id};
 
 use crate::entries::{copies, copy};
-use gixobj_ids::hash::ObjectId;
+use gixobj_hash::hash::ObjectId;
 use gixobj_trees::Tree;
 use gixobj_trees::tree::Entry;
 use std::alloc::{AllocError, Global};

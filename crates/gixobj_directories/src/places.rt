@@ -1,15 +1,15 @@
 //! Places among the entries of a well-formed tree, sought by halves.
 ghost use Rattle.std.specs.Prelude.{◌≡◌, ◌<◌, ◌≤◌, false, true, IfErr, IfOk, MatchResult, Some, vec_capacity, vec_len};
 ghost use Rattle.std.specs.List.{HoldsAt, position, prefix_len};
-ghost use Rattle.gixobj_texts.specs.Bytes.{slash};
-ghost use Rattle.gixobj_texts.specs.Parse.{IsFree};
+ghost use Rattle.gixobj_hash.specs.Bytes.{slash};
+ghost use Rattle.gixobj_hash.specs.Texts.{IsFree};
 ghost use Rattle.gixobj_trees.specs.Entries.{IsWellFormed, key_of, name_cmp};
 ghost use Rattle.gixobj_trees.specs.Mode.{is_tree_mode};
 ghost use Rattle.gixobj_trees.specs.WellFormed.{HasKey};
 ghost use Rattle.gixobj_files.specs.Editing.{same_name, without};
 ghost use Rattle.gixobj_directories.specs.KeyPlaces.{has_key_before};
 
-use gixobj_texts::parse::has_byte;
+use gixobj_hash::texts::has_byte;
 use gixobj_trees::tree::{Entry, name_order};
 use std::cmp::Ordering;
 

@@ -18,7 +18,7 @@ ghost use Rattle.gixobj_directories.specs.OwnTrees.{IsBeside, so_far};
 use crate::open::{Child, Open, child_at, copy_tree};
 use crate::own_tree::OwnTree;
 use bstr::BString;
-use gixobj_ids::hash::ObjectId;
+use gixobj_hash::hash::ObjectId;
 use gixobj_trees::Tree;
 use gixobj_trees::tree::Entry;
 use std::alloc::{AllocError, AllocFailed, Global};

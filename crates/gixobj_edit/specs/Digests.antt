@@ -4,10 +4,10 @@ use Rattle.gixobj_fields.specs.declared.encode.Error.{Error}
 use Rattle.gixobj_fields.specs.declared.encode.Error.TheVariants.{Writer}
 use Rattle.gixobj_files.specs.Files.{is_null}
 use Rattle.gixobj_files.specs.Tables.{Pair}
-use Rattle.gixobj_ids.specs.Hash.{id_of}
-use Rattle.gixobj_ids.specs.declared.hash.kind.Kind as hash
-use Rattle.gixobj_ids.specs.declared.hash.object_id.ObjectId.{ObjectId}
-use Rattle.gixobj_ids.specs.declared.kind.Kind.TheVariants.{Tree}
+use Rattle.gixobj_hash.specs.Hash.{id_of}
+use Rattle.gixobj_hash.specs.declared.hash.kind.Kind as hash
+use Rattle.gixobj_hash.specs.declared.hash.object_id.ObjectId.{ObjectId}
+use Rattle.gixobj_hash.specs.declared.kind.Kind.TheVariants.{Tree}
 use Rattle.gixobj_keeping.specs.Keeping.{HasNoText, HasText}
 use Rattle.gixobj_trees.specs.Entries.{EntryView}
 use Rattle.gixobj_trees.specs.TreeText.{tree_text}

@@ -8,7 +8,7 @@ use Rattle.gixobj_edit.specs.Telling.{answers_to_all}
 use Rattle.gixobj_edit.specs.declared.editing.EditError.{EditError}
 use Rattle.gixobj_edit.specs.declared.editing.EditError.TheVariants as editing
 use Rattle.gixobj_files.specs.State.{State, root_alone}
-use Rattle.gixobj_ids.specs.declared.hash.kind.Kind as hash
+use Rattle.gixobj_hash.specs.declared.hash.kind.Kind as hash
 use Rattle.gixobj_runs.specs.Replies.{Answers, IsRun, Meaning}
 use Rattle.gixobj_runs.specs.declared.reply.Reply.{Reply}
 use Rattle.gixobj_script.specs.Answers.{lines_of}

@@ -6,7 +6,7 @@ use Rattle.gixobj_edit.specs.declared.editing.EditError.TheVariants as editing
 use Rattle.gixobj_edit.specs.declared.fault.Fault.{Fault}
 use Rattle.gixobj_edit.specs.declared.fault.Fault.TheVariants as fault
 use Rattle.gixobj_fields.specs.Streams.{Puts, PutsFront, SinkView}
-use Rattle.gixobj_ids.specs.declared.hash.kind.Kind as hash
+use Rattle.gixobj_hash.specs.declared.hash.kind.Kind as hash
 use Rattle.gixobj_loose.specs.Engine.{ReadsAll, Unwritten}
 use Rattle.gixobj_loose.specs.declared.refusal.Refusal.TheVariants as refusal
 

@@ -1,6 +1,6 @@
 -- Whether the words after the program's name ask for a script to be run.
 use Rattle.std.specs.Prelude.{◌≡◌, ℕ, List, ◌∷◌, codes}
-use Rattle.gixobj_ids.specs.declared.hash.kind.Kind.{Kind}
+use Rattle.gixobj_hash.specs.declared.hash.kind.Kind.{Kind}
 use Rattle.gixobj_loose.specs.Words.{hash_words}
 
 -- a script, by this kind of digest

@@ -2,8 +2,8 @@
 ghost use Rattle.gixobj_edit.specs.Digests.{IsAnsweredDigest};
 
 use gixobj_fields::{WriteTo, encode};
-use gixobj_ids::hash::ObjectId;
-use gixobj_ids::{Kind, compute_hash, hash};
+use gixobj_hash::hash::ObjectId;
+use gixobj_hash::{Kind, compute_hash, hash};
 use gixobj_trees::Tree;
 use std::alloc::Global;
 

@@ -14,7 +14,7 @@ use crate::editing::edit;
 use crate::fault::{Fault, tell_fault};
 use crate::words::asked_to_edit;
 use gixobj_fields::streams::{FromRead, Sink, Source, ToWrite};
-use gixobj_ids::hash;
+use gixobj_hash::hash;
 use gixobj_loose::Refusal;
 use gixobj_loose::input::read_all;
 use std::alloc::Global;

@@ -6,7 +6,7 @@ ghost use Rattle.gixobj_edit.specs.Digests.{HaveOwnIds, IsAnsweredDigest};
 ghost use Rattle.gixobj_edit.specs.Edits.{memory_means};
 ghost use Rattle.gixobj_files.specs.Files.{Table};
 ghost use Rattle.gixobj_files.specs.State.{State};
-ghost use Rattle.gixobj_ids.specs.declared.hash.kind.Kind.{Kind};
+ghost use Rattle.gixobj_hash.specs.declared.hash.kind.Kind.{Kind};
 ghost use Rattle.gixobj_runs.specs.Commands.{pairs_handed_out, pairs_kept};
 ghost use Rattle.gixobj_runs.specs.Replies.{IsRun};
 ghost use Rattle.gixobj_runs.specs.RunTables.{AgreesWithRun};

@@ -5,7 +5,7 @@ ghost use Rattle.gixobj_edit.specs.Telling.{answer_to_edit, answers_to, answers_
 
 use gixobj_directories::write::WriteError;
 use gixobj_editor::editor::Error;
-use gixobj_ids::OutOfMemory;
+use gixobj_hash::OutOfMemory;
 use gixobj_runs::{EditReply, Reply};
 use gixobj_script::{Answer, Refusal};
 use std::alloc::Global;

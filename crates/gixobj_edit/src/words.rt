@@ -3,7 +3,7 @@ ghost use Rattle.std.specs.Prelude.{IfNone, IfSome, map};
 ghost use Rattle.std.specs.String.{string_bytes};
 ghost use Rattle.gixobj_edit.specs.Words.{AsksForEdit, AsksForNoEdit};
 
-use gixobj_ids::hash;
+use gixobj_hash::hash;
 
 /// The kind of digest by which a script is to be run, or none for other words: the word `edit` is by SHA-1, and with the
 /// word `sha256` behind it by SHA-256.

@@ -21,9 +21,9 @@ use Rattle.gixobj_files.proofs.PrefixStays.{assured_stays}
 use Rattle.gixobj_files.proofs.StillOpenedAssured.{opened_assured}
 use Rattle.gixobj_files.proofs.StillOpenedOpenings.{opened_opening, opening_keeps}
 use Rattle.gixobj_files.proofs.UnopenedCounts.{asked_count}
-use Rattle.gixobj_ids.specs.Hash.{null_id}
-use Rattle.gixobj_ids.specs.declared.hash.kind.Kind.{Kind}
-use Rattle.gixobj_ids.specs.declared.hash.object_id.ObjectId.{ObjectId}
+use Rattle.gixobj_hash.specs.Hash.{null_id}
+use Rattle.gixobj_hash.specs.declared.hash.kind.Kind.{Kind}
+use Rattle.gixobj_hash.specs.declared.hash.object_id.ObjectId.{ObjectId}
 use Rattle.gixobj_trees.specs.Entries.{EntryView, IsEntryName}
 use Rattle.gixobj_editor.specs.Cursors.{IsAssured, RefusesCursor}
 use Rattle.gixobj_editor.specs.Upserts.{RefusesNames, edit_refusal}

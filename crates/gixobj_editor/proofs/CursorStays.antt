@@ -11,8 +11,8 @@ use Rattle.gixobj_files.specs.State.{EditorFiles, State, open_bases, open_dirs}
 use Rattle.gixobj_files.proofs.EditedFiles.{same_refl}
 use Rattle.gixobj_files.proofs.PrefixStays.{removed_stays, upserted_stays}
 use Rattle.gixobj_files.proofs.StillOpenedOpenings.{opening_keeps}
-use Rattle.gixobj_ids.specs.Hash.{null_id}
-use Rattle.gixobj_ids.specs.declared.hash.object_id.ObjectId.{ObjectId}
+use Rattle.gixobj_hash.specs.Hash.{null_id}
+use Rattle.gixobj_hash.specs.declared.hash.object_id.ObjectId.{ObjectId}
 use Rattle.gixobj_trees.specs.Entries.{EntryView}
 use Rattle.gixobj_editor.specs.Cursors.{from_root}
 use Rattle.gixobj_editor.specs.Removals.{IsRemoved}

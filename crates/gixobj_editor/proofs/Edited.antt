@@ -6,9 +6,9 @@ use Rattle.std.specs.Prelude.{IfOk, OnOk}
 use Rattle.std.specs.FinMap as map
 use Rattle.std.specs.List.{AllByRecursion}
 use Rattle.gixobj_trees.specs.Entries.{EntryView, IsEntryName}
-use Rattle.gixobj_ids.specs.Hash.{null_id}
-use Rattle.gixobj_ids.specs.declared.hash.kind.Kind.{Kind}
-use Rattle.gixobj_ids.specs.declared.hash.object_id.ObjectId.{ObjectId}
+use Rattle.gixobj_hash.specs.Hash.{null_id}
+use Rattle.gixobj_hash.specs.declared.hash.kind.Kind.{Kind}
+use Rattle.gixobj_hash.specs.declared.hash.object_id.ObjectId.{ObjectId}
 use Rattle.gixobj_data.specs.Stores.{Objects}
 use Rattle.gixobj_files.specs.Edits.{IsNoTree, Opens, arrived, counted, upserted_dirs, raised}
 use Rattle.gixobj_files.specs.Files.{Path, SameFiles, Trees, Upserted}

@@ -6,7 +6,7 @@ use Rattle.bstr.specs.declared.bstring.BString.{BString}
 use Rattle.gixobj_directories.specs.Calls.{names_of}
 use Rattle.gixobj_files.specs.Edits.{counted, raised}
 use Rattle.gixobj_files.specs.Files.{Path}
-use Rattle.gixobj_ids.specs.declared.hash.object_id.ObjectId.{ObjectId}
+use Rattle.gixobj_hash.specs.declared.hash.object_id.ObjectId.{ObjectId}
 use Rattle.gixobj_editor.specs.Upserts.{directory_of}
 
 pub directory_is : (front : Path) (last : List ℕ) → directory_of (front ++ last ∷ []) ≡ front

@@ -3,10 +3,10 @@ use Rattle.std.proofs.Common.{◌≡◌, ◌≢◌, ◌∙◌, ℕ, List, [], �
 use Rattle.std.specs.Prelude.{IfOk, OnErr}
 use Rattle.std.proofs.lemmas.List.Elements.{recursion_from_All}
 use Rattle.gixobj_trees.specs.Entries.{EntryView, IsEntryName, IsWellFormed}
-use Rattle.gixobj_ids.specs.Hash.{null_id}
-use Rattle.gixobj_ids.specs.declared.hash.kind.Kind.{Kind}
-use Rattle.gixobj_ids.specs.declared.hash.kind.Kind.TheVariants as hash
-use Rattle.gixobj_ids.specs.declared.hash.object_id.ObjectId.{ObjectId}
+use Rattle.gixobj_hash.specs.Hash.{null_id}
+use Rattle.gixobj_hash.specs.declared.hash.kind.Kind.{Kind}
+use Rattle.gixobj_hash.specs.declared.hash.kind.Kind.TheVariants as hash
+use Rattle.gixobj_hash.specs.declared.hash.object_id.ObjectId.{ObjectId}
 use Rattle.gixobj_directories.specs.Calls.{AreNames, IsStorable}
 use Rattle.gixobj_directories.specs.Nested.{Opened, bases_of, dirs_of, opened}
 use Rattle.gixobj_directories.proofs.BaseSteps.{no_base}

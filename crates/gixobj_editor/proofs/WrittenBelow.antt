@@ -14,8 +14,8 @@ use Rattle.gixobj_files.specs.State.{State, open_dirs}
 use Rattle.gixobj_files.specs.Tables.{AgreesWithPairs, Pair}
 use Rattle.gixobj_files.proofs.BelowPrefix.{at_prefix, opened_replaced}
 use Rattle.gixobj_files.proofs.CursorFiles.{written_below_files, written_same_files}
-use Rattle.gixobj_ids.specs.declared.hash.kind.Kind.{Kind}
-use Rattle.gixobj_ids.specs.declared.hash.object_id.ObjectId.{ObjectId}
+use Rattle.gixobj_hash.specs.declared.hash.kind.Kind.{Kind}
+use Rattle.gixobj_hash.specs.declared.hash.object_id.ObjectId.{ObjectId}
 use Rattle.gixobj_trees.specs.Entries.{EntryView}
 use Rattle.gixobj_directories.specs.declared.write.Written.{Written}
 use Rattle.gixobj_editor.specs.Cursors.{IsWrittenBelow}

@@ -10,8 +10,8 @@ use Rattle.gixobj_extra_headers.specs.ExtraHeaders.{pair_of}
 use Rattle.gixobj_extra_headers.specs.Mergetags.{GivesMergetag, IsTagOf, IsTagOrNone, mergetag_kind, mergetag_values, mergetags_left, tag_if_ok}
 use Rattle.gixobj_extra_headers.specs.declared.extra_headers.Mergetags.{Mergetags}
 use Rattle.gixobj_fields.specs.HeaderText.{Header}
-use Rattle.gixobj_ids.specs.declared.decode.Error.{Error}
-use Rattle.gixobj_ids.specs.declared.hash.kind.Kind.{Kind}
+use Rattle.gixobj_hash.specs.declared.decode.Error.{Error}
+use Rattle.gixobj_hash.specs.declared.hash.kind.Kind.{Kind}
 use Rattle.gixobj_tags.proofs.WholeTags.{one_tag}
 use Rattle.gixobj_tags.specs.TagText.{TagLines}
 use Rattle.gixobj_tags.specs.TagViews.{tag_lines}

@@ -4,9 +4,9 @@ use Rattle.std.proofs.lemmas.List.Elements.{All-head, All-tail, All-weaker}
 use Rattle.std.proofs.lemmas.List.{take_all}
 use Rattle.bstr.specs.BStr.{bstr_bytes}
 use Rattle.bstr.specs.declared.bstr.BStr.{BStr}
-use Rattle.gixobj_ids.proofs.HexIds.{of_an_id, of_its_kind}
-use Rattle.gixobj_ids.specs.Hash.{IsHexOfAnId}
-use Rattle.gixobj_ids.specs.Hash.Hex.{IsHexOfItsKind}
+use Rattle.gixobj_hash.proofs.HexIds.{of_an_id, of_its_kind}
+use Rattle.gixobj_hash.specs.Hash.{IsHexOfAnId}
+use Rattle.gixobj_hash.specs.Hash.Hex.{IsHexOfItsKind}
 
 pub all_of_their_kind : (texts : List (List ℕ)) → All IsHexOfAnId texts → All IsHexOfItsKind texts
 all_of_their_kind texts all = All-weaker IsHexOfAnId IsHexOfItsKind of_its_kind texts all

@@ -8,8 +8,8 @@ use Rattle.bstr.specs.declared.bstr.BStr.{BStr}
 use Rattle.gixobj_fields.specs.HeaderText.{Header}
 use Rattle.gixobj_extra_headers.specs.declared.extra_headers.ExtraHeaders.{ExtraHeaders}
 use Rattle.gixobj_extra_headers.specs.declared.extra_headers.FindAll.{FindAll}
-use Rattle.gixobj_ids.specs.declared.hash.kind.Kind.{Kind}
-use Rattle.gixobj_ids.specs.declared.hash.kind.Kind.TheVariants as hash
+use Rattle.gixobj_hash.specs.declared.hash.kind.Kind.{Kind}
+use Rattle.gixobj_hash.specs.declared.hash.kind.Kind.TheVariants as hash
 
 -- the name of the header with a commit's signature (gitformat-signature, "Commit signatures")
 abbrev pub signature_field : Kind → List ℕ

@@ -4,4 +4,4 @@ pub mod Mergetags
 pub mod ParentsLeft
 pub use Rattle.gixobj_fields.specs.HeaderReading
 pub use Rattle.gixobj_fields.specs.HeaderText
-pub use Rattle.gixobj_ids.specs.Hash
+pub use Rattle.gixobj_hash.specs.Hash

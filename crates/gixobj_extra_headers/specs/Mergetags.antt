@@ -6,9 +6,9 @@ use Rattle.gixobj_fields.specs.HeaderText.{Header}
 use Rattle.gixobj_extra_headers.specs.ExtraHeaders.{GivesAll, searched, sought, values_named}
 use Rattle.gixobj_extra_headers.specs.declared.extra_headers.FindAll.{FindAll}
 use Rattle.gixobj_extra_headers.specs.declared.extra_headers.Mergetags.{Mergetags}
-use Rattle.gixobj_ids.specs.declared.decode.Error.{Error}
-use Rattle.gixobj_ids.specs.declared.decode.Error.TheVariants.{Malformed}
-use Rattle.gixobj_ids.specs.declared.hash.kind.Kind.{Kind}
+use Rattle.gixobj_hash.specs.declared.decode.Error.{Error}
+use Rattle.gixobj_hash.specs.declared.decode.Error.TheVariants.{Malformed}
+use Rattle.gixobj_hash.specs.declared.hash.kind.Kind.{Kind}
 use Rattle.gixobj_tags.specs.TagText.{IsNoTagText, IsTagText, TagLines}
 use Rattle.gixobj_tags.specs.TagViews.{tag_lines}
 use Rattle.gixobj_tags.specs.declared.tag.TagRef.{TagRef}

@@ -1,8 +1,8 @@
 -- The ids of a commit's parents.
 use Rattle.std.specs.Prelude.{List, map}
 use Rattle.bstr.specs.BStr.{bstr_bytes}
-use Rattle.gixobj_ids.specs.declared.hash.object_id.ObjectId.{ObjectId}
-use Rattle.gixobj_ids.specs.Hash.Hex.{spelled_id}
+use Rattle.gixobj_hash.specs.declared.hash.object_id.ObjectId.{ObjectId}
+use Rattle.gixobj_hash.specs.Hash.Hex.{spelled_id}
 use Rattle.gixobj_extra_headers.specs.declared.parents.Parents.{Parents}
 
 -- the parents that are still to come

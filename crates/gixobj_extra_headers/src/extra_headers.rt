@@ -8,8 +8,8 @@ ghost use Rattle.gixobj_extra_headers.specs.HeadersLeft.{headers_left, owned_hea
 ghost use Rattle.gixobj_extra_headers.specs.Mergetags.{IsTagOf, mergetag_kind, mergetag_values};
 
 use bstr::{BStr, BString};
-use gixobj_ids::decode::Error;
-use gixobj_ids::hash::Kind;
+use gixobj_hash::decode::Error;
+use gixobj_hash::hash::Kind;
 use gixobj_tags::TagRef;
 use std::borrow::CowSlice;
 

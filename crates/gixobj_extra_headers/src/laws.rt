@@ -12,7 +12,7 @@ ghost use Rattle.gixobj_extra_headers.specs.declared.extra_headers.BorrowedHeade
 ghost use Rattle.gixobj_extra_headers.specs.declared.extra_headers.FindAll.{FindAll};
 ghost use Rattle.gixobj_extra_headers.specs.declared.extra_headers.Mergetags.{Mergetags};
 ghost use Rattle.gixobj_extra_headers.specs.declared.extra_headers.OwnedHeaders.{OwnedHeaders};
-ghost use Rattle.gixobj_ids.specs.declared.decode.Error.{Error};
+ghost use Rattle.gixobj_hash.specs.declared.decode.Error.{Error};
 ghost use Rattle.gixobj_tags.specs.TagText.{TagLines};
 ghost use Rattle.gixobj_tags.specs.declared.tag.TagRef.{TagRef};
 

@@ -1,12 +1,12 @@
 //! The parents of commits.
 ghost use Rattle.std.specs.Prelude.{◌≡◌, All, map};
 ghost use Rattle.bstr.specs.BStr.{bstr_bytes};
-ghost use Rattle.gixobj_ids.specs.Hash.{IsHexOfAnId};
-ghost use Rattle.gixobj_ids.specs.Hash.Hex.{IsHexOfItsKind, spelled_id};
+ghost use Rattle.gixobj_hash.specs.Hash.{IsHexOfAnId};
+ghost use Rattle.gixobj_hash.specs.Hash.Hex.{IsHexOfItsKind, spelled_id};
 
 use bstr::BStr;
-use gixobj_ids::hash::ObjectId;
-use gixobj_ids::parse::id_of_hex;
+use gixobj_hash::hash::ObjectId;
+use gixobj_hash::parse::id_of_hex;
 
 /// The ids of a commit's parents, in order.
 #[derive(Clone, Copy, Debug)]

@@ -7,10 +7,10 @@ use Rattle.std.proofs.lemmas.List.{append-nil}
 use Rattle.std.proofs.lemmas.List.Elements.{All-contains, All-head, All-tail}
 use Rattle.hex.proofs.HexLemmas.{length-encode_with}
 use Rattle.hex.specs.Hex.{lower_digits}
-use Rattle.gixobj_ids.specs.Hash.{hex_text, id_bytes}
-use Rattle.gixobj_ids.specs.declared.hash.object_id.ObjectId.{ObjectId}
+use Rattle.gixobj_hash.specs.Hash.{hex_text, id_bytes}
+use Rattle.gixobj_hash.specs.declared.hash.object_id.ObjectId.{ObjectId}
 use Rattle.gixobj_fields.specs.HeaderText.{field_text, following_text, line_text}
-use Rattle.gixobj_texts.specs.Parse.{IsFree, SplitsAt}
+use Rattle.gixobj_hash.specs.Texts.{IsFree, SplitsAt}
 use Rattle.gixobj_fields.specs.Streams.{Puts, PutsFront, SinkView}
 use Rattle.gixobj_fields.specs.Writing.{RefusesNothing}
 use Rattle.gixobj_fields.proofs.Puts.{front_within}

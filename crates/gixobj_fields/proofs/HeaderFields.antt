@@ -12,18 +12,18 @@ use Rattle.std.specs.Cmp.Lexicographic.{pointwise}
 use Rattle.std.specs.List.{AllPass, flat_map}
 use Rattle.std.specs.Prelude.{true, false, MatchOption, Option, nat_eq, take, drop}
 use Rattle.hex.specs.Hex.{is_hex_digit}
-use Rattle.gixobj_texts.proofs.Splits.{free_of_cut, one_cut}
+use Rattle.gixobj_hash.proofs.Splits.{free_of_cut, one_cut}
 use Rattle.gixobj_fields.specs.HeaderText.{BeginsSeveralLines, EndsHeader, HasField, HasHeader, HasNoField, HasNoHeader, Header, IsHeaderName, field_text, following_text, line_text, value_of_lines}
 use Rattle.gixobj_fields.specs.HeaderReading.{HasNoId, HasNoKind, HasNoLines, IsUnfolded, RefusesHeaderField}
-use Rattle.gixobj_texts.specs.Parse.{IsFree, SplitsAt}
-use Rattle.gixobj_ids.specs.Hash.{IsHexOfAnId, hash_len}
-use Rattle.gixobj_ids.specs.Hash.Hex.{IsHexOf}
-use Rattle.gixobj_ids.specs.Kind.{IsNoKindWord, kind_word}
-use Rattle.gixobj_ids.specs.declared.decode.Error.{Error}
-use Rattle.gixobj_ids.specs.declared.decode.Error.TheVariants.{Malformed, OutOfMemory}
-use Rattle.gixobj_ids.specs.declared.hash.kind.Kind.{Kind}
-use Rattle.gixobj_ids.specs.declared.hash.kind.Kind.TheVariants as hash
-use Rattle.gixobj_ids.specs.declared.kind.Kind.TheVariants as object
+use Rattle.gixobj_hash.specs.Texts.{IsFree, SplitsAt}
+use Rattle.gixobj_hash.specs.Hash.{IsHexOfAnId, hash_len}
+use Rattle.gixobj_hash.specs.Hash.Hex.{IsHexOf}
+use Rattle.gixobj_hash.specs.Kind.{IsNoKindWord, kind_word}
+use Rattle.gixobj_hash.specs.declared.decode.Error.{Error}
+use Rattle.gixobj_hash.specs.declared.decode.Error.TheVariants.{Malformed, OutOfMemory}
+use Rattle.gixobj_hash.specs.declared.hash.kind.Kind.{Kind}
+use Rattle.gixobj_hash.specs.declared.hash.kind.Kind.TheVariants as hash
+use Rattle.gixobj_hash.specs.declared.kind.Kind.TheVariants as object
 
 -- ---- fronts
 

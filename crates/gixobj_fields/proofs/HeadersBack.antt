@@ -5,7 +5,7 @@ use Rattle.std.specs.List.{flat_map}
 use Rattle.std.proofs.lemmas.Bool.Decides.{nat_tests}
 use Rattle.std.proofs.lemmas.List.{append-nil}
 use Rattle.std.proofs.lemmas.List.Elements.{All-head, All-tail}
-use Rattle.gixobj_texts.specs.Parse.{IsFree}
+use Rattle.gixobj_hash.specs.Texts.{IsFree}
 use Rattle.gixobj_fields.specs.FieldWriting.{folded, header_text}
 use Rattle.gixobj_fields.specs.HeaderText.{Header, IsHeaderText, following_text, line_text, value_of_lines}
 use Rattle.gixobj_fields.proofs.FieldWrites.{folded_line, folded_without_newline, lines_again}

@@ -5,8 +5,8 @@ use Rattle.std.specs.Prelude.{Some, None, Result, Ok, Err}
 use Rattle.gixobj_fields.proofs.Runs.{passes_one, tells_passed}
 use Rattle.gixobj_fields.specs.Readers.{FindsFault, FindsFirst, FindsNone, Gives, LacksAll, PassesNone, ReadsFirst, ReadsNone, Standing}
 use Rattle.gixobj_fields.specs.Runs.{Refuses, Tells, broken, complete, tells_end, tells_error}
-use Rattle.gixobj_ids.specs.declared.decode.Error.{Error}
-use Rattle.gixobj_ids.specs.declared.decode.Error.TheVariants.{Malformed, OutOfMemory}
+use Rattle.gixobj_hash.specs.declared.decode.Error.{Error}
+use Rattle.gixobj_hash.specs.declared.decode.Error.TheVariants.{Malformed, OutOfMemory}
 
 module _ {R K S P T : Type 0} (standing : R → Standing K S) (Has : K → S → List ℕ → P → S → List ℕ → Type 0) (Wants : K → S → List ℕ → Type 0) (view : T → P) (IsSuch : T → Type 0)
     (no_longer : (kind : K) (before : S) (input : List ℕ) (piece : P) (behind : S) (rest : List ℕ) → Has kind before input piece behind rest → length rest ≤ length input) where

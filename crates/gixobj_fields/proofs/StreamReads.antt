@@ -5,13 +5,13 @@ use Rattle.std.proofs.KnownBytes.{Consumes-kept, Consumes-nil, Consumes-trans}
 use Rattle.std.proofs.lemmas.List.{append-nil, drop_at, take-append-le, take_at}
 use Rattle.std.specs.Io.KnownBytes.{Consumes, IsAtEnd, Keeps}
 use Rattle.std.specs.declared.io.Error as io
-use Rattle.gixobj_ids.specs.Encode.{loose_header_text}
-use Rattle.gixobj_ids.specs.Hash.{digest_of, id_from, id_of}
-use Rattle.gixobj_ids.specs.Hash.Hasher.{Holds}
-use Rattle.gixobj_ids.specs.declared.hash.hasher.Hasher.{Hasher}
-use Rattle.gixobj_ids.specs.declared.hash.kind.Kind.{Kind}
-use Rattle.gixobj_ids.specs.declared.hash.object_id.ObjectId.{ObjectId}
-use Rattle.gixobj_ids.specs.declared.kind.Kind as object
+use Rattle.gixobj_hash.specs.Encode.{loose_header_text}
+use Rattle.gixobj_hash.specs.Hash.{digest_of, id_from, id_of}
+use Rattle.gixobj_hash.specs.Hash.Hasher.{Holds}
+use Rattle.gixobj_hash.specs.declared.hash.hasher.Hasher.{Hasher}
+use Rattle.gixobj_hash.specs.declared.hash.kind.Kind.{Kind}
+use Rattle.gixobj_hash.specs.declared.hash.object_id.ObjectId.{ObjectId}
+use Rattle.gixobj_hash.specs.declared.kind.Kind as object
 use Rattle.gixobj_fields.specs.declared.stream_hash.Error.{Error}
 use Rattle.gixobj_fields.specs.declared.stream_hash.Error.TheVariants.{Io, UnexpectedEof}
 use Rattle.gixobj_fields.specs.StreamHash.{AddsBytes, ReadsExactly, ReadsFront, ReadsObject, RefusesStream, SkipsExactly}

@@ -1,10 +1,10 @@
 -- Header fields as they are written, and what is refused of them (gitformat-signature, "Commit signatures").
 use Rattle.std.specs.Prelude.{◌≡◌, ◌⊎◌, ℕ, List, [], ◌∷◌, ◌++◌, ◌==◌, Contains, if◌then◌else◌}
 use Rattle.std.specs.List.{flat_map}
-use Rattle.gixobj_texts.specs.Parse.{IsFree}
+use Rattle.gixobj_hash.specs.Texts.{IsFree}
 use Rattle.gixobj_fields.specs.HeaderText.{Header, following_text, line_text}
 use Rattle.gixobj_fields.specs.Writing.{Refused, empty_header, header_with_newline}
-use Rattle.gixobj_texts.specs.Bytes.{newline, space}
+use Rattle.gixobj_hash.specs.Bytes.{newline, space}
 
 -- the lines of a value without their newlines, the first and those that follow it: a newline at the end ends the last
 abbrev pub value_lines : List ℕ → List ℕ × List (List ℕ)

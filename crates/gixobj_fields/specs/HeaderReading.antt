@@ -10,14 +10,14 @@ use Rattle.bstr.specs.Owned.{bstring_bytes}
 use Rattle.bstr.specs.declared.bstr.BStr.{BStr}
 use Rattle.bstr.specs.declared.bstring.BString.{BString}
 use Rattle.gixobj_fields.specs.HeaderText.{BeginsSeveralLines, EndsHeader, HasField, HasNoHeader, Header, following_text, line_text}
-use Rattle.gixobj_texts.specs.Parse.{IsFree}
-use Rattle.gixobj_ids.specs.Hash.Hex.{IsHexOf}
-use Rattle.gixobj_ids.specs.declared.decode.Error.{Error}
-use Rattle.gixobj_ids.specs.declared.decode.Error.TheVariants.{Malformed, OutOfMemory}
-use Rattle.gixobj_ids.specs.Kind.{kind_word}
-use Rattle.gixobj_ids.specs.declared.hash.kind.Kind.{Kind}
-use Rattle.gixobj_ids.specs.declared.kind.Kind as object
-use Rattle.gixobj_texts.specs.Bytes.{newline}
+use Rattle.gixobj_hash.specs.Texts.{IsFree}
+use Rattle.gixobj_hash.specs.Hash.Hex.{IsHexOf}
+use Rattle.gixobj_hash.specs.declared.decode.Error.{Error}
+use Rattle.gixobj_hash.specs.declared.decode.Error.TheVariants.{Malformed, OutOfMemory}
+use Rattle.gixobj_hash.specs.Kind.{kind_word}
+use Rattle.gixobj_hash.specs.declared.hash.kind.Kind.{Kind}
+use Rattle.gixobj_hash.specs.declared.kind.Kind as object
+use Rattle.gixobj_hash.specs.Bytes.{newline}
 
 -- the input begins with a field whose value is the hex text of an id
 abbrev pub HasId : List ℕ → Kind → List ℕ → List ℕ → List ℕ → Type 0

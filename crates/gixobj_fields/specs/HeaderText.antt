@@ -1,8 +1,8 @@
 -- Header fields of commits and tags (gitdatamodel, "commits" and "tag objects"; gitformat-signature, "Commit signatures").
 use Rattle.std.specs.Prelude.{◌≡◌, ◌≢◌, ℕ, List, [], ◌∷◌, ◌++◌, All, ⊤}
 use Rattle.std.specs.List.{flat_map}
-use Rattle.gixobj_texts.specs.Parse.{IsFree}
-use Rattle.gixobj_texts.specs.Bytes.{newline, space}
+use Rattle.gixobj_hash.specs.Texts.{IsFree}
+use Rattle.gixobj_hash.specs.Bytes.{newline, space}
 
 -- a line: its bytes and a newline
 abbrev pub line_text : List ℕ → List ℕ

@@ -6,9 +6,9 @@ pub mod Runs
 pub mod StreamHash
 pub mod Streams
 pub mod Writing
-pub use Rattle.gixobj_ids.specs.Decode
-pub use Rattle.gixobj_ids.specs.Encode
-pub use Rattle.gixobj_ids.specs.Hash
-pub use Rattle.gixobj_ids.specs.Kind
-pub use Rattle.gixobj_texts.specs.Bytes
-pub use Rattle.gixobj_texts.specs.Parse
+pub use Rattle.gixobj_hash.specs.Bytes
+pub use Rattle.gixobj_hash.specs.Decode
+pub use Rattle.gixobj_hash.specs.Encode
+pub use Rattle.gixobj_hash.specs.Hash
+pub use Rattle.gixobj_hash.specs.Kind
+pub use Rattle.gixobj_hash.specs.Texts

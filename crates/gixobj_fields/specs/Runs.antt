@@ -1,7 +1,7 @@
 -- Readers that tell an object piece by piece: from a state over bytes a piece comes, and then another state over the rest.
 use Rattle.std.specs.Prelude.{◌≡◌, ◌≢◌, ℕ, List, [], ◌∷◌, All}
-use Rattle.gixobj_ids.specs.declared.decode.Error.{Error}
-use Rattle.gixobj_ids.specs.declared.decode.Error.TheVariants.{Malformed, OutOfMemory}
+use Rattle.gixobj_hash.specs.declared.decode.Error.{Error}
+use Rattle.gixobj_hash.specs.declared.decode.Error.TheVariants.{Malformed, OutOfMemory}
 
 -- how a run ends: no bytes are left, or those that are begin with no piece
 pub data Ending : Type 0 where

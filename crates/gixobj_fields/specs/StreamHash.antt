@@ -1,12 +1,12 @@
 -- Objects digested from a stream: what was read of it, what the id says, and why there is none.
 use Rattle.std.specs.Prelude.{◌≡◌, ◌<◌, ◌++◌, ℕ, List, Option, length}
 use Rattle.std.specs.Io.KnownBytes.{Consumes, IsAtEnd}
-use Rattle.gixobj_ids.specs.Hash.{id_of}
-use Rattle.gixobj_ids.specs.Hash.Hasher.{Holds}
-use Rattle.gixobj_ids.specs.declared.hash.hasher.Hasher.{Hasher}
-use Rattle.gixobj_ids.specs.declared.hash.kind.Kind.{Kind}
-use Rattle.gixobj_ids.specs.declared.hash.object_id.ObjectId.{ObjectId}
-use Rattle.gixobj_ids.specs.declared.kind.Kind as object
+use Rattle.gixobj_hash.specs.Hash.{id_of}
+use Rattle.gixobj_hash.specs.Hash.Hasher.{Holds}
+use Rattle.gixobj_hash.specs.declared.hash.hasher.Hasher.{Hasher}
+use Rattle.gixobj_hash.specs.declared.hash.kind.Kind.{Kind}
+use Rattle.gixobj_hash.specs.declared.hash.object_id.ObjectId.{ObjectId}
+use Rattle.gixobj_hash.specs.declared.kind.Kind as object
 use Rattle.gixobj_fields.specs.declared.stream_hash.Error.{Error}
 use Rattle.gixobj_fields.specs.declared.stream_hash.Error.TheVariants.{Io, UnexpectedEof}
 

@@ -3,17 +3,17 @@
 ghost use Rattle.std.specs.Prelude.{◌≡◌, ◌<◌, ◌≤◌, ◌+◌, ◌^◌, ◌++◌, ◌∷◌, [], length, IfErr, MatchOption, OnOk};
 ghost use Rattle.std.specs.Option.{SomeIff};
 ghost use Rattle.std.specs.Str.{str_to_ascii_lowercase};
-ghost use Rattle.gixobj_ids.specs.Hash.{hex_text};
+ghost use Rattle.gixobj_hash.specs.Hash.{hex_text};
 ghost use Rattle.gixobj_fields.specs.FieldWriting.{IsLastLine, RefusesField, folded};
 ghost use Rattle.gixobj_fields.specs.HeaderText.{field_text};
 ghost use Rattle.gixobj_fields.specs.Streams.{Puts, PutsOrFails};
 ghost use Rattle.gixobj_fields.specs.Writing.{AddsSize, RefusesNothing, SaysWhy};
-ghost use Rattle.gixobj_texts.specs.Bytes.{newline, space};
+ghost use Rattle.gixobj_hash.specs.Bytes.{newline, space};
 
 use crate::streams::{Sink, put_parts};
 use bstr::BString;
-use gixobj_ids::hash::ObjectId;
-use gixobj_texts::parse::{has_byte, split_at_byte};
+use gixobj_hash::hash::ObjectId;
+use gixobj_hash::texts::{has_byte, split_at_byte};
 use std::alloc::{AllocError, Global};
 use std::io;
 

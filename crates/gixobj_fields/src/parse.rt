@@ -3,17 +3,17 @@ ghost use Rattle.std.specs.Prelude.{◌≡◌, ◌≢◌, ◌↔◌, ◌++◌, �
 ghost use Rattle.bstr.specs.BStr.{bstr_bytes};
 ghost use Rattle.gixobj_fields.specs.HeaderReading.{BorrowsOneLine, HasId, HasNoId, HasNoKind, HasNoLines, IsUnfolded, RefusesHeaderField, header_of};
 ghost use Rattle.gixobj_fields.specs.HeaderText.{EndsHeader, HasField, HasHeader, HasNoField, IsHeaderName, LacksName};
-ghost use Rattle.gixobj_texts.specs.Parse.{IsFree};
-ghost use Rattle.gixobj_ids.specs.declared.decode.Error.TheVariants.{Malformed};
-ghost use Rattle.gixobj_ids.specs.Kind.{IsNoKindWord, kind_word};
-ghost use Rattle.gixobj_texts.specs.Bytes.{newline, space};
+ghost use Rattle.gixobj_hash.specs.Texts.{IsFree};
+ghost use Rattle.gixobj_hash.specs.declared.decode.Error.TheVariants.{Malformed};
+ghost use Rattle.gixobj_hash.specs.Kind.{IsNoKindWord, kind_word};
+ghost use Rattle.gixobj_hash.specs.Bytes.{newline, space};
 
 use bstr::BStr;
-use gixobj_ids::Kind as ObjectKind;
-use gixobj_ids::decode::Error;
-use gixobj_ids::hash::Kind;
-use gixobj_ids::parse::hex_hash;
-use gixobj_texts::parse::{has_byte, split_at_byte};
+use gixobj_hash::Kind as ObjectKind;
+use gixobj_hash::decode::Error;
+use gixobj_hash::hash::Kind;
+use gixobj_hash::parse::hex_hash;
+use gixobj_hash::texts::{has_byte, split_at_byte};
 use std::alloc::Global;
 use std::borrow::CowSlice;
 

@@ -2,14 +2,14 @@
 ghost use Rattle.std.specs.Prelude.{◌≡◌, ◌≤◌, ◌<◌, ◌↔◌, [], ℕ, List, IfErr, IfOk, IsOk, OnOk, ⊤, drop, length, take};
 ghost use Rattle.std.specs.Io.{ReadsAtMost};
 ghost use Rattle.std.specs.Io.KnownBytes.{Consumes};
-ghost use Rattle.gixobj_ids.specs.Hash.{id_of};
+ghost use Rattle.gixobj_hash.specs.Hash.{id_of};
 ghost use Rattle.gixobj_fields.specs.StreamHash.{AddsBytes, ReadsExactly, ReadsObject, RefusesStream, SkipsExactly};
 ghost use Rattle.gixobj_fields.specs.declared.stream_hash.Error.TheVariants.{UnexpectedEof};
 
 use crate::streams::{FromRead, Source};
-use gixobj_ids::digest::{Hasher, object_hasher};
-use gixobj_ids::hash::ObjectId;
-use gixobj_ids::{Kind, hash};
+use gixobj_hash::digest::{Hasher, object_hasher};
+use gixobj_hash::hash::ObjectId;
+use gixobj_hash::{Kind, hash};
 use std::io;
 use std::io::Read;
 

@@ -2,14 +2,14 @@
 ghost use Rattle.std.specs.Prelude.{◌≡◌, ◌↔◌, ◌<◌, ◌^◌, ◌++◌, List, length, IfErr, IfSome, IsSome, OnOk};
 ghost use Rattle.std.specs.Io.KnownBytes.{Appends};
 ghost use Rattle.std.specs.Option.{SomeIff};
-ghost use Rattle.gixobj_ids.specs.Encode.{loose_header_text};
+ghost use Rattle.gixobj_hash.specs.Encode.{loose_header_text};
 ghost use Rattle.gixobj_fields.specs.Streams.{Puts, list_view, writer_view};
 ghost use Rattle.gixobj_fields.specs.Writing.{IsSize, RefusesNothing, SaysWhy};
 
 use crate::encode;
 use crate::streams::{Sink, ToWrite};
-use gixobj_ids::Kind;
-use gixobj_ids::encode::loose_header;
+use gixobj_hash::Kind;
+use gixobj_hash::encode::loose_header;
 use smallvec::SmallVec;
 use std::alloc::Global;
 use std::io::Write;
@@ -21,7 +21,7 @@ use std::io::Write;
 pub trait WriteTo {
     ghost use Rattle.std.specs.Prelude.{ℕ, List, ⊤};
     ghost use Rattle.gixobj_fields.specs.Writing.{Refused};
-    ghost use Rattle.gixobj_ids.specs.declared.kind.Kind.{Kind};
+    ghost use Rattle.gixobj_hash.specs.declared.kind.Kind.{Kind};
 
     /// What a value has to keep for its writers to be called: always true, but where fields that
     /// anyone may set are read as ids.

@@ -2,8 +2,8 @@
 -- null id is empty.
 use Rattle.std.proofs.Common.{◌≡◌, inl, inr, true, false, List, [], refl, sym, ap, subst, ◌∙◌, Option, Some}
 use Rattle.gixobj_trees.specs.Entries.{EntryView}
-use Rattle.gixobj_ids.specs.Hash.{id_kind}
-use Rattle.gixobj_ids.specs.declared.hash.object_id.ObjectId.{ObjectId}
+use Rattle.gixobj_hash.specs.Hash.{id_kind}
+use Rattle.gixobj_hash.specs.declared.hash.object_id.ObjectId.{ObjectId}
 use Rattle.gixobj_files.specs.Edits.{Finds}
 use Rattle.gixobj_files.specs.Files.{Table, Trees, is_null}
 use Rattle.gixobj_files.specs.Opening.{Dirs}

@@ -6,7 +6,7 @@ use Rattle.std.specs.Cmp.Lexicographic.{bytes_decides, lists_total, nat_list_cmp
 use Rattle.std.specs.Ordering.{nat_cmp}
 use Rattle.std.specs.FinMap as map
 use Rattle.gixobj_trees.specs.Entries.{EntryView}
-use Rattle.gixobj_ids.specs.declared.hash.object_id.ObjectId.{ObjectId}
+use Rattle.gixobj_hash.specs.declared.hash.object_id.ObjectId.{ObjectId}
 use Rattle.gixobj_files.specs.Editing.{comes_before, kept, same_name, with_entry, without}
 use Rattle.gixobj_files.specs.Files.{Assured, Below, FileSet, Files, Has, Path, Removed, SameFiles, Table, Upserted, is_null}
 use Rattle.gixobj_files.specs.Opening.{OpenFiles}

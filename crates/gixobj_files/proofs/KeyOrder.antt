@@ -7,7 +7,7 @@ use Rattle.std.proofs.lemmas.Cmp.{nat_list_cmp_total}
 use Rattle.std.proofs.lemmas.List.Elements.{All-contains, Contains-push}
 use Rattle.gixobj_trees.specs.Entries.{ComesBefore, EntryView, entry_key, key_of}
 use Rattle.gixobj_trees.specs.Mode.{is_tree_mode}
-use Rattle.gixobj_texts.specs.Parse.{IsFree}
+use Rattle.gixobj_hash.specs.Texts.{IsFree}
 use Rattle.gixobj_files.specs.Editing.{comes_before}
 
 less : (o : Ordering) → is_lt o ≡ true → o ≡ Less

@@ -2,8 +2,8 @@
 use Rattle.std.proofs.Common.{◌≡◌, ◌≢◌, inl, inr, ℕ, zero, suc, false, cond, List, [], ◌∷◌, ◌++◌, refl, sym, ap, subst, ◌∙◌, Option, Some, None}
 use Rattle.gixobj_trees.specs.Entries.{EntryView}
 use Rattle.gixobj_trees.specs.Mode.{is_tree_mode}
-use Rattle.gixobj_ids.specs.Hash.{id_kind}
-use Rattle.gixobj_ids.specs.declared.hash.object_id.ObjectId.{ObjectId}
+use Rattle.gixobj_hash.specs.Hash.{id_kind}
+use Rattle.gixobj_hash.specs.declared.hash.object_id.ObjectId.{ObjectId}
 use Rattle.gixobj_files.specs.Edits.{Finds, IsNoTree, Opens, arrived, down, found, only, stops, with_dir}
 use Rattle.gixobj_files.specs.Files.{Below, Files, Path, SameFiles, Table, Trees}
 use Rattle.gixobj_files.specs.Opening.{Dirs, HasAt, OpenFiles, in_dir}

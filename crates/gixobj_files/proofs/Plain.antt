@@ -4,8 +4,8 @@ use Rattle.std.specs.List.{AllByRecursion}
 use Rattle.std.proofs.lemmas.List.Elements.{All-contains}
 use Rattle.gixobj_trees.specs.Entries.{EntryView}
 use Rattle.gixobj_trees.specs.Mode.{is_tree_mode, tree_type}
-use Rattle.gixobj_ids.specs.Hash.{id_kind}
-use Rattle.gixobj_ids.specs.declared.hash.object_id.ObjectId.{ObjectId}
+use Rattle.gixobj_hash.specs.Hash.{id_kind}
+use Rattle.gixobj_hash.specs.declared.hash.object_id.ObjectId.{ObjectId}
 use Rattle.gixobj_files.specs.Edits.{Finds}
 use Rattle.gixobj_files.specs.Files.{Has, Table, Trees}
 use Rattle.gixobj_files.specs.Opening.{Dirs, HasAt, in_dir}

@@ -5,7 +5,7 @@ use Rattle.std.specs.List.{AllByRecursion}
 use Rattle.std.proofs.lemmas.List.Elements.{recursion_from_All}
 use Rattle.gixobj_trees.specs.Entries.{EntryView}
 use Rattle.gixobj_trees.specs.Mode.{is_tree_mode}
-use Rattle.gixobj_ids.specs.declared.hash.object_id.ObjectId.{ObjectId}
+use Rattle.gixobj_hash.specs.declared.hash.object_id.ObjectId.{ObjectId}
 use Rattle.gixobj_files.specs.Files.{Below, FileSet, Files, Path, Placed, Table, is_null}
 use Rattle.gixobj_files.specs.History.{History, Step, after_step, assure, remove, set_root, upsert}
 use Rattle.gixobj_files.specs.PlainHistory.{HasNoTree, NoFiles, PlainHistory, after_plain_step}

@@ -6,11 +6,11 @@ use Rattle.std.specs.Cmp.Lexicographic.{bytes_decides}
 use Rattle.std.proofs.lemmas.List.{length-append}
 use Rattle.gixobj_trees.specs.Entries.{EntryView}
 use Rattle.gixobj_trees.specs.Mode.{is_tree_mode}
-use Rattle.gixobj_ids.specs.Hash.{id_bytes, id_kind, id_of}
-use Rattle.gixobj_ids.specs.declared.hash.kind.Kind.TheVariants as hash
-use Rattle.gixobj_ids.specs.declared.hash.object_id.ObjectId.{ObjectId}
-use Rattle.gixobj_ids.specs.declared.hash.object_id.ObjectId.TheVariants as id
-use Rattle.gixobj_ids.specs.declared.kind.Kind.TheVariants.{Tree}
+use Rattle.gixobj_hash.specs.Hash.{id_bytes, id_kind, id_of}
+use Rattle.gixobj_hash.specs.declared.hash.kind.Kind.TheVariants as hash
+use Rattle.gixobj_hash.specs.declared.hash.object_id.ObjectId.{ObjectId}
+use Rattle.gixobj_hash.specs.declared.hash.object_id.ObjectId.TheVariants as id
+use Rattle.gixobj_hash.specs.declared.kind.Kind.TheVariants.{Tree}
 use Rattle.gixobj_files.specs.Editing.{same_name}
 use Rattle.gixobj_files.specs.Edits.{Finds, IsEntryOf, IsUnasked, Opens, arrived, down, entry_of, found, only, stops}
 use Rattle.gixobj_files.specs.Files.{Has, Path, Trees, is_null}

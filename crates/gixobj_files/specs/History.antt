@@ -1,7 +1,7 @@
 -- The files that accepted steps make of a set of files.
 use Rattle.std.specs.Prelude.{ℕ, List, [], ◌∷◌}
 use Rattle.gixobj_trees.specs.Entries.{EntryView}
-use Rattle.gixobj_ids.specs.declared.hash.object_id.ObjectId.{ObjectId}
+use Rattle.gixobj_hash.specs.declared.hash.object_id.ObjectId.{ObjectId}
 use Rattle.gixobj_files.specs.Files.{Assured, FileSet, Files, Path, Removed, Table, Upserted}
 
 -- an accepted step: an entry put at a path, a path removed, a directory assured at a path, or a new root

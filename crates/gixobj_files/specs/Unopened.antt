@@ -3,9 +3,9 @@ use Rattle.std.specs.Prelude.{ℕ, Bool, not, ◌&&◌, ◌++◌, true, false, L
 use Rattle.std.specs.List.{filter}
 use Rattle.gixobj_trees.specs.Entries.{EntryView}
 use Rattle.gixobj_trees.specs.Mode.{is_tree_mode}
-use Rattle.gixobj_ids.specs.Hash.{id_bytes, id_kind, id_of}
-use Rattle.gixobj_ids.specs.declared.hash.object_id.ObjectId.{ObjectId}
-use Rattle.gixobj_ids.specs.declared.kind.Kind.TheVariants.{Tree}
+use Rattle.gixobj_hash.specs.Hash.{id_bytes, id_kind, id_of}
+use Rattle.gixobj_hash.specs.declared.hash.object_id.ObjectId.{ObjectId}
+use Rattle.gixobj_hash.specs.declared.kind.Kind.TheVariants.{Tree}
 use Rattle.gixobj_files.specs.Editing.{same_name}
 use Rattle.gixobj_files.specs.Edits.{entry_of}
 use Rattle.gixobj_files.specs.Files.{Path, Trees, is_null}

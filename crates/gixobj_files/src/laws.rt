@@ -2,7 +2,7 @@
 ghost use Rattle.std.specs.Prelude.{◌↔◌, ◌≤◌, ℕ, All, List, length};
 ghost use Rattle.std.specs.FinMap as map;
 ghost use Rattle.gixobj_trees.specs.Entries.{EntryView, IsWellFormed};
-ghost use Rattle.gixobj_ids.specs.declared.hash.object_id.ObjectId.{ObjectId};
+ghost use Rattle.gixobj_hash.specs.declared.hash.object_id.ObjectId.{ObjectId};
 ghost use Rattle.gixobj_files.specs.Files.{Path, Table, Trees};
 ghost use Rattle.gixobj_files.specs.History.{History, Step};
 ghost use Rattle.gixobj_files.specs.Opening.{IsOpened};

@@ -5,8 +5,8 @@ use Rattle.gixobj_commands.specs.declared.command.Edit.{Edit}
 use Rattle.gixobj_data.specs.Stores.{Objects}
 use Rattle.gixobj_directories.specs.declared.write.Written.{Written}
 use Rattle.gixobj_files.specs.State.{State}
-use Rattle.gixobj_ids.specs.declared.hash.kind.Kind as hash
-use Rattle.gixobj_ids.specs.declared.hash.object_id.ObjectId.{ObjectId}
+use Rattle.gixobj_hash.specs.declared.hash.kind.Kind as hash
+use Rattle.gixobj_hash.specs.declared.hash.object_id.ObjectId.{ObjectId}
 use Rattle.gixobj_keeping.specs.Keeping.{with_commit, with_trees}
 use Rattle.gixobj_runs.specs.Replies.{Meaning}
 use Rattle.gixobj_runs.specs.declared.reply.EditReply.TheVariants as reply

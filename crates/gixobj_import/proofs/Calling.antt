@@ -11,8 +11,8 @@ use Rattle.gixobj_editor.specs.Writes.{IsWritten}
 use Rattle.gixobj_fields.specs.declared.encode.Error as encode
 use Rattle.gixobj_files.specs.State.{State}
 use Rattle.gixobj_files.specs.Tables.{Pair}
-use Rattle.gixobj_ids.specs.declared.hash.kind.Kind as hash
-use Rattle.gixobj_ids.specs.declared.hash.object_id.ObjectId.{ObjectId}
+use Rattle.gixobj_hash.specs.declared.hash.kind.Kind as hash
+use Rattle.gixobj_hash.specs.declared.hash.object_id.ObjectId.{ObjectId}
 use Rattle.gixobj_trees.specs.Entries.{EntryView}
 use Rattle.gixobj_runs.specs.Replies.{Denies, Gives}
 use Rattle.gixobj_import.specs.Edited.{Digests}

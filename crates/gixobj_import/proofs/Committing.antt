@@ -2,10 +2,10 @@
 use Rattle.std.proofs.Common.{◌≡◌, inr, List, [], ◌∷◌, Option, None, Some, ap, subst, sym}
 use Rattle.std.proofs.lemmas.List.Elements.{All-cons, All-head, All-nil}
 use Rattle.gixobj_data.specs.Stores.{Objects}
-use Rattle.gixobj_ids.specs.Hash.{hex_text}
-use Rattle.gixobj_ids.specs.Hash.Hex.{IsHexOf}
-use Rattle.gixobj_ids.specs.declared.hash.kind.Kind as hash
-use Rattle.gixobj_ids.specs.declared.hash.object_id.ObjectId.{ObjectId}
+use Rattle.gixobj_hash.specs.Hash.{hex_text}
+use Rattle.gixobj_hash.specs.Hash.Hex.{IsHexOf}
+use Rattle.gixobj_hash.specs.declared.hash.kind.Kind as hash
+use Rattle.gixobj_hash.specs.declared.hash.object_id.ObjectId.{ObjectId}
 use Rattle.gixobj_runs.specs.Replies.{Meaning}
 use Rattle.gixobj_import.specs.ByDigest.{AddsByDigest, NamesByDigest}
 use Rattle.gixobj_import.specs.Commits.{only_parent, step_text}

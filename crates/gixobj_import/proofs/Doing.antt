@@ -14,7 +14,7 @@ use Rattle.gixobj_files.specs.Files.{NamedFiles, SameFiles, Table, Trees}
 use Rattle.gixobj_files.specs.History.{History}
 use Rattle.gixobj_files.specs.State.{EditorFiles, State, open_bases, open_dirs}
 use Rattle.gixobj_files.specs.Tables.{AgreesWithPairs, AgreesWithStore}
-use Rattle.gixobj_ids.specs.declared.hash.kind.Kind as hash
+use Rattle.gixobj_hash.specs.declared.hash.kind.Kind as hash
 use Rattle.gixobj_keeping.specs.Keeping.{with_trees}
 use Rattle.gixobj_runs.specs.Replies.{Meaning}
 use Rattle.gixobj_runs.specs.RunTables.{AgreesWithObjects}

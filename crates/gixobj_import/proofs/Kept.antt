@@ -5,8 +5,8 @@ use Rattle.gixobj_directories.specs.declared.write.Written.{Written}
 use Rattle.gixobj_editor.specs.Writes.{IsWritten}
 use Rattle.gixobj_files.specs.State.{State, with_store}
 use Rattle.gixobj_files.specs.Tables.{Pair}
-use Rattle.gixobj_ids.specs.declared.hash.kind.Kind as hash
-use Rattle.gixobj_ids.specs.declared.hash.object_id.ObjectId.{ObjectId}
+use Rattle.gixobj_hash.specs.declared.hash.kind.Kind as hash
+use Rattle.gixobj_hash.specs.declared.hash.object_id.ObjectId.{ObjectId}
 use Rattle.gixobj_keeping.specs.Keeping.{HasText, StopsKeeping, with_trees}
 use Rattle.gixobj_keeping.specs.declared.KeepError.{KeepError}
 use Rattle.gixobj_runs.specs.Commands.{at_root}

@@ -4,7 +4,7 @@ use Rattle.std.specs.FinMap as finite
 use Rattle.gixobj_data.specs.Stores.{Objects, StoredObject, named}
 use Rattle.gixobj_directories.specs.Openings.{AreTreesOf}
 use Rattle.gixobj_files.specs.Files.{Trees}
-use Rattle.gixobj_ids.specs.declared.hash.object_id.ObjectId.{ObjectId}
+use Rattle.gixobj_hash.specs.declared.hash.object_id.ObjectId.{ObjectId}
 
 -- of an object that is put in
 pub record PutIn : Type 0 where

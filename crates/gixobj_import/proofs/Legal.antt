@@ -4,19 +4,19 @@ use Rattle.std.proofs.lemmas.Bool.Decides.{nat_tests}
 use Rattle.std.proofs.lemmas.List.Elements.{All-cons, All-head, All-nil, All-tail}
 use Rattle.std.specs.Prelude.{map}
 use Rattle.bstr.specs.Owned.{bstring_bytes}
-use Rattle.gixobj_actors.specs.Actor.{IsWritable}
-use Rattle.gixobj_actors.specs.ActorWriting.{IsLegal, owned_text}
-use Rattle.gixobj_actors.specs.declared.actor.Signature.{Signature}
+use Rattle.gixobj_actor.specs.Actor.{IsWritable}
+use Rattle.gixobj_actor.specs.ActorWriting.{IsLegal, owned_text}
+use Rattle.gixobj_actor.specs.declared.actor.Signature.{Signature}
 use Rattle.gixobj_commits.specs.CommitViews.{owned_lines}
 use Rattle.gixobj_commits.specs.CommitWriting.{RefusesEncoding, RefusesOwned, before_author, before_committer}
 use Rattle.gixobj_commits.specs.declared.commit.Commit.{Commit}
 use Rattle.gixobj_fields.specs.Writing.{RefusesNothing, illegal_actor}
-use Rattle.gixobj_ids.specs.Hash.{hex_text}
-use Rattle.gixobj_ids.specs.Hash.Hex.{IsHexOf}
-use Rattle.gixobj_ids.specs.declared.hash.kind.Kind as hash
-use Rattle.gixobj_ids.specs.declared.hash.object_id.ObjectId.{ObjectId}
+use Rattle.gixobj_hash.specs.Hash.{hex_text}
+use Rattle.gixobj_hash.specs.Hash.Hex.{IsHexOf}
+use Rattle.gixobj_hash.specs.declared.hash.kind.Kind as hash
+use Rattle.gixobj_hash.specs.declared.hash.object_id.ObjectId.{ObjectId}
 use Rattle.gixobj_lines.specs.Commit.{CommitLines, IsCommitText}
-use Rattle.gixobj_texts.specs.Parse.{IsFree}
+use Rattle.gixobj_hash.specs.Texts.{IsFree}
 use Rattle.gixobj_import.specs.Commits.{NamesSignature, SameActor, only_parent, step_commit, step_text}
 use Rattle.gixobj_import.specs.Steps.{HaveHex}
 use Rattle.gixobj_import.specs.declared.import.Step.{Step}

@@ -12,7 +12,7 @@ use Rattle.gixobj_editor.specs.declared.editor.error.Error.{Error}
 use Rattle.gixobj_files.specs.Edits.{IsNoTree}
 use Rattle.gixobj_files.specs.Files.{Trees}
 use Rattle.gixobj_files.specs.State.{State, open_dirs}
-use Rattle.gixobj_ids.specs.declared.hash.object_id.ObjectId.{ObjectId}
+use Rattle.gixobj_hash.specs.declared.hash.object_id.ObjectId.{ObjectId}
 use Rattle.gixobj_trees.specs.Mode.{mode_of_kind}
 use Rattle.gixobj_trees.specs.declared.tree.entry_kind.EntryKind.{EntryKind}
 use Rattle.gixobj_runs.specs.Replies.{IsRefusedEdit, Meaning, reply_to}

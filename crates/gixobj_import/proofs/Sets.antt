@@ -8,7 +8,7 @@ use Rattle.gixobj_files.specs.Files.{Assured, FileSet, Path, Removed, SameFiles,
 use Rattle.gixobj_files.specs.History.{History, Step, after_step, assure, remove, set_root, upsert}
 use Rattle.gixobj_files.specs.Opening.{HasAt, OpenFiles}
 use Rattle.gixobj_files.specs.State.{DirMap, EditorFiles, State, open_bases, open_dirs, root_alone}
-use Rattle.gixobj_ids.specs.declared.hash.object_id.ObjectId.{ObjectId}
+use Rattle.gixobj_hash.specs.declared.hash.object_id.ObjectId.{ObjectId}
 use Rattle.gixobj_trees.specs.Entries.{EntryView}
 use Rattle.gixobj_import.specs.Imports.{no_files}
 

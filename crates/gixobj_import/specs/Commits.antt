@@ -1,13 +1,13 @@
 -- The commit of a step.
 use Rattle.std.specs.Prelude.{◌≡◌, ℕ, List, [], ◌∷◌, Option, Some, None, map}
 use Rattle.bstr.specs.Owned.{bstring_bytes}
-use Rattle.gixobj_actors.specs.Actor.{IsActor}
-use Rattle.gixobj_actors.specs.ActorWriting.{owned_text}
-use Rattle.gixobj_actors.specs.Date.{time_text}
-use Rattle.gixobj_actors.specs.declared.actor.Signature.{Signature}
+use Rattle.gixobj_actor.specs.Actor.{IsActor}
+use Rattle.gixobj_actor.specs.ActorWriting.{owned_text}
+use Rattle.gixobj_actor.specs.Date.{time_text}
+use Rattle.gixobj_actor.specs.declared.actor.Signature.{Signature}
 use Rattle.gixobj_commits.specs.CommitWriting.{commit_text}
-use Rattle.gixobj_ids.specs.Hash.{hex_text}
-use Rattle.gixobj_ids.specs.declared.hash.object_id.ObjectId.{ObjectId}
+use Rattle.gixobj_hash.specs.Hash.{hex_text}
+use Rattle.gixobj_hash.specs.declared.hash.object_id.ObjectId.{ObjectId}
 use Rattle.gixobj_lines.specs.Commit.{CommitLines}
 use Rattle.gixobj_import.specs.declared.import.Step.{Step}
 

@@ -9,10 +9,10 @@ use Rattle.gixobj_fields.specs.declared.encode.Error as encode
 use Rattle.gixobj_fields.specs.declared.encode.Error.TheVariants.{Writer}
 use Rattle.gixobj_files.specs.History.{Step, remove, upsert}
 use Rattle.gixobj_files.specs.State.{State}
-use Rattle.gixobj_ids.specs.Hash.{id_of}
-use Rattle.gixobj_ids.specs.declared.hash.kind.Kind as hash
-use Rattle.gixobj_ids.specs.declared.hash.object_id.ObjectId.{ObjectId}
-use Rattle.gixobj_ids.specs.declared.kind.Kind.TheVariants.{Tree}
+use Rattle.gixobj_hash.specs.Hash.{id_of}
+use Rattle.gixobj_hash.specs.declared.hash.kind.Kind as hash
+use Rattle.gixobj_hash.specs.declared.hash.object_id.ObjectId.{ObjectId}
+use Rattle.gixobj_hash.specs.declared.kind.Kind.TheVariants.{Tree}
 use Rattle.gixobj_keeping.specs.Keeping.{HasNoText, HasText}
 use Rattle.gixobj_runs.specs.Commands.{at_root}
 use Rattle.gixobj_runs.specs.Replies.{Answers, IsEditReply, Meaning}

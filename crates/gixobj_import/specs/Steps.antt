@@ -1,16 +1,16 @@
 -- What a step of an importer comes to, and a list of steps.
 use Rattle.std.specs.Prelude.{◌≡◌, ◌⊎◌, ℕ, true, false, All, Contains, List, [], ◌∷◌, Option, Some, length, slice_get, take, ⊤}
-use Rattle.gixobj_actors.specs.ActorWriting.{IsLegal, owned_text}
+use Rattle.gixobj_actor.specs.ActorWriting.{IsLegal, owned_text}
 use Rattle.gixobj_commands.specs.declared.command.Edit.{Edit}
 use Rattle.gixobj_commands.specs.declared.command.Edit.TheVariants as edit
 use Rattle.gixobj_directories.specs.declared.write.Written.{Written}
 use Rattle.gixobj_fields.specs.declared.encode.Error.TheVariants.{IllegalActor}
 use Rattle.gixobj_files.specs.State.{State, with_store}
-use Rattle.gixobj_ids.specs.Hash.{hex_text, id_of}
-use Rattle.gixobj_ids.specs.Hash.Hex.{IsHexOf}
-use Rattle.gixobj_ids.specs.declared.hash.kind.Kind as hash
-use Rattle.gixobj_ids.specs.declared.hash.object_id.ObjectId.{ObjectId}
-use Rattle.gixobj_ids.specs.declared.kind.Kind.TheVariants.{Commit}
+use Rattle.gixobj_hash.specs.Hash.{hex_text, id_of}
+use Rattle.gixobj_hash.specs.Hash.Hex.{IsHexOf}
+use Rattle.gixobj_hash.specs.declared.hash.kind.Kind as hash
+use Rattle.gixobj_hash.specs.declared.hash.object_id.ObjectId.{ObjectId}
+use Rattle.gixobj_hash.specs.declared.kind.Kind.TheVariants.{Commit}
 use Rattle.gixobj_keeping.specs.Keeping.{RefusesKeepCommit, with_commit}
 use Rattle.gixobj_keeping.specs.declared.KeepError.{KeepError}
 use Rattle.gixobj_lines.specs.Commit.{IsCommitText}

@@ -1,6 +1,6 @@
 //! The commit of a step.
 ghost use Rattle.std.specs.Prelude.{◌≡◌, IfErr, IfOk, OnOk};
-ghost use Rattle.gixobj_actors.specs.ActorWriting.{IsLegal, owned_text};
+ghost use Rattle.gixobj_actor.specs.ActorWriting.{IsLegal, owned_text};
 ghost use Rattle.gixobj_commits.specs.CommitViews.{owned_lines};
 ghost use Rattle.gixobj_import.specs.Commits.{NamesSignature, SameActor, only_parent, step_commit, step_text};
 ghost use Rattle.gixobj_import.specs.Edited.{meaning};
@@ -9,14 +9,14 @@ ghost use Rattle.gixobj_import.specs.Steps.{IsCommitKept, RefusesCommit, Refuses
 use crate::import::{ImportError, Step};
 use crate::written::is_an_id;
 use bstr::BString;
-use gixobj_actors::actor::Signature;
-use gixobj_actors::laws::actor_reads_back;
+use gixobj_actor::actor::Signature;
+use gixobj_actor::laws::actor_reads_back;
 use gixobj_commits::Commit;
 use gixobj_editor::editor::Editor;
 use gixobj_fields::{WriteTo, encode};
-use gixobj_ids::hash::{self, ObjectId};
-use gixobj_ids::laws::hex_reads_back;
-use gixobj_ids::{Kind, OutOfMemory, compute_hash};
+use gixobj_hash::hash::{self, ObjectId};
+use gixobj_hash::laws::hex_reads_back;
+use gixobj_hash::{Kind, OutOfMemory, compute_hash};
 use gixobj_keeping::KeepCommit;
 use smallvec::SmallVec;
 use std::alloc::Global;

@@ -4,7 +4,7 @@ ghost use Rattle.gixobj_store.specs.Memory.{memory_objects};
 
 use bstr::BString;
 use gixobj_data::{Data, Find, Store, find};
-use gixobj_ids::hash::{ObjectId, oid};
+use gixobj_hash::hash::{ObjectId, oid};
 use gixobj_keeping::{Keep, KeepCommit, KeepError};
 use gixobj_store::Memory;
 use gixobj_trees::Tree;

@@ -4,7 +4,7 @@
 use crate::samples::{COMMITS, are_commits, kept_commit, number, plain_steps, step};
 use gixobj_editor::editor::{Error, WriteError};
 use gixobj_fields::encode;
-use gixobj_ids::hash::Kind as HashKind;
+use gixobj_hash::hash::Kind as HashKind;
 use gixobj_import::{ImportError, Importer, Step, Stopped, import_all};
 use gixobj_keeping::KeepError;
 use gixobj_store::Memory;

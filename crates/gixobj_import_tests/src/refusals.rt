@@ -3,7 +3,7 @@
 use crate::samples::{COMMITS, are_commits, number, path_of, plain_steps, step, step_by, upsert};
 use gixobj_commands::Edit;
 use gixobj_editor::editor::Error;
-use gixobj_ids::hash::{Kind as HashKind, ObjectId};
+use gixobj_hash::hash::{Kind as HashKind, ObjectId};
 use gixobj_import::{ImportError, Importer, Step, Stopped, import_all};
 use gixobj_store::Memory;
 use gixobj_trees::tree::EntryKind;

@@ -1,19 +1,19 @@
 //! Steps, and what several tests ask of an import.
 
 use bstr::BString;
-use gixobj_actors::actor::Signature;
-use gixobj_actors::date::Time;
+use gixobj_actor::actor::Signature;
+use gixobj_actor::date::Time;
 use gixobj_commands::Edit;
 use gixobj_data::Find;
-use gixobj_ids::hash::ObjectId;
-use gixobj_ids::{Kind, compute_hash};
+use gixobj_hash::hash::ObjectId;
+use gixobj_hash::{Kind, compute_hash};
 use gixobj_import::{ImportError, Imported, Step};
 use gixobj_trees::tree::EntryKind;
 use std::alloc::{AllocError, Global};
 
 /// The id that the hex digits spell; of others the null id.
 pub(crate) fn id(hex: &str) -> ObjectId {
-    ObjectId::from_hex(hex.as_bytes()).unwrap_or(ObjectId::null(gixobj_ids::hash::Kind::Sha1))
+    ObjectId::from_hex(hex.as_bytes()).unwrap_or(ObjectId::null(gixobj_hash::hash::Kind::Sha1))
 }
 
 /// The path of the names between slashes.

@@ -3,11 +3,11 @@
 
 use crate::samples::{id, path_of};
 use bstr::BString;
-use gixobj_actors::actor::Signature;
-use gixobj_actors::date::Time;
+use gixobj_actor::actor::Signature;
+use gixobj_actor::date::Time;
 use gixobj_commands::Edit;
-use gixobj_ids::hash::{Kind as HashKind, ObjectId};
-use gixobj_ids::{Kind, compute_hash};
+use gixobj_hash::hash::{Kind as HashKind, ObjectId};
+use gixobj_hash::{Kind, compute_hash};
 use gixobj_import::{Imported, Importer, Step, import_all};
 use gixobj_store::Memory;
 use gixobj_trees::tree::EntryKind;

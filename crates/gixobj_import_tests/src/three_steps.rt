@@ -4,7 +4,7 @@
 use crate::samples::{
     Blobs, COMMITS, are_commits, id, kept_commit, number, plain_steps, step_by, three_steps,
 };
-use gixobj_ids::hash::Kind as HashKind;
+use gixobj_hash::hash::Kind as HashKind;
 use gixobj_import::{Imported, Importer, import_all};
 use gixobj_store::Memory;
 use std::test::Fail;

@@ -2,7 +2,7 @@
 
 use crate::failing::Failing;
 use crate::samples::{COMMITS, are_commits, kept_commit, number, plain_steps, step};
-use gixobj_ids::hash::Kind as HashKind;
+use gixobj_hash::hash::Kind as HashKind;
 use gixobj_import::{Importer, import_all};
 use std::alloc::Global;
 use std::test::Fail;

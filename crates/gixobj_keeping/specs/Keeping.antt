@@ -3,9 +3,9 @@ use Rattle.std.specs.Prelude.{◌≡◌, ◌⊎◌, ℕ, Bool, IsTrue, List, [],
 use Rattle.std.specs.FinMap as map
 use Rattle.gixobj_data.specs.Stores.{Objects, StoredObject}
 use Rattle.gixobj_fields.specs.Writing.{Refused, RefusesNothing}
-use Rattle.gixobj_ids.specs.Hash.{id_kind}
-use Rattle.gixobj_ids.specs.declared.hash.object_id.ObjectId.{ObjectId}
-use Rattle.gixobj_ids.specs.declared.kind.Kind.TheVariants.{Commit, Tree}
+use Rattle.gixobj_hash.specs.Hash.{id_kind}
+use Rattle.gixobj_hash.specs.declared.hash.object_id.ObjectId.{ObjectId}
+use Rattle.gixobj_hash.specs.declared.kind.Kind.TheVariants.{Commit, Tree}
 use Rattle.gixobj_trees.specs.Entries.{EntryView}
 use Rattle.gixobj_trees.specs.TreeText.{RefusesTree, tree_text}
 use Rattle.gixobj_keeping.specs.declared.KeepError.{KeepError}

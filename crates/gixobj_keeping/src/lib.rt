@@ -2,13 +2,13 @@
 #![tactic(auto)]
 
 ghost use Rattle.std.specs.Prelude.{◌≡◌, All, IfErr, OnErr, OnOk};
-ghost use Rattle.gixobj_ids.specs.declared.hash.object_id.ObjectId.{ObjectId};
+ghost use Rattle.gixobj_hash.specs.declared.hash.object_id.ObjectId.{ObjectId};
 ghost use Rattle.gixobj_keeping.specs.Keeping.{HasText, RefusesKeep, RefusesKeepCommit, StopsKeeping, with_commit, with_tree, with_trees};
 
 use bstr::BString;
 use gixobj_data::Find;
-use gixobj_ids::OutOfMemory;
-use gixobj_ids::hash::ObjectId;
+use gixobj_hash::OutOfMemory;
+use gixobj_hash::hash::ObjectId;
 use gixobj_trees::Tree;
 use std::alloc::{AllocError, AllocFailed};
 

@@ -7,12 +7,12 @@ use Rattle.std.specs.List.{flat_map}
 use Rattle.std.specs.Prelude.{codes}
 use Rattle.gixobj_fields.specs.HeaderText.{HasField, Header, IsHeaderText, field_text}
 use Rattle.gixobj_fields.specs.Runs.{Passes}
-use Rattle.gixobj_ids.specs.Hash.Hex.{IsHexOf}
-use Rattle.gixobj_ids.specs.declared.hash.kind.Kind.{Kind}
+use Rattle.gixobj_hash.specs.Hash.Hex.{IsHexOf}
+use Rattle.gixobj_hash.specs.declared.hash.kind.Kind.{Kind}
 use Rattle.gixobj_lines.specs.Commit.{AreHeaderTexts, BeginsCommit, CommitLines, IsCommitText, IsEncoding, before_encoding, encoding_text, ids_text, parent_text}
 use Rattle.gixobj_lines.specs.Gathering.{gather, gathered, nothing}
 use Rattle.gixobj_lines.specs.Lines.{HasLine, LineView, author_comes, committer_comes, encoding_comes, first_header_comes, first_message_comes, header_comes, header_line, message_comes, parent_comes, tree_comes}
-use Rattle.gixobj_actors.specs.Actor.{NamesActor}
+use Rattle.gixobj_actor.specs.Actor.{NamesActor}
 use Rattle.gixobj_lines.specs.declared.lines.State.{State}
 use Rattle.gixobj_lines.specs.declared.lines.State.TheVariants as state
 

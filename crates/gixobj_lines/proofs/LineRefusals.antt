@@ -1,14 +1,14 @@
 -- Where no line comes, and why.
 use Rattle.std.proofs.Common.{◌≡◌, ◌≢◌, ℕ, List, ◌∷◌, ◌++◌, arith, sym, ap, subst, ◌∙◌}
 use Rattle.std.specs.Prelude.{codes}
-use Rattle.gixobj_actors.specs.Actor.{IsActor, IsNoActor}
+use Rattle.gixobj_actor.specs.Actor.{IsActor, IsNoActor}
 use Rattle.gixobj_fields.proofs.HeaderFields.{first_bytes, one_field}
 use Rattle.gixobj_fields.specs.HeaderReading.{RefusesHeaderField}
 use Rattle.gixobj_fields.specs.HeaderText.{HasField, HasNoField, HasNoHeader}
 use Rattle.gixobj_fields.specs.Runs.{HasNoPiece}
-use Rattle.gixobj_ids.specs.declared.decode.Error.{Error}
-use Rattle.gixobj_ids.specs.declared.decode.Error.TheVariants.{Malformed, OutOfMemory}
-use Rattle.gixobj_ids.specs.declared.hash.kind.Kind.{Kind}
+use Rattle.gixobj_hash.specs.declared.decode.Error.{Error}
+use Rattle.gixobj_hash.specs.declared.decode.Error.TheVariants.{Malformed, OutOfMemory}
+use Rattle.gixobj_hash.specs.declared.hash.kind.Kind.{Kind}
 use Rattle.gixobj_lines.proofs.OneLine.{begins, behind_name, free_encoding, named_after}
 use Rattle.gixobj_lines.specs.Lines.{HasLine, HasNoActor, LineView, RefusesLine, encoding_comes, first_header_comes, first_message_comes, header_comes, message_comes}
 use Rattle.gixobj_lines.specs.declared.lines.State.{State}

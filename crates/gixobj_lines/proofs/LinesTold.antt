@@ -6,13 +6,13 @@ use Rattle.std.specs.Prelude.{codes, map}
 use Rattle.gixobj_fields.proofs.HeaderFields.{digits_are_one_line}
 use Rattle.gixobj_fields.specs.HeaderText.{EndsHeader, HasField, HasHeader, Header, IsHeaderText, field_text, following_text}
 use Rattle.gixobj_fields.specs.Runs.{Tells, complete, tells_end, tells_piece}
-use Rattle.gixobj_ids.specs.Hash.Hex.{IsHexOf}
-use Rattle.gixobj_ids.specs.declared.hash.kind.Kind.{Kind}
+use Rattle.gixobj_hash.specs.Hash.Hex.{IsHexOf}
+use Rattle.gixobj_hash.specs.declared.hash.kind.Kind.{Kind}
 use Rattle.gixobj_lines.specs.Commit.{AreHeaderTexts, CommitLines, IsCommitText, IsEncoding, encoding_lines, encoding_text, lines_of, parent_text}
 use Rattle.gixobj_lines.specs.Lines.{HasLine, LineView, author_comes, author_line, committer_comes, committer_line, encoding_comes, encoding_line, first_header_comes, first_message_comes, header_comes, header_line, message_comes, message_line, parent_comes, parent_line, tree_comes, tree_line}
-use Rattle.gixobj_actors.specs.Actor.{NamesActor}
+use Rattle.gixobj_actor.specs.Actor.{NamesActor}
 use Rattle.gixobj_lines.specs.declared.lines.State.TheVariants as state
-use Rattle.gixobj_texts.specs.Parse.{IsFree}
+use Rattle.gixobj_hash.specs.Texts.{IsFree}
 
 -- ---- fields
 

@@ -3,11 +3,11 @@ use Rattle.std.proofs.Common.{◌≡◌, ◌≢◌, ◌<◌, ℕ, List, [], ◌�
 use Rattle.std.proofs.lemmas.List.Elements.{All-head}
 use Rattle.std.specs.List.{flat_map}
 use Rattle.std.specs.Prelude.{codes}
-use Rattle.gixobj_texts.proofs.Splits.{free_by_test, one_cut}
-use Rattle.gixobj_texts.specs.Parse.{IsFree}
+use Rattle.gixobj_hash.proofs.Splits.{free_by_test, one_cut}
+use Rattle.gixobj_hash.specs.Texts.{IsFree}
 use Rattle.gixobj_fields.proofs.HeaderFields.{first_bytes, one_field, one_header}
 use Rattle.gixobj_fields.specs.HeaderText.{HasField, HasHeader, Header, IsHeaderName, field_text, following_text}
-use Rattle.gixobj_ids.specs.declared.hash.kind.Kind.{Kind}
+use Rattle.gixobj_hash.specs.declared.hash.kind.Kind.{Kind}
 use Rattle.gixobj_lines.specs.Lines.{HasLine, LineView, author_comes, committer_comes, encoding_comes, first_header_comes, first_message_comes, header_comes, header_line, message_comes, parent_comes, parent_line, tree_comes, tree_line, author_line, committer_line, encoding_line, message_line}
 use Rattle.gixobj_lines.specs.declared.lines.State.{State}
 

@@ -8,18 +8,18 @@ use Rattle.gixobj_fields.proofs.HeaderFields.{of_an_id}
 use Rattle.gixobj_fields.proofs.Runs.{behind_passed, one_run, passes_one}
 use Rattle.gixobj_fields.specs.HeaderText.{BeginsSeveralLines, Header, IsHeaderText, LacksName, field_text}
 use Rattle.gixobj_fields.specs.Runs.{HasNoPiece, Passes, Tells, complete, tells_end, tells_piece}
-use Rattle.gixobj_ids.specs.Hash.{IsHexOfAnId}
-use Rattle.gixobj_ids.specs.Hash.Hex.{IsHexOf}
-use Rattle.gixobj_ids.specs.declared.decode.Error.{Error}
-use Rattle.gixobj_ids.specs.declared.decode.Error.TheVariants.{Malformed, OutOfMemory}
-use Rattle.gixobj_ids.specs.declared.hash.kind.Kind.{Kind}
+use Rattle.gixobj_hash.specs.Hash.{IsHexOfAnId}
+use Rattle.gixobj_hash.specs.Hash.Hex.{IsHexOf}
+use Rattle.gixobj_hash.specs.declared.decode.Error.{Error}
+use Rattle.gixobj_hash.specs.declared.decode.Error.TheVariants.{Malformed, OutOfMemory}
+use Rattle.gixobj_hash.specs.declared.hash.kind.Kind.{Kind}
 use Rattle.gixobj_lines.proofs.CommitsRead.{Reads, encoding_more, first_named, put_header, reads_from_start, reads_line, some_header}
 use Rattle.gixobj_lines.proofs.LinesTold.{text_told}
 use Rattle.gixobj_lines.proofs.OneLine.{no_line_of_nothing, one_line}
 use Rattle.gixobj_lines.specs.Commit.{CommitLines, IsCommitText, IsNoCommitText, ReachesHeader, ReachesSecondParent, RefusesCommit, encoding_lines, lines_of, parent_text}
 use Rattle.gixobj_lines.specs.Gathering.{Gathers, TakesMemory, gather, gathered, nothing}
 use Rattle.gixobj_lines.specs.Lines.{HasLine, LineView, MayFold, RefusesLine, author_comes, author_line, committer_comes, committer_line, encoding_comes, first_header_comes, first_message_comes, header_comes, header_line, message_comes, message_line, parent_comes, parent_line, tree_comes, tree_line}
-use Rattle.gixobj_texts.specs.Parse.{IsFree}
+use Rattle.gixobj_hash.specs.Texts.{IsFree}
 use Rattle.gixobj_lines.specs.declared.lines.State.{State}
 use Rattle.gixobj_lines.specs.declared.lines.State.TheVariants as state
 

@@ -2,14 +2,14 @@
 use Rattle.std.specs.Prelude.{◌≡◌, ◌≢◌, ◌⊎◌, ℕ, List, [], ◌∷◌, ◌++◌, All, Option, Some, None, codes, map, ⊤}
 use Rattle.std.specs.List.{flat_map}
 use Rattle.gixobj_fields.specs.HeaderText.{Header, IsHeaderText, field_text}
-use Rattle.gixobj_ids.specs.Hash.Hex.{IsHexOf}
-use Rattle.gixobj_ids.specs.declared.decode.Error.{Error}
-use Rattle.gixobj_ids.specs.declared.decode.Error.TheVariants.{Malformed, OutOfMemory}
-use Rattle.gixobj_ids.specs.declared.hash.kind.Kind.{Kind}
+use Rattle.gixobj_hash.specs.Hash.Hex.{IsHexOf}
+use Rattle.gixobj_hash.specs.declared.decode.Error.{Error}
+use Rattle.gixobj_hash.specs.declared.decode.Error.TheVariants.{Malformed, OutOfMemory}
+use Rattle.gixobj_hash.specs.declared.hash.kind.Kind.{Kind}
 use Rattle.gixobj_lines.specs.Lines.{LineView, author_line, committer_line, encoding_line, header_line, message_line, parent_line, tree_line}
-use Rattle.gixobj_actors.specs.Actor.{NamesActor}
-use Rattle.gixobj_texts.specs.Bytes.{newline}
-use Rattle.gixobj_texts.specs.Parse.{IsFree}
+use Rattle.gixobj_actor.specs.Actor.{NamesActor}
+use Rattle.gixobj_hash.specs.Bytes.{newline}
+use Rattle.gixobj_hash.specs.Texts.{IsFree}
 
 -- what a commit's text holds: hex texts of ids, lines of actors, an encoding, headers, a message
 pub record CommitLines : Type 0 where

@@ -1,18 +1,18 @@
 -- The lines of a commit, and which comes where (gitdatamodel, "commits").
 use Rattle.std.specs.Prelude.{◌≡◌, ◌≢◌, ℕ, List, [], ◌∷◌, codes, ⊤}
 use Rattle.bstr.specs.BStr.{bstr_bytes}
-use Rattle.gixobj_actors.specs.Actor.{IsActor, NamesActor}
+use Rattle.gixobj_actor.specs.Actor.{IsActor, NamesActor}
 use Rattle.gixobj_fields.specs.HeaderReading.{BorrowsOneLine, HasId, header_of}
 use Rattle.gixobj_fields.specs.HeaderText.{BeginsSeveralLines, HasField, HasHeader, Header, LacksName}
 use Rattle.gixobj_fields.specs.Runs.{Refuses}
-use Rattle.gixobj_ids.specs.Hash.{IsHexOfAnId}
-use Rattle.gixobj_ids.specs.declared.decode.Error.{Error}
-use Rattle.gixobj_ids.specs.declared.hash.kind.Kind.{Kind}
+use Rattle.gixobj_hash.specs.Hash.{IsHexOfAnId}
+use Rattle.gixobj_hash.specs.declared.decode.Error.{Error}
+use Rattle.gixobj_hash.specs.declared.hash.kind.Kind.{Kind}
 use Rattle.gixobj_lines.specs.declared.lines.Line.{Line}
 use Rattle.gixobj_lines.specs.declared.lines.Line.TheVariants as line
 use Rattle.gixobj_lines.specs.declared.lines.State.{State}
 use Rattle.gixobj_lines.specs.declared.lines.State.TheVariants as state
-use Rattle.gixobj_texts.specs.Bytes.{newline}
+use Rattle.gixobj_hash.specs.Bytes.{newline}
 
 -- a line, or a header of several, wherever it lies: hex texts of ids, lines of actors, an encoding, a header, the message
 pub data LineView : Type 0 where

@@ -1,18 +1,18 @@
 //! The line at the front of a commit's text, by where a reader stands.
 ghost use Rattle.std.specs.Prelude.{◌≡◌, ◌≢◌, ◌∷◌, ℕ, List, IfErr, IfNone, IfOk, IfSome, MatchOption};
 ghost use Rattle.bstr.specs.BStr.{bstr_bytes};
-ghost use Rattle.gixobj_actors.specs.Actor.{IsActor};
-ghost use Rattle.gixobj_ids.specs.declared.hash.kind.Kind.{Kind};
+ghost use Rattle.gixobj_actor.specs.Actor.{IsActor};
+ghost use Rattle.gixobj_hash.specs.declared.hash.kind.Kind.{Kind};
 ghost use Rattle.gixobj_lines.specs.Lines.{HasActor, HasLine, HasNoActor, IsParsed, RefusesLine, line_view};
 ghost use Rattle.gixobj_lines.specs.declared.lines.State.TheVariants as state;
-ghost use Rattle.gixobj_texts.specs.Bytes.{newline};
+ghost use Rattle.gixobj_hash.specs.Bytes.{newline};
 
 use bstr::BStr;
-use gixobj_actors::actor::SignatureRef;
-use gixobj_actors::parse::signature_of_line;
+use gixobj_actor::actor::SignatureRef;
+use gixobj_actor::parse::signature_of_line;
 use gixobj_fields::parse::{after_name, after_newline, any_header_field, header_field, header_id};
-use gixobj_ids::decode::Error;
-use gixobj_ids::hash::Kind;
+use gixobj_hash::decode::Error;
+use gixobj_hash::hash::Kind;
 use std::alloc::Global;
 use std::borrow::CowSlice;
 

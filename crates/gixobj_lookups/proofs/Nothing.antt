@@ -5,11 +5,11 @@ use Rattle.std.specs.FinMap as finite
 use Rattle.std.specs.Option.{option_map}
 use Rattle.std.specs.Prelude.{Option, is_some}
 use Rattle.gixobj_data.specs.Stores.{IsFound, IsHeaderFound, StoredObject, header, named}
-use Rattle.gixobj_ids.specs.Hash.{id_of}
-use Rattle.gixobj_ids.specs.Hash.Order.{id_cmp}
-use Rattle.gixobj_ids.specs.declared.hash.kind.Kind.TheVariants.{Sha1}
-use Rattle.gixobj_ids.specs.declared.hash.object_id.ObjectId.{ObjectId}
-use Rattle.gixobj_ids.specs.declared.kind.Kind.{Kind}
+use Rattle.gixobj_hash.specs.Hash.{id_of}
+use Rattle.gixobj_hash.specs.Hash.Order.{id_cmp}
+use Rattle.gixobj_hash.specs.declared.hash.kind.Kind.TheVariants.{Sha1}
+use Rattle.gixobj_hash.specs.declared.hash.object_id.ObjectId.{ObjectId}
+use Rattle.gixobj_hash.specs.declared.kind.Kind.{Kind}
 use Rattle.gixobj_lookups.specs.Nothing.{AnswersId, AnswersKnownId}
 
 nothing : (id : ObjectId) → None ≡ named finite.empty id

@@ -3,10 +3,10 @@ use Rattle.std.proofs.Common.{◌≡◌, ℕ, List, refl}
 use Rattle.gixobj_commits.specs.CommitViews.{commit_lines}
 use Rattle.gixobj_commits.specs.declared.commit.CommitRef.{CommitRef}
 use Rattle.gixobj_data.specs.Stores.{Objects}
-use Rattle.gixobj_ids.specs.declared.hash.kind.Kind as hash
-use Rattle.gixobj_ids.specs.declared.hash.object_id.ObjectId.{ObjectId}
-use Rattle.gixobj_ids.specs.declared.kind.Kind.{Kind}
-use Rattle.gixobj_ids.specs.declared.kind.Kind.TheVariants as kind
+use Rattle.gixobj_hash.specs.declared.hash.kind.Kind as hash
+use Rattle.gixobj_hash.specs.declared.hash.object_id.ObjectId.{ObjectId}
+use Rattle.gixobj_hash.specs.declared.kind.Kind.{Kind}
+use Rattle.gixobj_hash.specs.declared.kind.Kind.TheVariants as kind
 use Rattle.gixobj_lines.specs.Commit.{IsCommitText}
 use Rattle.gixobj_object_readers.specs.ObjectReading.{IsObjectText}
 use Rattle.gixobj_object_readers.specs.declared.object.ObjectRef.TheVariants as ref

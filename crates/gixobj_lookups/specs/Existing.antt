@@ -1,10 +1,10 @@
 -- Objects of a kind, looked up in a store by their ids.
 use Rattle.std.specs.Prelude.{◌≡◌, ◌≢◌, ◌⊎◌, ℕ, Bool, List, [], None}
 use Rattle.gixobj_data.specs.Stores.{Names, Objects, RefusesFind, StoredObject, named}
-use Rattle.gixobj_ids.specs.Hash.{id_kind, id_of}
-use Rattle.gixobj_ids.specs.declared.hash.kind.Kind as hash
-use Rattle.gixobj_ids.specs.declared.hash.object_id.ObjectId.{ObjectId}
-use Rattle.gixobj_ids.specs.declared.kind.Kind.{Kind}
+use Rattle.gixobj_hash.specs.Hash.{id_kind, id_of}
+use Rattle.gixobj_hash.specs.declared.hash.kind.Kind as hash
+use Rattle.gixobj_hash.specs.declared.hash.object_id.ObjectId.{ObjectId}
+use Rattle.gixobj_hash.specs.declared.kind.Kind.{Kind}
 use Rattle.gixobj_object_readers.specs.BorrowedObjects.{borrowed_kind}
 use Rattle.gixobj_object_readers.specs.ObjectReading.{IsObjectText, RefusesObjectText}
 use Rattle.gixobj_object_readers.specs.declared.object.ObjectRef.{ObjectRef}

@@ -2,9 +2,9 @@
 use Rattle.std.specs.Prelude.{◌≡◌, ℕ, Err, List, Ok, Option, Result, ⊤}
 use Rattle.gixobj_fields.specs.StreamHash.{ReadsObject, RefusesStream, SkipsExactly}
 use Rattle.gixobj_fields.specs.declared.stream_hash.Error as stream
-use Rattle.gixobj_ids.specs.declared.hash.kind.Kind.TheVariants.{Sha1}
-use Rattle.gixobj_ids.specs.declared.hash.object_id.ObjectId.{ObjectId}
-use Rattle.gixobj_ids.specs.declared.kind.Kind.{Kind}
+use Rattle.gixobj_hash.specs.declared.hash.kind.Kind.TheVariants.{Sha1}
+use Rattle.gixobj_hash.specs.declared.hash.object_id.ObjectId.{ObjectId}
+use Rattle.gixobj_hash.specs.declared.kind.Kind.{Kind}
 use Rattle.gixobj_lookups.specs.declared.write.Error.{Error}
 use Rattle.gixobj_lookups.specs.declared.write.Error.TheVariants.{Read}
 

@@ -1,7 +1,7 @@
 //! Why an object isn't written into a store.
 use bstr::BString;
 use gixobj_fields::{encode, stream_hash};
-use gixobj_ids::OutOfMemory;
+use gixobj_hash::OutOfMemory;
 use std::alloc::AllocError;
 
 /// The refusal of the calls of [`Write`](crate::Write).

@@ -1,7 +1,7 @@
 -- What refuses an input that was read whole refuses the run.
 use Rattle.std.proofs.Common.{ℕ, List, Option}
 use Rattle.gixobj_base.specs.Streams.{SinkView}
-use Rattle.gixobj_base.specs.ids.hash.kind.Kind as hash
+use Rattle.gixobj_base.specs.hash.hash.kind.Kind as hash
 use Rattle.gixobj_loose.specs.Engine.{Asks, ReadsAll, Refuses, RefusesText}
 use Rattle.gixobj_loose.specs.Object.{RefusesObject}
 use Rattle.gixobj_loose.specs.Words.{AsksFor}

@@ -2,9 +2,9 @@
 use Rattle.std.specs.Prelude.{◌≡◌, ◌⊎◌, ℕ, List, Option}
 use Rattle.std.specs.Io.KnownBytes.{Consumes, IsAtEnd}
 use Rattle.gixobj_base.specs.Streams.{Puts, PutsFront, SinkView}
-use Rattle.gixobj_base.specs.ids.hash.kind.Kind as hash
-use Rattle.gixobj_base.specs.ids.hash.object_id.ObjectId.{ObjectId}
-use Rattle.gixobj_base.specs.ids.kind.Kind.{Kind}
+use Rattle.gixobj_base.specs.hash.hash.kind.Kind as hash
+use Rattle.gixobj_base.specs.hash.hash.object_id.ObjectId.{ObjectId}
+use Rattle.gixobj_base.specs.hash.kind.Kind.{Kind}
 use Rattle.gixobj_loose.specs.Listing.{IsBadTree, IsListed, IsOfAnotherKind, RefusesListing}
 use Rattle.gixobj_loose.specs.Object.{HasNoHeader, IsShort, RefusesObject}
 use Rattle.gixobj_loose.specs.Show.{IsShown, show_line}

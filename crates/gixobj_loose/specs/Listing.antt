@@ -5,9 +5,9 @@ use Rattle.gixobj_base.specs.Bytes.{newline, space}
 use Rattle.gixobj_base.specs.Entries.{EntryView}
 use Rattle.gixobj_base.specs.Hash.{hex_text}
 use Rattle.gixobj_base.specs.Mode.{entry_word, kind_of_mode, mode_text}
-use Rattle.gixobj_base.specs.ids.hash.kind.Kind as hash
-use Rattle.gixobj_base.specs.ids.kind.Kind.{Kind}
-use Rattle.gixobj_base.specs.ids.kind.Kind.TheVariants.{Tree}
+use Rattle.gixobj_base.specs.hash.hash.kind.Kind as hash
+use Rattle.gixobj_base.specs.hash.kind.Kind.{Kind}
+use Rattle.gixobj_base.specs.hash.kind.Kind.TheVariants.{Tree}
 use Rattle.gixobj_tree_readers.specs.TreeReading.{BeginsWithEntry, IsNoTreeText, IsTreeText}
 use Rattle.gixobj_loose.specs.Object.{BeginsWithObject, HasNoHeader, IsShort}
 use Rattle.gixobj_loose.specs.declared.refusal.Refusal.{Refusal}

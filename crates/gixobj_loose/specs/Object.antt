@@ -1,7 +1,7 @@
 -- The loose object that an input begins with.
 use Rattle.std.specs.Prelude.{◌≡◌, ◌≤◌, ◌<◌, ◌+◌, ℕ, List, drop, length, take}
 use Rattle.gixobj_base.specs.Decode.{HasLooseHeader}
-use Rattle.gixobj_base.specs.ids.kind.Kind.{Kind}
+use Rattle.gixobj_base.specs.hash.kind.Kind.{Kind}
 use Rattle.gixobj_loose.specs.declared.refusal.Refusal.{Refusal}
 use Rattle.gixobj_loose.specs.declared.refusal.Refusal.TheVariants.{BadHeader, OutOfMemory, ShortData}
 

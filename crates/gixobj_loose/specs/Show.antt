@@ -3,9 +3,9 @@ use Rattle.std.specs.Prelude.{◌≡◌, ℕ, List, [], ◌∷◌, ◌++◌, dec
 use Rattle.gixobj_base.specs.Bytes.{newline, space}
 use Rattle.gixobj_base.specs.Hash.{hex_text, id_of}
 use Rattle.gixobj_base.specs.Kind.{kind_word}
-use Rattle.gixobj_base.specs.ids.hash.kind.Kind as hash
-use Rattle.gixobj_base.specs.ids.hash.object_id.ObjectId.{ObjectId}
-use Rattle.gixobj_base.specs.ids.kind.Kind.{Kind}
+use Rattle.gixobj_base.specs.hash.hash.kind.Kind as hash
+use Rattle.gixobj_base.specs.hash.hash.object_id.ObjectId.{ObjectId}
+use Rattle.gixobj_base.specs.hash.kind.Kind.{Kind}
 use Rattle.gixobj_loose.specs.Object.{IsObject}
 
 -- the input begins with a loose object of this kind, size and id

@@ -1,7 +1,7 @@
 -- What the words after the program's name ask for.
 use Rattle.std.specs.Prelude.{◌≡◌, ℕ, List, [], ◌∷◌, codes}
-use Rattle.gixobj_base.specs.ids.hash.kind.Kind.{Kind}
-use Rattle.gixobj_base.specs.ids.hash.kind.Kind.TheVariants.{Sha1, Sha256}
+use Rattle.gixobj_base.specs.hash.hash.kind.Kind.{Kind}
+use Rattle.gixobj_base.specs.hash.hash.kind.Kind.TheVariants.{Sha1, Sha256}
 use Rattle.gixobj_loose.specs.declared.words.Command.{Command}
 use Rattle.gixobj_loose.specs.declared.words.Command.TheVariants.{Show, Tree}
 

@@ -1,6 +1,6 @@
 //! `tree`: the entries of a loose tree, a line each.
 ghost use Rattle.std.specs.Prelude.{◌≡◌, ◌≢◌, [], ◌++◌, IfOk, IfErr, OnErr, OnOk};
-ghost use Rattle.gixobj_base.specs.ids.kind.Kind.TheVariants.{Tree};
+ghost use Rattle.gixobj_base.specs.hash.kind.Kind.TheVariants.{Tree};
 ghost use Rattle.gixobj_loose.specs.Listing.{IsListed, RefusesListing, RefusesTree, entry_line, listing_of};
 ghost use Rattle.gixobj_loose.specs.Object.{BeginsWithObject};
 ghost use Rattle.gixobj_tree_readers.specs.TreeViews.{entry_view, tree_entries};

@@ -1,9 +1,9 @@
 -- The content of a loose object stands behind its header.
 use Rattle.std.proofs.Common.{◌≡◌, ◌≤◌, ◌-◌, ◌++◌, ◌∙◌, ℕ, List, ap, drop, inr, length, subst, sym, take}
 use Rattle.std.proofs.lemmas.List.{length-take-le, take-append-drop, take_rest}
-use Rattle.gixobj_ids.specs.Decode.{HasLooseHeader}
-use Rattle.gixobj_ids.specs.declared.kind.Kind.{Kind}
-use Rattle.gixobj_ids.specs.declared.hash.kind.Kind as hash
+use Rattle.gixobj_hash.specs.Decode.{HasLooseHeader}
+use Rattle.gixobj_hash.specs.declared.kind.Kind.{Kind}
+use Rattle.gixobj_hash.specs.declared.hash.kind.Kind as hash
 use Rattle.gixobj_object_readers.specs.LooseObjects.{BeginsWithHeader, HasContent, IsTooLarge, RefusesLooseObject, RefusesSize}
 use Rattle.gixobj_object_readers.specs.declared.object.decode.LooseDecodeError.{LooseDecodeError}
 use Rattle.gixobj_object_readers.specs.declared.object.decode.LooseDecodeError.TheVariants.{InvalidContent, InvalidHeader, OutOfMemory}

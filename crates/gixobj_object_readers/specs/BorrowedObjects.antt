@@ -4,11 +4,11 @@ use Rattle.gixobj_commits.specs.CommitOwned.{IsOwnedForm as IsOwnedCommit, Refus
 use Rattle.gixobj_commits.specs.CommitViews.{commit_lines}
 use Rattle.gixobj_commits.specs.CommitWriting.{HasIds, RefusesLines as RefusesCommitLines, commit_text, in_lower_case}
 use Rattle.gixobj_fields.specs.Writing.{Refused}
-use Rattle.gixobj_ids.specs.Hash.{IsHexOfAnId}
-use Rattle.gixobj_ids.specs.declared.decode.Error.{Error}
-use Rattle.gixobj_ids.specs.declared.decode.Error.TheVariants.{OutOfMemory}
-use Rattle.gixobj_ids.specs.declared.kind.Kind.{Kind}
-use Rattle.gixobj_ids.specs.declared.kind.Kind.TheVariants as kind
+use Rattle.gixobj_hash.specs.Hash.{IsHexOfAnId}
+use Rattle.gixobj_hash.specs.declared.decode.Error.{Error}
+use Rattle.gixobj_hash.specs.declared.decode.Error.TheVariants.{OutOfMemory}
+use Rattle.gixobj_hash.specs.declared.kind.Kind.{Kind}
+use Rattle.gixobj_hash.specs.declared.kind.Kind.TheVariants as kind
 use Rattle.gixobj_objects.specs.declared.object.Object.{Object}
 use Rattle.gixobj_objects.specs.declared.object.Object.TheVariants as own
 use Rattle.gixobj_tags.specs.TagOwned.{IsOwnedForm as IsOwnedTag, RefusesOwning as RefusesOwningTag}

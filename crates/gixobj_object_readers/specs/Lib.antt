@@ -6,8 +6,8 @@ pub use Rattle.gixobj_commits.specs.CommitViews
 pub use Rattle.gixobj_commits.specs.CommitWriting
 pub use Rattle.gixobj_fields.specs.Streams
 pub use Rattle.gixobj_fields.specs.Writing
-pub use Rattle.gixobj_ids.specs.Decode
-pub use Rattle.gixobj_ids.specs.Encode
+pub use Rattle.gixobj_hash.specs.Decode
+pub use Rattle.gixobj_hash.specs.Encode
 pub use Rattle.gixobj_lines.specs.Commit
 pub use Rattle.gixobj_objects.specs.Objects
 pub use Rattle.gixobj_tags.specs.TagOwned

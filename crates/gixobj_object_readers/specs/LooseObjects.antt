@@ -1,11 +1,11 @@
 -- Loose objects, read: a header, and then a content of as many bytes as it says (gitformat-loose, "Loose object format").
 use Rattle.std.specs.Prelude.{◌≡◌, ◌⊎◌, ◌<◌, ◌≤◌, ◌^◌, ◌++◌, ℕ, List, length, ⊤}
-use Rattle.gixobj_ids.specs.Decode.{IsLooseHeader, RefusesHeader}
-use Rattle.gixobj_ids.specs.declared.decode.Error.{Error}
-use Rattle.gixobj_ids.specs.declared.decode.LooseHeaderDecodeError.{LooseHeaderDecodeError}
-use Rattle.gixobj_ids.specs.declared.decode.LooseHeaderDecodeError.TheVariants as header
-use Rattle.gixobj_ids.specs.declared.hash.kind.Kind as hash
-use Rattle.gixobj_ids.specs.declared.kind.Kind.{Kind}
+use Rattle.gixobj_hash.specs.Decode.{IsLooseHeader, RefusesHeader}
+use Rattle.gixobj_hash.specs.declared.decode.Error.{Error}
+use Rattle.gixobj_hash.specs.declared.decode.LooseHeaderDecodeError.{LooseHeaderDecodeError}
+use Rattle.gixobj_hash.specs.declared.decode.LooseHeaderDecodeError.TheVariants as header
+use Rattle.gixobj_hash.specs.declared.hash.kind.Kind as hash
+use Rattle.gixobj_hash.specs.declared.kind.Kind.{Kind}
 use Rattle.gixobj_object_readers.specs.ObjectReading.{IsObjectText, RefusesObjectText}
 use Rattle.gixobj_object_readers.specs.declared.object.ObjectRef.{ObjectRef}
 use Rattle.gixobj_object_readers.specs.declared.object.decode.LooseDecodeError.{LooseDecodeError}

@@ -8,7 +8,7 @@ mod write;
 
 pub use decode::LooseDecodeError;
 use gixobj_commits::CommitRef;
-use gixobj_ids::Kind;
+use gixobj_hash::Kind;
 use gixobj_tags::TagRef;
 use gixobj_tree_readers::TreeRef;
 use gixobj_trees::BlobRef;

@@ -3,7 +3,7 @@ pub use Rattle.gixobj_commits.specs.CommitViews
 pub use Rattle.gixobj_commits.specs.CommitWriting
 pub use Rattle.gixobj_fields.specs.Streams
 pub use Rattle.gixobj_fields.specs.Writing
-pub use Rattle.gixobj_ids.specs.Encode
+pub use Rattle.gixobj_hash.specs.Encode
 pub use Rattle.gixobj_tags.specs.TagViews
 pub use Rattle.gixobj_tags.specs.TagWriting
 pub use Rattle.gixobj_trees.specs.TreeText

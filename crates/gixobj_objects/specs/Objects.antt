@@ -3,8 +3,8 @@ use Rattle.std.specs.Prelude.{ℕ, List}
 use Rattle.gixobj_commits.specs.CommitViews.{owned_lines as owned_commit_lines}
 use Rattle.gixobj_commits.specs.CommitWriting.{RefusesOwned as RefusesOwnedCommit, commit_text}
 use Rattle.gixobj_fields.specs.Writing.{Refused}
-use Rattle.gixobj_ids.specs.declared.kind.Kind.{Kind}
-use Rattle.gixobj_ids.specs.declared.kind.Kind.TheVariants as kind
+use Rattle.gixobj_hash.specs.declared.kind.Kind.{Kind}
+use Rattle.gixobj_hash.specs.declared.kind.Kind.TheVariants as kind
 use Rattle.gixobj_tags.specs.TagViews.{owned_lines as owned_tag_lines}
 use Rattle.gixobj_tags.specs.TagWriting.{RefusesOwned as RefusesOwnedTag, tag_text}
 use Rattle.gixobj_trees.specs.TreeText.{RefusesTree, tree_text}

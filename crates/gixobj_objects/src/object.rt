@@ -6,7 +6,7 @@ mod convert;
 mod write;
 
 use gixobj_commits::Commit;
-use gixobj_ids::Kind;
+use gixobj_hash::Kind;
 use gixobj_tags::Tag;
 use gixobj_trees::{Blob, Tree};
 

@@ -10,7 +10,7 @@ use bstr::BString;
 use gixobj_base::parse::split_at_byte;
 use gixobj_base::{WriteTo, hash};
 use gixobj_codec::{CommitRef, TagRef};
-use gixobj_runner::signature::sign::{Error, Options};
+use gixobj_signature::signature::sign::{Error, Options};
 use gixobj_text::signature::Format;
 use played::Row;
 use std::alloc::{AllocError, Global};

@@ -7,7 +7,7 @@ use bstr::BString;
 use gixobj_base::hash::Kind;
 use gixobj_base::parse::split_at_byte;
 use gixobj_codec::{CommitRefIter, TagRefIter};
-use gixobj_verifying::signature::SignedData;
+use gixobj_signature::signature::SignedData;
 use std::alloc::{AllocError, Global};
 
 /// What the public calls say of a text: the signature and what it signs, none, or why it isn't read.

@@ -9,8 +9,8 @@ use Rattle.gixobj_files.proofs.ListedTables.{fitting_table}
 use Rattle.gixobj_files.specs.Editing.{same_name}
 use Rattle.gixobj_files.specs.Files.{Table, Trees}
 use Rattle.gixobj_files.specs.Tables.{AgreesWithPairs, FitsBeside, IsEmptyId, Pair}
-use Rattle.gixobj_ids.specs.declared.hash.object_id.ObjectId.{ObjectId}
-use Rattle.gixobj_ids.specs.declared.hash.object_id.ObjectId.TheVariants as id
+use Rattle.gixobj_hash.specs.declared.hash.object_id.ObjectId.{ObjectId}
+use Rattle.gixobj_hash.specs.declared.hash.object_id.ObjectId.TheVariants as id
 use Rattle.gixobj_keeping.specs.Keeping.{tree_object, with_tree, with_trees}
 use Rattle.gixobj_tree_readers.specs.TreeReading.{IsTreeText}
 use Rattle.gixobj_trees.specs.Entries.{EntryView}

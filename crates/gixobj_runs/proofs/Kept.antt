@@ -5,7 +5,7 @@ use Rattle.gixobj_data.specs.Stores.{Objects}
 use Rattle.gixobj_directories.specs.declared.write.Written.{Written}
 use Rattle.gixobj_files.specs.State.{State, with_store}
 use Rattle.gixobj_files.specs.Tables.{Pair}
-use Rattle.gixobj_ids.specs.declared.hash.object_id.ObjectId.{ObjectId}
+use Rattle.gixobj_hash.specs.declared.hash.object_id.ObjectId.{ObjectId}
 use Rattle.gixobj_keeping.specs.Keeping.{HasText, StopsKeeping, with_trees}
 use Rattle.gixobj_keeping.specs.declared.KeepError.{KeepError}
 use Rattle.gixobj_runs.specs.Commands.{Place}

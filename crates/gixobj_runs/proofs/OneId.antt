@@ -24,7 +24,7 @@ use Rattle.gixobj_files.specs.History.{History, Step}
 use Rattle.gixobj_files.specs.Opening.{Dirs, HasAt, IsOpened}
 use Rattle.gixobj_files.specs.State.{DirMap, EditorFiles, State, open_bases, open_dirs, root_alone}
 use Rattle.gixobj_files.specs.Tables.{AgreesWithPairs, AgreesWithStore, Pair}
-use Rattle.gixobj_ids.specs.Hash.{null_id}
+use Rattle.gixobj_hash.specs.Hash.{null_id}
 use Rattle.gixobj_trees.specs.Entries.{EntryView, IsWellFormed}
 use Rattle.gixobj_trees.specs.Mode.{is_tree_mode, mode_of_kind}
 use Rattle.gixobj_trees.specs.declared.tree.entry_kind.EntryKind.{EntryKind}

@@ -32,8 +32,8 @@ use Rattle.gixobj_files.specs.HandingOut.{Leaves, leaves}
 use Rattle.gixobj_files.specs.Opening.{Dirs, IsOpened, in_path}
 use Rattle.gixobj_files.specs.State.{DirMap, State, open_bases, open_dirs, root_alone}
 use Rattle.gixobj_files.specs.Tables.{AgreesWithPairs, AgreesWithStore, Pair}
-use Rattle.gixobj_ids.specs.Hash.{null_id}
-use Rattle.gixobj_ids.specs.declared.hash.object_id.ObjectId.{ObjectId}
+use Rattle.gixobj_hash.specs.Hash.{null_id}
+use Rattle.gixobj_hash.specs.declared.hash.object_id.ObjectId.{ObjectId}
 use Rattle.gixobj_trees.specs.Entries.{EntryView}
 use Rattle.gixobj_trees.specs.Mode.{is_tree_mode}
 

@@ -21,7 +21,7 @@ use Rattle.gixobj_files.specs.Opening.{OpenFiles}
 use Rattle.gixobj_files.specs.PlainHistory.{HasNoTree, NoFiles}
 use Rattle.gixobj_files.specs.State.{DirMap, EditorFiles, State, root_alone}
 use Rattle.gixobj_files.specs.Tables.{AgreesWithPairs, HasOneId, Pair}
-use Rattle.gixobj_ids.specs.declared.hash.object_id.ObjectId.{ObjectId}
+use Rattle.gixobj_hash.specs.declared.hash.object_id.ObjectId.{ObjectId}
 use Rattle.gixobj_trees.specs.Entries.{EntryView}
 use Rattle.gixobj_trees.specs.Mode.{is_tree_mode, mode_of_kind}
 use Rattle.gixobj_trees.specs.declared.tree.entry_kind.EntryKind.{EntryKind}

@@ -24,7 +24,7 @@ use Rattle.gixobj_files.specs.Opening.{Dirs, in_path}
 use Rattle.gixobj_files.specs.State.{EditorFiles, State, open_bases, open_dirs, root_alone, with_store}
 use Rattle.gixobj_files.specs.Tables.{Pair}
 use Rattle.gixobj_files.specs.Unopened.{inside}
-use Rattle.gixobj_ids.specs.declared.hash.object_id.ObjectId.{ObjectId}
+use Rattle.gixobj_hash.specs.declared.hash.object_id.ObjectId.{ObjectId}
 use Rattle.gixobj_keeping.specs.Keeping.{HasText, StopsKeeping, with_trees}
 use Rattle.gixobj_trees.specs.Entries.{EntryView, IsWellFormed}
 use Rattle.gixobj_trees.specs.Mode.{mode_of_kind}

@@ -4,8 +4,8 @@ use Rattle.gixobj_data.specs.Stores.{Objects}
 use Rattle.gixobj_directories.specs.Openings.{AreTreesOf, NamesTree}
 use Rattle.gixobj_files.specs.Files.{Table, Trees}
 use Rattle.gixobj_files.specs.Tables.{AgreesWithPairs, IsEmptyId, Pair}
-use Rattle.gixobj_ids.specs.Hash.{id_kind}
-use Rattle.gixobj_ids.specs.declared.hash.object_id.ObjectId.{ObjectId}
+use Rattle.gixobj_hash.specs.Hash.{id_kind}
+use Rattle.gixobj_hash.specs.declared.hash.object_id.ObjectId.{ObjectId}
 use Rattle.gixobj_keeping.specs.Keeping.{with_trees}
 use Rattle.gixobj_tree_readers.specs.TreeReading.{IsTreeText}
 use Rattle.gixobj_trees.specs.Entries.{EntryView, IsWellFormed}

@@ -11,7 +11,7 @@ use crate::reply::{EditReply, Reply};
 use bstr::BString;
 use gixobj_commands::Edit;
 use gixobj_editor::editor::{Cursor, Editor, Error};
-use gixobj_ids::hash::ObjectId;
+use gixobj_hash::hash::ObjectId;
 use gixobj_keeping::{Keep, keep_all};
 use gixobj_trees::Tree;
 use std::alloc::Global;

@@ -7,7 +7,7 @@ ghost use Rattle.gixobj_runs.specs.Replies.{IsCallable, IsEditReply, reply_to};
 use crate::reply::EditReply;
 use gixobj_commands::Edit;
 use gixobj_editor::editor::{Editor, Error};
-use gixobj_ids::hash::ObjectId;
+use gixobj_hash::hash::ObjectId;
 use gixobj_keeping::{Keep, keep_all};
 use gixobj_trees::Tree;
 

@@ -4,7 +4,7 @@ ghost use Rattle.gixobj_data.specs.Stores.{Objects};
 ghost use Rattle.gixobj_directories.specs.Openings.{AreTreesOf};
 ghost use Rattle.gixobj_files.specs.Files.{Table, Trees};
 ghost use Rattle.gixobj_files.specs.Tables.{FitsBeside, Pair};
-ghost use Rattle.gixobj_ids.specs.Hash.{id_kind};
+ghost use Rattle.gixobj_hash.specs.Hash.{id_kind};
 ghost use Rattle.gixobj_runs.specs.Commands.{pairs_handed_out, pairs_kept};
 ghost use Rattle.gixobj_runs.specs.RunTables.{AgreesWithRun, ReadsAsItself};
 ghost use Rattle.gixobj_tree_readers.specs.Rewriting.{ReadsBack};

@@ -5,8 +5,8 @@ use Rattle.std.proofs.lemmas.List.Elements.{All-append, All-cons, All-head, All-
 use Rattle.std.proofs.lemmas.List.{append-nil}
 use Rattle.std.proofs.Math.Decide.{ℕ_discrete}
 use Rattle.std.specs.List.{flat_map}
-use Rattle.gixobj_texts.proofs.Splits.{one_cut}
-use Rattle.gixobj_texts.specs.Parse.{IsFree, SplitsAt}
+use Rattle.gixobj_hash.proofs.Splits.{one_cut}
+use Rattle.gixobj_hash.specs.Texts.{IsFree, SplitsAt}
 use Rattle.gixobj_script.specs.Cuts.{IsCutAt, ended}
 
 -- ---- part by part

@@ -6,14 +6,14 @@ use Rattle.std.proofs.lemmas.List.{append_cancel_left}
 use Rattle.std.proofs.Math.Decide.{ℕ_discrete}
 use Rattle.hex.specs.Hex.{is_hex_digit}
 use Rattle.gixobj_commands.specs.Views.{CommandView, EditView, edits_at, one_edit, remove, remove_leaf, set_root, upsert, write}
-use Rattle.gixobj_ids.specs.declared.hash.kind.Kind as hash
-use Rattle.gixobj_ids.specs.declared.hash.object_id.ObjectId.{ObjectId}
+use Rattle.gixobj_hash.specs.declared.hash.kind.Kind as hash
+use Rattle.gixobj_hash.specs.declared.hash.object_id.ObjectId.{ObjectId}
 use Rattle.gixobj_script.proofs.Cuts.{one_way, parts_of}
 use Rattle.gixobj_script.specs.Lines.{HasCommand, HasEdit, HasNoCommand, HasNoEdit, IsCommandText, IsEditAt, IsEditText, IsEntryAt, IsHexOfId, word_and}
 use Rattle.gixobj_script.specs.Paths.{ArePathNames, dot}
-use Rattle.gixobj_texts.proofs.Splits.{free_by_test, free_of_cut, one_cut}
-use Rattle.gixobj_texts.specs.Bytes.{slash}
-use Rattle.gixobj_texts.specs.Parse.{IsFree, SplitsAt}
+use Rattle.gixobj_hash.proofs.Splits.{free_by_test, free_of_cut, one_cut}
+use Rattle.gixobj_hash.specs.Bytes.{slash}
+use Rattle.gixobj_hash.specs.Texts.{IsFree, SplitsAt}
 use Rattle.gixobj_trees.specs.Mode.{entry_word}
 use Rattle.gixobj_trees.specs.declared.tree.entry_kind.EntryKind.{EntryKind}
 use Rattle.gixobj_trees.specs.declared.tree.entry_kind.EntryKind.TheVariants.{Blob, BlobExecutable, Commit, Link, Tree}

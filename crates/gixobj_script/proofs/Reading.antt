@@ -3,15 +3,15 @@ use Rattle.std.proofs.Common.{◌≡◌, ◌≢◌, ◌+◌, ◌++◌, ◌∷◌
 use Rattle.std.proofs.lemmas.List.Elements.{All-nil, All-push}
 use Rattle.std.specs.List.{AllZip}
 use Rattle.gixobj_commands.specs.Views.{CommandView}
-use Rattle.gixobj_ids.specs.declared.hash.kind.Kind as hash
+use Rattle.gixobj_hash.specs.declared.hash.kind.Kind as hash
 use Rattle.gixobj_script.proofs.Cuts.{AreInFront, and_the_rest, none_in_front, one_more, parts_of, the_last}
 use Rattle.gixobj_script.specs.Lines.{IsCommandText}
 use Rattle.gixobj_script.specs.Cuts.{IsCutAt}
 use Rattle.gixobj_script.specs.Scripts.{IsFirstBad, IsGoodLine, IsReached, IsScript, PutsLine, RefusesLine, RefusesScript, filled_lines}
 use Rattle.gixobj_script.specs.declared.script.ScriptError.{ScriptError}
 use Rattle.gixobj_script.specs.declared.script.ScriptError.TheVariants.{BadLine, OutOfMemory}
-use Rattle.gixobj_texts.specs.Bytes.{newline}
-use Rattle.gixobj_texts.specs.Parse.{IsFree, SplitsAt}
+use Rattle.gixobj_hash.specs.Bytes.{newline}
+use Rattle.gixobj_hash.specs.Texts.{IsFree, SplitsAt}
 
 -- the lines in front of the rest are read as these commands, and the next line has this number
 pub record IsReadTo (hash : hash.Kind) (text rest : List ℕ) (commands : List CommandView) (number : ℕ) : Type 0 where

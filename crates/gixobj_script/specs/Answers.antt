@@ -2,13 +2,13 @@
 use Rattle.std.specs.Prelude.{ℕ, List, [], ◌∷◌, ◌++◌, codes, decimal}
 use Rattle.std.specs.List.{flat_map}
 use Rattle.bstr.specs.Owned.{bstring_bytes}
-use Rattle.gixobj_ids.specs.Hash.{hex_text}
+use Rattle.gixobj_hash.specs.Hash.{hex_text}
 use Rattle.gixobj_script.specs.declared.answers.Answer.{Answer}
 use Rattle.gixobj_script.specs.declared.answers.Answer.TheVariants.{Done, Refused, RefusedMemory, RefusedOut, Unkept, Wrote}
 use Rattle.gixobj_script.specs.declared.answers.Refusal.{Refusal}
 use Rattle.gixobj_script.specs.declared.answers.Refusal.TheVariants.{Directory, DirectoryNotFound, EmptyName, MalformedTree, OutOfMemory, SlashInName}
 use Rattle.gixobj_script.specs.Lines.{word_and}
-use Rattle.gixobj_texts.specs.Bytes.{newline}
+use Rattle.gixobj_hash.specs.Bytes.{newline}
 
 -- the number of a refusal, and the path of the directory that was to be removed as a leaf
 abbrev pub refusal_text : Refusal → List ℕ

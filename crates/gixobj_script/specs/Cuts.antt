@@ -1,7 +1,7 @@
 -- Texts cut at each of a byte.
 use Rattle.std.specs.Prelude.{◌≡◌, ◌++◌, ◌∷◌, ℕ, All, List, []}
 use Rattle.std.specs.List.{flat_map}
-use Rattle.gixobj_texts.specs.Parse.{IsFree}
+use Rattle.gixobj_hash.specs.Texts.{IsFree}
 
 -- the part, and a byte behind it
 abbrev pub ended : ℕ → List ℕ → List ℕ

@@ -1,12 +1,12 @@
 -- The lines of a script: the text of each command.
 use Rattle.std.specs.Prelude.{◌≡◌, ◌++◌, ◌∷◌, ℕ, List, [], codes}
 use Rattle.gixobj_commands.specs.Views.{CommandView, EditView, edits_at, one_edit, remove, remove_leaf, set_root, upsert, write}
-use Rattle.gixobj_ids.specs.Hash.Hex.{IsHexOf, spelled_id}
-use Rattle.gixobj_ids.specs.declared.hash.kind.Kind as hash
-use Rattle.gixobj_ids.specs.declared.hash.object_id.ObjectId.{ObjectId}
+use Rattle.gixobj_hash.specs.Hash.Hex.{IsHexOf, spelled_id}
+use Rattle.gixobj_hash.specs.declared.hash.kind.Kind as hash
+use Rattle.gixobj_hash.specs.declared.hash.object_id.ObjectId.{ObjectId}
 use Rattle.gixobj_script.specs.Paths.{ArePathNames}
-use Rattle.gixobj_texts.specs.Bytes.{space}
-use Rattle.gixobj_texts.specs.Parse.{IsFree}
+use Rattle.gixobj_hash.specs.Bytes.{space}
+use Rattle.gixobj_hash.specs.Texts.{IsFree}
 use Rattle.gixobj_trees.specs.Mode.{entry_word}
 use Rattle.gixobj_trees.specs.declared.tree.entry_kind.EntryKind.{EntryKind}
 

@@ -1,7 +1,7 @@
 -- The names of paths.
 use Rattle.std.specs.Prelude.{◌≡◌, ◌≢◌, ◌⊎◌, ℕ, List, [], codes}
 use Rattle.gixobj_script.specs.Cuts.{IsCutAt}
-use Rattle.gixobj_texts.specs.Bytes.{slash}
+use Rattle.gixobj_hash.specs.Bytes.{slash}
 
 -- the path of a single dot
 abbrev pub dot : List ℕ

@@ -2,12 +2,12 @@
 use Rattle.std.specs.Prelude.{◌≡◌, ◌≢◌, ◌⊎◌, ◌+◌, ◌++◌, ◌∷◌, ℕ, All, List, [], length}
 use Rattle.std.specs.List.{AllZip}
 use Rattle.gixobj_commands.specs.Views.{CommandView}
-use Rattle.gixobj_ids.specs.declared.hash.kind.Kind as hash
+use Rattle.gixobj_hash.specs.declared.hash.kind.Kind as hash
 use Rattle.gixobj_script.specs.Lines.{HasCommand, HasNoCommand, IsCommandText}
 use Rattle.gixobj_script.specs.Cuts.{IsCutAt}
 use Rattle.gixobj_script.specs.declared.script.ScriptError.{ScriptError}
 use Rattle.gixobj_script.specs.declared.script.ScriptError.TheVariants.{BadLine, OutOfMemory}
-use Rattle.gixobj_texts.specs.Bytes.{newline}
+use Rattle.gixobj_hash.specs.Bytes.{newline}
 
 -- those of the lines that aren't empty
 abbrev pub filled_lines : List (List ℕ) → List (List ℕ)

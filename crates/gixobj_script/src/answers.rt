@@ -4,8 +4,8 @@ ghost use Rattle.gixobj_script.specs.Answers.{answer_text, lines_of, refusal_tex
 ghost use Rattle.gixobj_script.specs.Lines.{word_and};
 
 use bstr::BString;
-use gixobj_ids::OutOfMemory;
-use gixobj_ids::hash::ObjectId;
+use gixobj_hash::OutOfMemory;
+use gixobj_hash::hash::ObjectId;
 use itoa::Buffer;
 use std::alloc::Global;
 

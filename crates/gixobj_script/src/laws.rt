@@ -1,10 +1,10 @@
 //! Laws of the definitions. Each function does nothing: its contract is the law.
 ghost use Rattle.std.specs.Prelude.{◌≡◌, ◌↔◌, ◌++◌, ◌∷◌, [], ℕ, List};
 ghost use Rattle.gixobj_commands.specs.Views.{CommandView};
-ghost use Rattle.gixobj_ids.specs.declared.hash.kind.Kind.{Kind};
+ghost use Rattle.gixobj_hash.specs.declared.hash.kind.Kind.{Kind};
 ghost use Rattle.gixobj_script.specs.Lines.{IsCommandText};
 ghost use Rattle.gixobj_script.specs.Scripts.{IsFirstBad, IsScript};
-ghost use Rattle.gixobj_texts.specs.Bytes.{newline};
+ghost use Rattle.gixobj_hash.specs.Bytes.{newline};
 
 /// A line is the text of one command at most, and a script that of one list of commands at most.
 pub fn script_has_one_reading()

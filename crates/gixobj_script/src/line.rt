@@ -1,7 +1,7 @@
 //! The command of a line.
 ghost use Rattle.std.specs.Prelude.{◌≡◌, ℕ, List, codes, IfOk, IfNone, IfSome, MatchOption, OnErr};
 ghost use Rattle.gixobj_commands.specs.Views.{command_view, edit_view};
-ghost use Rattle.gixobj_ids.specs.declared.hash.object_id.ObjectId.{ObjectId};
+ghost use Rattle.gixobj_hash.specs.declared.hash.object_id.ObjectId.{ObjectId};
 ghost use Rattle.gixobj_script.specs.Lines.{HasCommand, HasEdit, HasNoCommand, HasNoEdit, IsCommandText, IsEditText, IsEntryAt, IsHexOfId, word_and};
 ghost use Rattle.gixobj_trees.specs.Mode.{entry_word};
 ghost use Rattle.gixobj_trees.specs.declared.tree.entry_kind.EntryKind.{EntryKind};
@@ -9,10 +9,10 @@ ghost use Rattle.gixobj_trees.specs.declared.tree.entry_kind.EntryKind.{EntryKin
 use crate::path::names_of_path;
 use gixobj_commands::{Command, Edit};
 use gixobj_fields::parse::after_name;
-use gixobj_ids::OutOfMemory;
-use gixobj_ids::hash::{Kind, ObjectId};
-use gixobj_ids::parse::{hex_hash, id_of_hex};
-use gixobj_texts::parse::split_at_byte;
+use gixobj_hash::OutOfMemory;
+use gixobj_hash::hash::{Kind, ObjectId};
+use gixobj_hash::parse::{hex_hash, id_of_hex};
+use gixobj_hash::texts::split_at_byte;
 use gixobj_trees::Tree;
 use gixobj_trees::tree::EntryKind;
 use std::alloc::Global;

@@ -5,8 +5,8 @@ ghost use Rattle.gixobj_script.specs.Cuts.{IsCutAt};
 ghost use Rattle.gixobj_script.specs.Paths.{ArePathNames, dot};
 
 use bstr::BString;
-use gixobj_ids::OutOfMemory;
-use gixobj_texts::parse::split_at_byte;
+use gixobj_hash::OutOfMemory;
+use gixobj_hash::texts::split_at_byte;
 use std::alloc::Global;
 
 /// The names of a path: none of a single `.`, and of any other all that stands between its slashes, also

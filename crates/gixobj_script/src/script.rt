@@ -5,9 +5,9 @@ ghost use Rattle.gixobj_script.specs.Scripts.{IsScript, PutsLine, RefusesLine, R
 
 use crate::line::read_command;
 use gixobj_commands::Command;
-use gixobj_ids::OutOfMemory;
-use gixobj_ids::hash::Kind;
-use gixobj_texts::parse::split_at_byte;
+use gixobj_hash::OutOfMemory;
+use gixobj_hash::hash::Kind;
+use gixobj_hash::texts::split_at_byte;
 use std::alloc::{AllocFailed, Global};
 
 /// Why a script isn't read.

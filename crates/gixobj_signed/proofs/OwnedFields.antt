@@ -4,17 +4,17 @@ use Rattle.std.specs.Prelude.{Contains}
 use Rattle.std.proofs.lemmas.Bool.{true≢false}
 use Rattle.std.proofs.lemmas.List.Elements.{All-cons, All-head, All-map, All-nil, All-tail, Contains-get_or}
 use Rattle.std.specs.List.{AllPass}
-use Rattle.gixobj_actors.specs.ActorWriting.{IsLegal, owned_text}
-use Rattle.gixobj_actors.specs.declared.actor.Signature.{Signature}
+use Rattle.gixobj_actor.specs.ActorWriting.{IsLegal, owned_text}
+use Rattle.gixobj_actor.specs.declared.actor.Signature.{Signature}
 use Rattle.gixobj_commits.specs.CommitViews.{owned_lines}
 use Rattle.gixobj_commits.specs.CommitWriting.{RefusesEncoding, RefusesOwned, before_author, before_committer}
 use Rattle.gixobj_commits.specs.declared.commit.Commit.{Commit}
 use Rattle.gixobj_fields.specs.Writing.{Refused, RefusesNothing, header_with_newline, illegal_actor}
-use Rattle.gixobj_ids.specs.Hash.{hex_text, is_lower_hex_digit}
+use Rattle.gixobj_hash.specs.Hash.{hex_text, is_lower_hex_digit}
 use Rattle.gixobj_lines.specs.Commit.{before_encoding}
-use Rattle.gixobj_texts.specs.Bytes.{greater_than, less_than, newline}
-use Rattle.gixobj_texts.specs.Optional.{owned_bytes_if_some}
-use Rattle.gixobj_texts.specs.Parse.{IsFree}
+use Rattle.gixobj_hash.specs.Bytes.{greater_than, less_than, newline}
+use Rattle.gixobj_hash.specs.Optional.{owned_bytes_if_some}
+use Rattle.gixobj_hash.specs.Texts.{IsFree}
 use Rattle.gixobj_signed.specs.LineFields.{HasLineFields, IsOneLine}
 
 -- ---- ids

@@ -7,8 +7,8 @@ use Rattle.gixobj_fields.proofs.HeaderFields.{one_header}
 use Rattle.gixobj_fields.specs.FieldWriting.{header_text}
 use Rattle.gixobj_fields.specs.HeaderText.{EndsHeader, HasHeader, HasNoHeader, Header, IsHeaderName, IsHeaderText}
 use Rattle.gixobj_fields.specs.Runs.{Tells, broken, complete, tells_end, tells_error, tells_piece}
-use Rattle.gixobj_ids.specs.declared.decode.Error.TheVariants.{Malformed}
-use Rattle.gixobj_ids.specs.declared.hash.kind.Kind.{Kind}
+use Rattle.gixobj_hash.specs.declared.decode.Error.TheVariants.{Malformed}
+use Rattle.gixobj_hash.specs.declared.hash.kind.Kind.{Kind}
 use Rattle.gixobj_lines.proofs.LinesTold.{text_told}
 use Rattle.gixobj_lines.proofs.OneLine.{longer_header, no_header, no_line_of_nothing, one_line}
 use Rattle.gixobj_lines.specs.Commit.{AreHeaderTexts, CommitLines, IsCommitText, lines_of}

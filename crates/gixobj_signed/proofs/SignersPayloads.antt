@@ -5,13 +5,13 @@ use Rattle.gixobj_commits.specs.CommitViews as commit_views
 use Rattle.gixobj_commits.specs.CommitWriting.{RefusesOwned, commit_text}
 use Rattle.gixobj_commits.specs.declared.commit.Commit.{Commit}
 use Rattle.gixobj_fields.specs.Writing.{RefusesNothing}
-use Rattle.gixobj_ids.specs.Hash.{id_kind}
+use Rattle.gixobj_hash.specs.Hash.{id_kind}
 use Rattle.gixobj_lines.specs.Commit.{CommitLines}
-use Rattle.gixobj_runner.specs.Calls.{Answer, CallView}
-use Rattle.gixobj_runner.specs.Plans.{Carries}
-use Rattle.gixobj_runner.specs.Signing.{options_view, sign_plan, signature}
-use Rattle.gixobj_runner.specs.declared.signature.sign.Error.{Error}
-use Rattle.gixobj_runner.specs.declared.signature.sign.Options.{Options}
+use Rattle.gixobj_signature.specs.Calls.{Answer, CallView}
+use Rattle.gixobj_signature.specs.Plans.{Carries}
+use Rattle.gixobj_signature.specs.Signing.{options_view, sign_plan, signature}
+use Rattle.gixobj_signature.specs.declared.signature.sign.Error.{Error}
+use Rattle.gixobj_signature.specs.declared.signature.sign.Options.{Options}
 use Rattle.gixobj_tag_tokens.specs.TagExtracting as tags
 use Rattle.gixobj_tags.specs.TagSigning as tag
 use Rattle.gixobj_tags.specs.TagText.{TagLines}

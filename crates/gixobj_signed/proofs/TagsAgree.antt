@@ -5,21 +5,21 @@ use Rattle.std.proofs.lemmas.List.Folds.{list_all-append}
 use Rattle.std.proofs.lemmas.List.Elements.{All-append, All-cons, All-head, All-tail}
 use Rattle.bstr.specs.BStr.{bstr_bytes}
 use Rattle.gixobj_fields.specs.HeaderText.{field_text}
-use Rattle.gixobj_ids.specs.Kind.{kind_word}
-use Rattle.gixobj_ids.specs.declared.hash.kind.Kind.{Kind}
-use Rattle.gixobj_signing.proofs.MarkerPlaces.{not_both, one_format, one_marker_place}
-use Rattle.gixobj_signing.specs.Markers.{BeginsWithMarker, HasNoMarker, IsMarkerOf, IsMarkerPlace, MarksPlace, StartsLine, pgp_message, pgp_signature, signed_message, ssh_signature}
-use Rattle.gixobj_signing.specs.declared.signature.Format.{Format}
-use Rattle.gixobj_signing.specs.declared.signature.SignatureRef.{SignatureRef}
+use Rattle.gixobj_hash.specs.Kind.{kind_word}
+use Rattle.gixobj_hash.specs.declared.hash.kind.Kind.{Kind}
+use Rattle.gixobj_text.proofs.MarkerPlaces.{not_both, one_format, one_marker_place}
+use Rattle.gixobj_text.specs.Markers.{BeginsWithMarker, HasNoMarker, IsMarkerOf, IsMarkerPlace, MarksPlace, StartsLine, pgp_message, pgp_signature, signed_message, ssh_signature}
+use Rattle.gixobj_text.specs.declared.signature.Format.{Format}
+use Rattle.gixobj_text.specs.declared.signature.SignatureRef.{SignatureRef}
 use Rattle.gixobj_tag_tokens.specs.TagExtracting.{GivesSignature, HasSignature}
 use Rattle.gixobj_tags.proofs.WholeTags.{Reads, take_apart}
 use Rattle.gixobj_tags.specs.LineReading.{HasTagger}
 use Rattle.gixobj_tags.specs.Signed.{IsSignature}
 use Rattle.gixobj_tags.specs.TagText.{IsBody, IsParted, IsTagText, TagLines, are_newlines, behind_newline, lines_text, newlines_alone, signed, signed_at_once, tagger_text, unsigned}
-use Rattle.gixobj_texts.proofs.Splits.{free_by_test}
-use Rattle.gixobj_texts.specs.Parse.{IsFree}
-use Rattle.gixobj_verifying.specs.SignedBytes.{signed_bytes}
-use Rattle.gixobj_verifying.specs.declared.signature.SignedData.{SignedData}
+use Rattle.gixobj_hash.proofs.Splits.{free_by_test}
+use Rattle.gixobj_hash.specs.Texts.{IsFree}
+use Rattle.gixobj_signature.specs.SignedBytes.{signed_bytes}
+use Rattle.gixobj_signature.specs.declared.signature.signed_data.SignedData.{SignedData}
 use Rattle.gixobj_signed.proofs.TagsExtracted.{marks_rest, same_fronts}
 use Rattle.gixobj_signed.specs.Agreeing.{AreTheSame}
 

@@ -1,8 +1,8 @@
 -- What is extracted from the text of a signed tag is what was signed.
 use Rattle.std.proofs.Common.{◌≡◌, inl, inr, ◌≤◌, ◌-◌, ◌∙◌, ℕ, List, [], ◌∷◌, ◌++◌, Some, None, arith, length, refl, sym, ap, subst, append_assoc, append-nil}
 use Rattle.std.proofs.lemmas.List.{length-append}
-use Rattle.gixobj_signing.specs.Markers.{BeginsWithMarker, IsMarkerPlace, MarksPlace, StartsLine}
-use Rattle.gixobj_signing.specs.declared.signature.Format.{Format}
+use Rattle.gixobj_text.specs.Markers.{BeginsWithMarker, IsMarkerPlace, MarksPlace, StartsLine}
+use Rattle.gixobj_text.specs.declared.signature.Format.{Format}
 use Rattle.gixobj_tags.specs.TagText.{TagLines, lines_text}
 use Rattle.gixobj_tags.specs.TagWriting.{message_text, tag_text}
 use Rattle.gixobj_tag_tokens.specs.TagExtracting.{HasSignature}

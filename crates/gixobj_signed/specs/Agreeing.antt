@@ -1,8 +1,8 @@
 -- Signatures of tags, told in two ways.
 use Rattle.std.specs.Prelude.{◌≡◌, Option, Some, None, ⊤}
 use Rattle.bstr.specs.BStr.{bstr_bytes}
-use Rattle.gixobj_signing.specs.declared.signature.SignatureRef.{SignatureRef}
-use Rattle.gixobj_verifying.specs.declared.signature.SignedData.{SignedData}
+use Rattle.gixobj_text.specs.declared.signature.SignatureRef.{SignatureRef}
+use Rattle.gixobj_signature.specs.declared.signature.signed_data.SignedData.{SignedData}
 
 -- a tag's own signature and the one that is found in a text, with what it signs: both none, or the same bytes in the same format
 abbrev pub AreTheSame : Option SignatureRef → Option (SignatureRef × SignedData) → Type 0

@@ -2,8 +2,8 @@
 use Rattle.std.specs.Prelude.{ℕ, List, All, Option, Some, None, ⊤}
 use Rattle.gixobj_fields.specs.HeaderText.{IsHeaderName}
 use Rattle.gixobj_lines.specs.Commit.{CommitLines}
-use Rattle.gixobj_texts.specs.Bytes.{newline}
-use Rattle.gixobj_texts.specs.Parse.{IsFree}
+use Rattle.gixobj_hash.specs.Bytes.{newline}
+use Rattle.gixobj_hash.specs.Texts.{IsFree}
 
 -- each header has a name that a header may have
 abbrev pub HasHeaderNames : CommitLines → Type 0

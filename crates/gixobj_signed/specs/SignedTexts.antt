@@ -1,12 +1,12 @@
 -- What a signer got, found again in the texts of signed commits and tags.
 use Rattle.std.specs.Prelude.{◌≡◌, ℕ, List}
-use Rattle.gixobj_ids.specs.declared.hash.kind.Kind.{Kind}
-use Rattle.gixobj_runner.specs.Calls.{Answer, CallView}
-use Rattle.gixobj_runner.specs.Plans.{Carries}
-use Rattle.gixobj_runner.specs.Signing.{options_view, sign_plan, signature}
-use Rattle.gixobj_runner.specs.declared.signature.sign.Options.{Options}
+use Rattle.gixobj_hash.specs.declared.hash.kind.Kind.{Kind}
+use Rattle.gixobj_signature.specs.Calls.{Answer, CallView}
+use Rattle.gixobj_signature.specs.Plans.{Carries}
+use Rattle.gixobj_signature.specs.Signing.{options_view, sign_plan, signature}
+use Rattle.gixobj_signature.specs.declared.signature.sign.Options.{Options}
 use Rattle.gixobj_signed.specs.OneMarker.{HasOneMarker}
-use Rattle.gixobj_signing.specs.declared.signature.Format.{Format}
+use Rattle.gixobj_text.specs.declared.signature.Format.{Format}
 use Rattle.gixobj_tag_tokens.specs.TagExtracting as tags
 use Rattle.gixobj_tokens.specs.Extracting as commits
 

@@ -1,15 +1,15 @@
 //! What is written of ids and actors is one line.
 ghost use Rattle.std.specs.Prelude.{All};
-ghost use Rattle.gixobj_actors.specs.ActorWriting.{IsLegal, owned_text};
-ghost use Rattle.gixobj_ids.specs.Hash.{hex_text};
-ghost use Rattle.gixobj_texts.specs.Bytes.{newline};
-ghost use Rattle.gixobj_texts.specs.Parse.{IsFree};
+ghost use Rattle.gixobj_actor.specs.ActorWriting.{IsLegal, owned_text};
+ghost use Rattle.gixobj_hash.specs.Hash.{hex_text};
+ghost use Rattle.gixobj_hash.specs.Bytes.{newline};
+ghost use Rattle.gixobj_hash.specs.Texts.{IsFree};
 ghost use Rattle.hex.specs.Hex.{IsBytes};
 
-use gixobj_actors::actor::Signature;
-use gixobj_actors::laws::actor_reads_back;
-use gixobj_ids::hash::ObjectId;
-use gixobj_ids::laws::hex_reads_back;
+use gixobj_actor::actor::Signature;
+use gixobj_actor::laws::actor_reads_back;
+use gixobj_hash::hash::ObjectId;
+use gixobj_hash::laws::hex_reads_back;
 
 /// So is the hex text of an id.
 pub(crate) fn id_has_one_line(id: &ObjectId)

@@ -1,9 +1,9 @@
 -- Answers from a list.
 use Rattle.std.specs.Prelude.{◌≡◌, ◌⊎◌, List, [], ◌∷◌, Result}
-use Rattle.gixobj_runner.specs.Calls.{Answer, answer_view, failed, not_spawned}
-use Rattle.gixobj_runner.specs.declared.signature.Call.{Call}
-use Rattle.gixobj_runner.specs.declared.signature.Output.{Output}
-use Rattle.gixobj_runner.specs.declared.signature.RunError.{RunError}
+use Rattle.gixobj_signature.specs.Calls.{Answer, answer_view, failed, not_spawned}
+use Rattle.gixobj_signature.specs.declared.signature.Call.{Call}
+use Rattle.gixobj_signature.specs.declared.signature.Output.{Output}
+use Rattle.gixobj_signature.specs.declared.signature.RunError.{RunError}
 
 -- a program wasn't started, without a text
 abbrev pub IsNotStarted : Answer → Type 0

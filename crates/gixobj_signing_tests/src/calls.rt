@@ -2,9 +2,9 @@
 
 use crate::played::Played;
 use bstr::BString;
-use gixobj_actors::date::Time;
-use gixobj_ids::OutOfMemory;
-use gixobj_runner::signature::{Call, Output, RunError, Word};
+use gixobj_actor::date::Time;
+use gixobj_hash::OutOfMemory;
+use gixobj_signature::signature::{Call, Output, RunError, Word};
 use std::alloc::Global;
 
 /// The program of most calls.

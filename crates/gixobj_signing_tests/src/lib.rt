@@ -1,4 +1,4 @@
-//! Tests of `gixobj_runner` and `gixobj_verifying`, and of commits and tags that are signed.
+//! Tests of `gixobj_signature`, and of commits and tags that are signed.
 #![tactic(auto)]
 
 #[cfg(test)]

@@ -4,10 +4,10 @@ use crate::calls::{Step, Told, environment_of, runner_of, text};
 use crate::played::Played;
 use crate::signing::name_of;
 use gixobj_fields::encode;
-use gixobj_ids::hash::Kind;
-use gixobj_ids::{OutOfMemory, decode};
-use gixobj_runner::signature::sign::{Error, Options};
-use gixobj_signing::signature::Format;
+use gixobj_hash::hash::Kind;
+use gixobj_hash::{OutOfMemory, decode};
+use gixobj_signature::signature::sign::{Error, Options};
+use gixobj_text::signature::Format;
 use std::alloc::Global;
 
 /// A row of an object that is to be signed.

@@ -1,7 +1,7 @@
 //! A runner without programs, for tests.
 
 use bstr::BString;
-use gixobj_runner::signature::{Call, Output, RunError, Runner};
+use gixobj_signature::signature::{Call, Output, RunError, Runner};
 use std::alloc::Global;
 
 /// A runner that gives the answers of a list in order, each to the call that stands beside it. It starts no program for

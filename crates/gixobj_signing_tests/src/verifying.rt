@@ -4,11 +4,11 @@ use crate::calls::{
     PROGRAM, Step, Told, WHY, environment_of, runner_of, text, text_if_some, texts_of, time,
 };
 use bstr::{BStr, BString};
-use gixobj_ids::OutOfMemory;
-use gixobj_signing::signature::Format;
-use gixobj_verifying::signature::SignedData;
-use gixobj_verifying::signature::verify::TrustLevel::{self, Fully, Marginal, Ultimate};
-use gixobj_verifying::signature::verify::{Error, Options, Outcome};
+use gixobj_hash::OutOfMemory;
+use gixobj_text::signature::Format;
+use gixobj_signature::signature::SignedData;
+use gixobj_signature::signature::verify::TrustLevel::{self, Fully, Marginal, Ultimate};
+use gixobj_signature::signature::verify::{Error, Options, Outcome};
 use std::alloc::{AllocError, Global};
 use std::test::Fail;
 

@@ -8,11 +8,11 @@ use Rattle.std.specs.declared.alloc.Global.{Global}
 use Rattle.std.specs.declared.vec.Vec.{Vec}
 use Rattle.gixobj_data.proofs.Keeping.{looked_up, put_in}
 use Rattle.gixobj_data.specs.Stores.{StoredObject, named}
-use Rattle.gixobj_ids.specs.Hash.{id_kind}
-use Rattle.gixobj_ids.specs.Hash.Order.{id_cmp}
-use Rattle.gixobj_ids.specs.declared.hash.kind.Kind.{Kind}
-use Rattle.gixobj_ids.specs.declared.hash.object_id.ObjectId.{ObjectId}
-use Rattle.gixobj_ids.specs.declared.kind.Kind.TheVariants.{Commit, Tree}
+use Rattle.gixobj_hash.specs.Hash.{id_kind}
+use Rattle.gixobj_hash.specs.Hash.Order.{id_cmp}
+use Rattle.gixobj_hash.specs.declared.hash.kind.Kind.{Kind}
+use Rattle.gixobj_hash.specs.declared.hash.object_id.ObjectId.{ObjectId}
+use Rattle.gixobj_hash.specs.declared.kind.Kind.TheVariants.{Commit, Tree}
 use Rattle.gixobj_keeping.specs.Keeping.{commit_object, tree_object, with_commit, with_tree}
 use Rattle.gixobj_trees.specs.Entries.{EntryView}
 use Rattle.gixobj_trees.specs.TreeText.{tree_text}

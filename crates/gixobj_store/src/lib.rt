@@ -5,15 +5,15 @@ ghost use Rattle.std.specs.Prelude.{◌≡◌, ◌⊎◌, IfErr, IfOk, IsOk, IsS
 ghost use Rattle.std.specs.FinMap as map;
 ghost use Rattle.gixobj_data.specs.Stores.{IsFound, IsHeaderFound, named};
 ghost use Rattle.gixobj_data.specs.declared.find.Error.TheVariants as refusal;
-ghost use Rattle.gixobj_ids.specs.Hash.{id_of};
-ghost use Rattle.gixobj_ids.specs.Hash.Borrowed.{borrowed_id};
+ghost use Rattle.gixobj_hash.specs.Hash.{id_of};
+ghost use Rattle.gixobj_hash.specs.Hash.Borrowed.{borrowed_id};
 ghost use Rattle.gixobj_store.specs.Memory.{IsForAValue, memory_objects};
 
 use bstr::BString;
 use gixobj_data::{Data, Exists, Find, FindHeader, Store, find};
 use gixobj_fields::{WriteTo, encode};
-use gixobj_ids::hash::{ObjectId, oid};
-use gixobj_ids::{Header, Kind, OutOfMemory, compute_hash, hash};
+use gixobj_hash::hash::{ObjectId, oid};
+use gixobj_hash::{Header, Kind, OutOfMemory, compute_hash, hash};
 use gixobj_keeping::{Keep, KeepCommit, KeepError};
 use gixobj_trees::Tree;
 use std::alloc::Global;

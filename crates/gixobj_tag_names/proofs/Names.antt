@@ -14,9 +14,9 @@ use Rattle.gixobj_fields.specs.declared.encode.RefNameFault.TheVariants as fault
 use Rattle.gixobj_tag_names.specs.NameRule.{BeginsWith, EndsWith, HasFault, Holds, IsFirstFault, IsForbidden, IsTagName, RefusesName, faults}
 use Rattle.gixobj_tag_names.specs.declared.name.Error.{Error}
 use Rattle.gixobj_tag_names.specs.declared.name.Error.TheVariants.{InvalidRefName, StartsWithDash}
-use Rattle.gixobj_texts.proofs.Splits.{free_by_test}
-use Rattle.gixobj_texts.specs.Bytes.{newline, slash}
-use Rattle.gixobj_texts.specs.Parse.{IsFree}
+use Rattle.gixobj_hash.proofs.Splits.{free_by_test}
+use Rattle.gixobj_hash.specs.Bytes.{newline, slash}
+use Rattle.gixobj_hash.specs.Texts.{IsFree}
 
 -- ---- searches
 

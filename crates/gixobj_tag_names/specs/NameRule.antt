@@ -7,8 +7,8 @@ use Rattle.gixobj_fields.specs.declared.encode.RefNameFault.{RefNameFault}
 use Rattle.gixobj_fields.specs.declared.encode.RefNameFault.TheVariants as fault
 use Rattle.gixobj_tag_names.specs.declared.name.Error.{Error}
 use Rattle.gixobj_tag_names.specs.declared.name.Error.TheVariants.{InvalidRefName, StartsWithDash}
-use Rattle.gixobj_texts.specs.Bytes.{slash}
-use Rattle.gixobj_texts.specs.Parse.{IsFree}
+use Rattle.gixobj_hash.specs.Bytes.{slash}
+use Rattle.gixobj_hash.specs.Texts.{IsFree}
 
 -- ---- texts in a text
 

@@ -1,18 +1,18 @@
 -- The two readers of tags read one language.
 use Rattle.std.proofs.Common.{◌≡◌, ◌≢◌, ℕ, List, [], ◌∷◌, ◌++◌, Option, Some, None, ap, refl, subst, sym}
 use Rattle.std.specs.Prelude.{codes}
-use Rattle.gixobj_actors.specs.Actor.{IsActorLine}
+use Rattle.gixobj_actor.specs.Actor.{IsActorLine}
 use Rattle.gixobj_fields.proofs.HeaderFields.{of_an_id}
 use Rattle.gixobj_fields.specs.HeaderReading.{HasId}
 use Rattle.gixobj_fields.specs.HeaderText.{HasField}
 use Rattle.gixobj_fields.specs.Runs.{complete, tells_end, tells_piece}
-use Rattle.gixobj_ids.proofs.HexIds.{spelled}
-use Rattle.gixobj_ids.specs.Hash.{Spells}
-use Rattle.gixobj_ids.specs.Hash.Hex.{spelled_id}
-use Rattle.gixobj_ids.specs.Kind.{kind_word}
-use Rattle.gixobj_ids.specs.declared.hash.kind.Kind as hash
-use Rattle.gixobj_ids.specs.declared.hash.object_id.ObjectId.{ObjectId}
-use Rattle.gixobj_ids.specs.declared.kind.Kind.{Kind}
+use Rattle.gixobj_hash.proofs.HexIds.{spelled}
+use Rattle.gixobj_hash.specs.Hash.{Spells}
+use Rattle.gixobj_hash.specs.Hash.Hex.{spelled_id}
+use Rattle.gixobj_hash.specs.Kind.{kind_word}
+use Rattle.gixobj_hash.specs.declared.hash.kind.Kind as hash
+use Rattle.gixobj_hash.specs.declared.hash.object_id.ObjectId.{ObjectId}
+use Rattle.gixobj_hash.specs.declared.kind.Kind.{Kind}
 use Rattle.gixobj_tags.proofs.Bodies.{one_body}
 use Rattle.gixobj_tags.proofs.WholeTags.{Reads, put_together, take_apart}
 use Rattle.gixobj_tags.specs.LineReading.{HasName, HasTagger}

@@ -5,9 +5,9 @@ use Rattle.gixobj_fields.proofs.Readers as readers
 use Rattle.gixobj_fields.proofs.Runs as runs
 use Rattle.gixobj_fields.specs.Readers.{FindsFirst, FindsNone, LacksAll}
 use Rattle.gixobj_fields.specs.Runs.{Ending, complete}
-use Rattle.gixobj_ids.specs.declared.decode.Error.{Error}
-use Rattle.gixobj_ids.specs.declared.decode.Error.TheVariants.{Malformed, OutOfMemory}
-use Rattle.gixobj_ids.specs.declared.hash.kind.Kind.{Kind}
+use Rattle.gixobj_hash.specs.declared.decode.Error.{Error}
+use Rattle.gixobj_hash.specs.declared.decode.Error.TheVariants.{Malformed, OutOfMemory}
+use Rattle.gixobj_hash.specs.declared.hash.kind.Kind.{Kind}
 use Rattle.gixobj_tag_tokens.proofs.Tokens.{no_longer, no_token_of_nothing, one_token, text_of_token}
 use Rattle.gixobj_tag_tokens.specs.TagTokens.{HasToken, IsTokenText, TokenView, token_view}
 use Rattle.gixobj_tag_tokens.specs.TokenGiving.{AreTokenTexts, GivesToken, IsTaggerToken, Tells, WantsNothing, standing}
@@ -15,7 +15,7 @@ use Rattle.gixobj_tag_tokens.specs.declared.ref_iter.State.{State}
 use Rattle.gixobj_tag_tokens.specs.declared.ref_iter.TagRefIter.{TagRefIter}
 use Rattle.gixobj_tag_tokens.specs.declared.ref_iter.Token.{Token}
 use Rattle.gixobj_tag_tokens.specs.declared.ref_iter.Token.TheVariants as token
-use Rattle.gixobj_actors.specs.declared.actor.SignatureRef.{SignatureRef}
+use Rattle.gixobj_actor.specs.declared.actor.SignatureRef.{SignatureRef}
 
 pub one_run : (kind : Kind) (before : State) (input : List ℕ) (a b : List TokenView) (e f : Ending) → Tells kind before input a e → Tells kind before input b f → (a ≡ b) × (e ≡ f)
 one_run kind = runs.one_run (HasToken kind) (one_token kind) (no_token_of_nothing kind)

@@ -4,19 +4,19 @@ use Rattle.std.proofs.lemmas.List.{append-nil}
 use Rattle.std.specs.Prelude.{codes}
 use Rattle.bstr.specs.BStr.{bstr_bytes}
 use Rattle.bstr.specs.declared.bstr.BStr.{BStr}
-use Rattle.gixobj_actors.proofs.ActorLines.{one_actor}
-use Rattle.gixobj_actors.specs.Actor.{IsActorLine}
-use Rattle.gixobj_actors.specs.declared.actor.SignatureRef.{SignatureRef}
+use Rattle.gixobj_actor.proofs.ActorLines.{one_actor}
+use Rattle.gixobj_actor.specs.Actor.{IsActorLine}
+use Rattle.gixobj_actor.specs.declared.actor.SignatureRef.{SignatureRef}
 use Rattle.gixobj_fields.proofs.HeaderFields.{field_alone, one_field}
 use Rattle.gixobj_fields.specs.HeaderReading.{HasId}
 use Rattle.gixobj_fields.specs.HeaderText.{HasField, field_text}
 use Rattle.gixobj_fields.specs.Runs.{HasNoPiece}
-use Rattle.gixobj_ids.proofs.Headers.{one_kind}
-use Rattle.gixobj_ids.proofs.HexIds.{one_id}
-use Rattle.gixobj_ids.specs.Hash.{Spells}
-use Rattle.gixobj_ids.specs.Kind.{kind_word}
-use Rattle.gixobj_ids.specs.declared.hash.kind.Kind as hash
-use Rattle.gixobj_ids.specs.declared.hash.object_id.ObjectId.{ObjectId}
+use Rattle.gixobj_hash.proofs.Headers.{one_kind}
+use Rattle.gixobj_hash.proofs.HexIds.{one_id}
+use Rattle.gixobj_hash.specs.Hash.{Spells}
+use Rattle.gixobj_hash.specs.Kind.{kind_word}
+use Rattle.gixobj_hash.specs.declared.hash.kind.Kind as hash
+use Rattle.gixobj_hash.specs.declared.hash.object_id.ObjectId.{ObjectId}
 use Rattle.gixobj_tags.proofs.Bodies.{one_body}
 use Rattle.gixobj_tags.proofs.Lines.{begins_field}
 use Rattle.gixobj_tags.specs.LineReading.{HasNoTagger, HasTagger}

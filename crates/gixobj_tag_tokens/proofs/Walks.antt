@@ -3,9 +3,9 @@ use Rattle.std.proofs.Common.{◌++◌, ◌∷◌, ◌∙◌, List, [], ℕ, Ok,
 use Rattle.gixobj_fields.proofs.Runs.{passes_one, tells_passed}
 use Rattle.gixobj_fields.specs.Readers.{Standing}
 use Rattle.gixobj_fields.specs.Runs.{HasNoPiece, broken, complete, tells_end, tells_error}
-use Rattle.gixobj_ids.specs.declared.decode.Error.{Error}
-use Rattle.gixobj_ids.specs.declared.decode.Error.TheVariants.{Malformed, OutOfMemory}
-use Rattle.gixobj_ids.specs.declared.hash.kind.Kind.{Kind}
+use Rattle.gixobj_hash.specs.declared.decode.Error.{Error}
+use Rattle.gixobj_hash.specs.declared.decode.Error.TheVariants.{Malformed, OutOfMemory}
+use Rattle.gixobj_hash.specs.declared.hash.kind.Kind.{Kind}
 use Rattle.gixobj_tag_tokens.specs.TagTokens.{HasToken, TokenView, token_view}
 use Rattle.gixobj_tag_tokens.specs.TokenGiving.{GivesToken, HasPassed, IsAtStart, Tells, standing}
 use Rattle.gixobj_tag_tokens.specs.declared.ref_iter.State.{State}

@@ -2,11 +2,11 @@ pub mod Readers
 pub mod TagExtracting
 pub mod TagTokens
 pub mod TokenGiving
-pub use Rattle.gixobj_actors.specs.Actor
+pub use Rattle.gixobj_actor.specs.Actor
 pub use Rattle.gixobj_fields.specs.HeaderReading
 pub use Rattle.gixobj_fields.specs.HeaderText
 pub use Rattle.gixobj_fields.specs.Runs
-pub use Rattle.gixobj_ids.specs.Hash
-pub use Rattle.gixobj_ids.specs.Kind
+pub use Rattle.gixobj_hash.specs.Hash
+pub use Rattle.gixobj_hash.specs.Kind
 pub use Rattle.gixobj_tags.specs.LineReading
 pub use Rattle.gixobj_tags.specs.TagText

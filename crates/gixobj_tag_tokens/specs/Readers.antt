@@ -1,8 +1,8 @@
 -- A tag and its tokens.
 use Rattle.std.specs.Prelude.{◌≡◌, ℕ, List, [], ◌∷◌, ◌++◌, Option, Some, None, ⊤}
-use Rattle.gixobj_actors.specs.Actor.{IsActorLine}
-use Rattle.gixobj_ids.specs.Hash.{Spells}
-use Rattle.gixobj_ids.specs.declared.hash.object_id.ObjectId.{ObjectId}
+use Rattle.gixobj_actor.specs.Actor.{IsActorLine}
+use Rattle.gixobj_hash.specs.Hash.{Spells}
+use Rattle.gixobj_hash.specs.declared.hash.object_id.ObjectId.{ObjectId}
 use Rattle.gixobj_tags.specs.TagText.{TagLines}
 use Rattle.gixobj_tag_tokens.specs.TagTokens.{TokenView, body_token, kind_token, name_token, no_tagger_token, tagger_token, target_token}
 

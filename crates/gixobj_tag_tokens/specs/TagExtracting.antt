@@ -1,11 +1,11 @@
 -- The signature of a tag, and what it signs: all bytes before it (gitformat-signature, "Tag signatures").
 use Rattle.std.specs.Prelude.{◌≡◌, ℕ, List, ◌++◌, length}
 use Rattle.bstr.specs.BStr.{bstr_bytes}
-use Rattle.gixobj_signing.specs.Markers.{IsMarkerPlace}
-use Rattle.gixobj_signing.specs.declared.signature.Format.{Format}
-use Rattle.gixobj_signing.specs.declared.signature.SignatureRef.{SignatureRef}
-use Rattle.gixobj_verifying.specs.SignedBytes.{signed_bytes}
-use Rattle.gixobj_verifying.specs.declared.signature.SignedData.{SignedData}
+use Rattle.gixobj_text.specs.Markers.{IsMarkerPlace}
+use Rattle.gixobj_text.specs.declared.signature.Format.{Format}
+use Rattle.gixobj_text.specs.declared.signature.SignatureRef.{SignatureRef}
+use Rattle.gixobj_signature.specs.SignedBytes.{signed_bytes}
+use Rattle.gixobj_signature.specs.declared.signature.signed_data.SignedData.{SignedData}
 
 -- the text's last marker at the start of a line begins this signature, and all bytes before it are these
 pub record HasSignature (text signature signed : List ℕ) (format : Format) : Type 0 where

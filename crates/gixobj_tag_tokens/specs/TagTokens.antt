@@ -1,21 +1,21 @@
 -- Tags told token by token.
 use Rattle.std.specs.Prelude.{◌≡◌, ◌≢◌, ℕ, List, [], Option, Some, None, codes}
 use Rattle.bstr.specs.BStr.{bstr_bytes}
-use Rattle.gixobj_actors.specs.Actor.{IsActorLine}
+use Rattle.gixobj_actor.specs.Actor.{IsActorLine}
 use Rattle.gixobj_fields.specs.HeaderReading.{HasId}
 use Rattle.gixobj_fields.specs.HeaderText.{HasField, LacksName}
-use Rattle.gixobj_ids.specs.Hash.{Spells}
-use Rattle.gixobj_ids.specs.Kind.{kind_word}
-use Rattle.gixobj_ids.specs.declared.hash.kind.Kind as hash
-use Rattle.gixobj_ids.specs.declared.hash.object_id.ObjectId.{ObjectId}
-use Rattle.gixobj_ids.specs.declared.kind.Kind.{Kind}
+use Rattle.gixobj_hash.specs.Hash.{Spells}
+use Rattle.gixobj_hash.specs.Kind.{kind_word}
+use Rattle.gixobj_hash.specs.declared.hash.kind.Kind as hash
+use Rattle.gixobj_hash.specs.declared.hash.object_id.ObjectId.{ObjectId}
+use Rattle.gixobj_hash.specs.declared.kind.Kind.{Kind}
 use Rattle.gixobj_tags.specs.LineReading.{HasName}
 use Rattle.gixobj_tags.specs.TagText.{IsBody}
 use Rattle.gixobj_tag_tokens.specs.declared.ref_iter.State.{State}
 use Rattle.gixobj_tag_tokens.specs.declared.ref_iter.State.TheVariants as state
 use Rattle.gixobj_tag_tokens.specs.declared.ref_iter.Token.{Token}
 use Rattle.gixobj_tag_tokens.specs.declared.ref_iter.Token.TheVariants as token
-use Rattle.gixobj_texts.specs.Optional.{bytes_if_some}
+use Rattle.gixobj_hash.specs.Optional.{bytes_if_some}
 
 -- a token, wherever it lies
 pub data TokenView : Type 0 where

@@ -3,15 +3,15 @@ use Rattle.std.specs.Prelude.{◌≡◌, ◌+◌, ℕ, List, Option, Some, None,
 use Rattle.std.specs.Iterator.{Count, at_most}
 use Rattle.std.specs.List.{AllZip, concat}
 use Rattle.bstr.specs.BStr.{bstr_bytes}
-use Rattle.gixobj_actors.specs.declared.actor.SignatureRef.{SignatureRef}
+use Rattle.gixobj_actor.specs.declared.actor.SignatureRef.{SignatureRef}
 use Rattle.gixobj_fields.specs.Readers as readers
 use Rattle.gixobj_fields.specs.Readers.{Gives, Standing}
 use Rattle.gixobj_fields.specs.Runs as runs
 use Rattle.gixobj_fields.specs.Runs.{Ending}
-use Rattle.gixobj_ids.specs.declared.decode.Error.{Error}
-use Rattle.gixobj_ids.specs.declared.decode.Error.TheVariants.{Malformed}
-use Rattle.gixobj_ids.specs.declared.hash.kind.Kind.{Kind}
-use Rattle.gixobj_ids.specs.declared.hash.object_id.ObjectId.{ObjectId}
+use Rattle.gixobj_hash.specs.declared.decode.Error.{Error}
+use Rattle.gixobj_hash.specs.declared.decode.Error.TheVariants.{Malformed}
+use Rattle.gixobj_hash.specs.declared.hash.kind.Kind.{Kind}
+use Rattle.gixobj_hash.specs.declared.hash.object_id.ObjectId.{ObjectId}
 use Rattle.gixobj_tag_tokens.specs.TagTokens.{HasToken, IsTokenText, TokenView, body_token, kind_token, name_token, no_tagger_token, tagger_token, target_token, token_view}
 use Rattle.gixobj_tag_tokens.specs.declared.ref_iter.State.{State}
 use Rattle.gixobj_tag_tokens.specs.declared.ref_iter.State.TheVariants as state

@@ -1,12 +1,12 @@
 //! Laws of the reader of tokens, and of both readers of tags. Each function does nothing: its contract is
 //! the law.
 ghost use Rattle.std.specs.Prelude.{◌≡◌, ◌++◌, ◌∷◌, [], ℕ, Err, List, None, Ok, Option, Result, Some};
-ghost use Rattle.gixobj_actors.specs.declared.actor.SignatureRef.{SignatureRef};
+ghost use Rattle.gixobj_actor.specs.declared.actor.SignatureRef.{SignatureRef};
 ghost use Rattle.gixobj_fields.specs.Runs.{Ending, broken, complete};
-ghost use Rattle.gixobj_ids.specs.Hash.{Spells};
-ghost use Rattle.gixobj_ids.specs.declared.decode.Error as decode;
-ghost use Rattle.gixobj_ids.specs.declared.hash.kind.Kind.{Kind};
-ghost use Rattle.gixobj_ids.specs.declared.hash.object_id.ObjectId.{ObjectId};
+ghost use Rattle.gixobj_hash.specs.Hash.{Spells};
+ghost use Rattle.gixobj_hash.specs.declared.decode.Error as decode;
+ghost use Rattle.gixobj_hash.specs.declared.hash.kind.Kind.{Kind};
+ghost use Rattle.gixobj_hash.specs.declared.hash.object_id.ObjectId.{ObjectId};
 ghost use Rattle.gixobj_tag_tokens.specs.Readers.{AreTokensOf, EndsBehindItsName, NameCame, TellsTagger};
 ghost use Rattle.gixobj_tag_tokens.specs.TagTokens.{HasToken, TokenView, token_view};
 ghost use Rattle.gixobj_tag_tokens.specs.TokenGiving.{AreTokenTexts, FindsTagger, GivesId, GivesToken, HasPassed, IsAtStart, LacksTagger, Tells, told_tagger};

@@ -1,8 +1,8 @@
 //! Tags told token by token.
 ghost use Rattle.std.specs.Prelude.{◌≡◌, ◌≢◌, [], IfErr, IfNone, IfOk, IfSome, MatchOption, None, Some};
 ghost use Rattle.gixobj_fields.specs.Runs.{Ending, HasNoPiece};
-ghost use Rattle.gixobj_ids.specs.Hash.Borrowed.{borrowed_id};
-ghost use Rattle.gixobj_ids.specs.declared.decode.Error.TheVariants.{Malformed};
+ghost use Rattle.gixobj_hash.specs.Hash.Borrowed.{borrowed_id};
+ghost use Rattle.gixobj_hash.specs.declared.decode.Error.TheVariants.{Malformed};
 ghost use Rattle.gixobj_tags.specs.LineViews.{IsParsed, line_if_some};
 ghost use Rattle.gixobj_tag_tokens.specs.Readers.{TellsTagger};
 ghost use Rattle.gixobj_tag_tokens.specs.TagTokens.{HasToken, token_view};
@@ -11,12 +11,12 @@ ghost use Rattle.gixobj_tag_tokens.specs.TokenGiving.{FindsTagger, GivesId, Give
 mod signature;
 
 use bstr::BStr;
-use gixobj_actors::actor::SignatureRef;
+use gixobj_actor::actor::SignatureRef;
 use gixobj_fields::parse::{header_id, header_kind};
-use gixobj_ids::decode::Error;
-use gixobj_ids::hash::{ObjectId, oid};
-use gixobj_ids::parse::id_of_hex;
-use gixobj_ids::{Kind, hash};
+use gixobj_hash::decode::Error;
+use gixobj_hash::hash::{ObjectId, oid};
+use gixobj_hash::parse::id_of_hex;
+use gixobj_hash::{Kind, hash};
 use gixobj_tags::tag::decode;
 use gixobj_tags::tag::decode::TaggerLine;
 

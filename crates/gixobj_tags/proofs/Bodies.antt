@@ -3,9 +3,9 @@ use Rattle.std.proofs.Common.{◌≡◌, ◌≢◌, ◌+◌, ◌-◌, ℕ, List,
 use Rattle.std.proofs.Math.Seq.{drop-append_seam, take-append_seam}
 use Rattle.std.proofs.lemmas.Bool.{true≢false}
 use Rattle.std.proofs.lemmas.List.{take_rest}
-use Rattle.gixobj_signing.proofs.MarkerPlaces.{not_both, one_marker_place}
-use Rattle.gixobj_signing.specs.Markers.{HasNoMarker, IsMarkerPlace, StartsLine}
-use Rattle.gixobj_signing.specs.declared.signature.Format.{Format}
+use Rattle.gixobj_text.proofs.MarkerPlaces.{not_both, one_marker_place}
+use Rattle.gixobj_text.specs.Markers.{HasNoMarker, IsMarkerPlace, StartsLine}
+use Rattle.gixobj_text.specs.declared.signature.Format.{Format}
 use Rattle.gixobj_tags.specs.TagText.{HasNoBody, IsBody, IsParted, are_newlines, behind_newline, newlines_alone, signed, signed_at_once, unsigned}
 
 -- ---- a text parted at its marker

@@ -1,7 +1,7 @@
 -- The lines of a tag, read in one way.
 use Rattle.std.proofs.Common.{◌≡◌, ℕ, List, [], ◌∷◌, ◌++◌, Option, Some, None, append_assoc, ap, refl, subst, sym, ◌∙◌}
 use Rattle.std.specs.Prelude.{codes}
-use Rattle.gixobj_actors.specs.Actor.{IsActorLine, IsNoActorLine}
+use Rattle.gixobj_actor.specs.Actor.{IsActorLine, IsNoActorLine}
 use Rattle.gixobj_fields.proofs.HeaderFields.{one_field}
 use Rattle.gixobj_fields.specs.HeaderText.{HasField, HasNoField, LacksName}
 use Rattle.gixobj_tags.specs.LineReading.{HasNoName, HasNoTagger, HasTagger}

@@ -1,18 +1,18 @@
 -- Tags that are signed, by what is signed of them.
 use Rattle.std.proofs.Common.{◌≡◌, ◌∙◌, ap, inl, inr, subst, sym, refl, IfErr, IfOk, List, [], ◌∷◌, ◌++◌, ℕ, Some, Result, Ok, Err}
 use Rattle.gixobj_fields.specs.Writing.{RefusesNothing}
-use Rattle.gixobj_runner.specs.Calls.{Answer, CallView}
-use Rattle.gixobj_runner.specs.Plans.{Begins, Carries, Goes, Plan, ask, done, no_more}
-use Rattle.gixobj_runner.specs.Signing.{options_view, sign_plan, signature, signer_refusal}
-use Rattle.gixobj_runner.specs.declared.signature.sign.Error.{Error}
-use Rattle.gixobj_runner.specs.declared.signature.sign.Options.{Options}
+use Rattle.gixobj_signature.specs.Calls.{Answer, CallView}
+use Rattle.gixobj_signature.specs.Plans.{Begins, Carries, Goes, Plan, ask, done, no_more}
+use Rattle.gixobj_signature.specs.Signing.{options_view, sign_plan, signature, signer_refusal}
+use Rattle.gixobj_signature.specs.declared.signature.sign.Error.{Error}
+use Rattle.gixobj_signature.specs.declared.signature.sign.Options.{Options}
 use Rattle.gixobj_tags.specs.TagOwned.{IsOwnedForm}
 use Rattle.gixobj_tags.specs.TagSigning.{GetsSignature, HasNoPayload, IsSigned, IsSignedCopy, RefusesSigning, RefusesSigningCopy, RefusesWriting, payload_of, signed_as, unsigned}
 use Rattle.gixobj_tags.specs.TagText.{TagLines}
 use Rattle.gixobj_tags.specs.TagViews.{owned_lines}
 use Rattle.gixobj_tags.specs.TagWriting.{RefusesOwned, tag_text}
 use Rattle.gixobj_tags.specs.declared.tag.Tag.{Tag}
-use Rattle.gixobj_texts.specs.Bytes.{newline}
+use Rattle.gixobj_hash.specs.Bytes.{newline}
 
 -- any plan may be left before its first call
 begins_at_once : {S R : Type 0} (runs : S → CallView → Answer → S → Type 0) (plan : Plan R) (s : S) → Begins runs plan s s

@@ -5,17 +5,17 @@ use Rattle.std.specs.Prelude.{codes}
 use Rattle.gixobj_fields.proofs.HeaderFields.{digits_are_one_line, first_bytes, one_field}
 use Rattle.gixobj_fields.specs.HeaderReading.{HasId, HasNoId, HasNoKind}
 use Rattle.gixobj_fields.specs.HeaderText.{HasField, LacksName, field_text}
-use Rattle.gixobj_ids.proofs.Headers.{one_kind}
-use Rattle.gixobj_ids.specs.Kind.{kind_word}
-use Rattle.gixobj_ids.specs.declared.hash.kind.Kind as hash
-use Rattle.gixobj_ids.specs.declared.kind.Kind.{Kind}
-use Rattle.gixobj_ids.specs.declared.kind.Kind.TheVariants as object
+use Rattle.gixobj_hash.proofs.Headers.{one_kind}
+use Rattle.gixobj_hash.specs.Kind.{kind_word}
+use Rattle.gixobj_hash.specs.declared.hash.kind.Kind as hash
+use Rattle.gixobj_hash.specs.declared.kind.Kind.{Kind}
+use Rattle.gixobj_hash.specs.declared.kind.Kind.TheVariants as object
 use Rattle.gixobj_tags.proofs.Bodies.{one_body}
 use Rattle.gixobj_tags.proofs.Lines.{one_tagger}
 use Rattle.gixobj_tags.specs.LineReading.{HasName, HasNoName, HasNoTagger, HasTagger}
 use Rattle.gixobj_tags.specs.TagText.{HasNoBody, IsBody, IsNoTagText, IsTagText, IsTaggerLine, TagLines, are_newlines, behind_newline, newlines_alone, tagger_text}
-use Rattle.gixobj_texts.proofs.Splits.{free_by_test}
-use Rattle.gixobj_texts.specs.Parse.{IsFree}
+use Rattle.gixobj_hash.proofs.Splits.{free_by_test}
+use Rattle.gixobj_hash.specs.Texts.{IsFree}
 
 -- the lines of a tag as they are read one after the other, and its body
 pub record Reads (kind : hash.Kind) (text : List ℕ) (tag : TagLines) : Type 0 where

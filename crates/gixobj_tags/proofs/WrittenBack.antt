@@ -3,15 +3,15 @@ use Rattle.std.proofs.Common.{◌≡◌, ◌≢◌, ◌⊎◌, ℕ, List, ◌∷
 use Rattle.std.proofs.lemmas.Bool.{true≢false}
 use Rattle.std.proofs.lemmas.List.{append-nil}
 use Rattle.bstr.specs.Owned.{bstring_bytes}
-use Rattle.gixobj_actors.proofs.OwnedActors.{canonical, unwritable}
-use Rattle.gixobj_actors.specs.declared.actor.Signature.{Signature}
+use Rattle.gixobj_actor.proofs.OwnedActors.{canonical, unwritable}
+use Rattle.gixobj_actor.specs.declared.actor.Signature.{Signature}
 use Rattle.gixobj_fields.specs.Streams.{SinkView}
 use Rattle.gixobj_fields.specs.Writing.{Refused, RefusesNothing, SaysWhy, bad_name, empty_header, header_with_newline, illegal_actor, name_with_dash, name_with_zero_byte}
 use Rattle.gixobj_fields.specs.declared.encode.Error.{Error}
 use Rattle.gixobj_fields.specs.declared.encode.Error.TheVariants as encode
 use Rattle.gixobj_fields.specs.declared.encode.RefNameFault.{RefNameFault}
-use Rattle.gixobj_ids.proofs.HexCase.{hex_in_lower_case}
-use Rattle.gixobj_ids.specs.declared.hash.kind.Kind.{Kind}
+use Rattle.gixobj_hash.proofs.HexCase.{hex_in_lower_case}
+use Rattle.gixobj_hash.specs.declared.hash.kind.Kind.{Kind}
 use Rattle.gixobj_tag_names.specs.NameRule.{BeginsWithDash, HasNoFault, IsFirstFault, IsTagName}
 use Rattle.gixobj_tags.specs.Rewriting.{AreOwnParts, HasUnwritableTagger, IsCanonicalTagger, KeepsBody, RefusesOwnForm, canonical_tagger, no_tagger}
 use Rattle.gixobj_tags.specs.TagOwned.{IsOwnedForm, IsOwnedTagger}

@@ -2,8 +2,8 @@
 use Rattle.std.specs.Prelude.{ℕ, List, Option, Some, None, ⊤}
 use Rattle.bstr.specs.BStr.{bstr_bytes}
 use Rattle.bstr.specs.declared.bstr.BStr.{BStr}
-use Rattle.gixobj_actors.specs.Actor.{IsActorLine}
-use Rattle.gixobj_actors.specs.declared.actor.SignatureRef.{SignatureRef}
+use Rattle.gixobj_actor.specs.Actor.{IsActorLine}
+use Rattle.gixobj_actor.specs.declared.actor.SignatureRef.{SignatureRef}
 
 abbrev pub line_if_some : Option (BStr × SignatureRef) → Option (List ℕ)
 line_if_some None = None

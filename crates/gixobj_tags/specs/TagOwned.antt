@@ -2,15 +2,15 @@
 use Rattle.std.specs.Prelude.{◌≡◌, ℕ, List, Option, Some, None, ⊤}
 use Rattle.bstr.specs.BStr.{bstr_bytes}
 use Rattle.bstr.specs.Owned.{bstring_bytes}
-use Rattle.gixobj_actors.specs.Actor.{IsActor, IsNoActor, IsOwnedActor, IsTrimmedActor, NamesActor}
-use Rattle.gixobj_actors.specs.declared.actor.Signature.{Signature}
-use Rattle.gixobj_actors.specs.declared.actor.SignatureRef.{SignatureRef}
-use Rattle.gixobj_ids.specs.Hash.{Spells}
-use Rattle.gixobj_ids.specs.declared.decode.Error.{Error}
-use Rattle.gixobj_ids.specs.declared.decode.Error.TheVariants.{Malformed, OutOfMemory}
+use Rattle.gixobj_actor.specs.Actor.{IsActor, IsNoActor, IsOwnedActor, IsTrimmedActor, NamesActor}
+use Rattle.gixobj_actor.specs.declared.actor.Signature.{Signature}
+use Rattle.gixobj_actor.specs.declared.actor.SignatureRef.{SignatureRef}
+use Rattle.gixobj_hash.specs.Hash.{Spells}
+use Rattle.gixobj_hash.specs.declared.decode.Error.{Error}
+use Rattle.gixobj_hash.specs.declared.decode.Error.TheVariants.{Malformed, OutOfMemory}
 use Rattle.gixobj_tags.specs.TagText.{TagLines}
 use Rattle.gixobj_tags.specs.declared.tag.Tag.{Tag}
-use Rattle.gixobj_texts.specs.Optional.{owned_bytes_if_some}
+use Rattle.gixobj_hash.specs.Optional.{owned_bytes_if_some}
 
 -- the tagger of the line, trimmed, or none without a line
 abbrev pub IsTrimmedTagger : Option (List ℕ) → Option SignatureRef → Type 0

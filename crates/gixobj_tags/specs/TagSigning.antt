@@ -3,19 +3,19 @@ use Rattle.std.specs.Prelude.{◌≡◌, ◌⊎◌, ℕ, List, [], ◌∷◌, �
 use Rattle.gixobj_fields.specs.Streams.{SinkView}
 use Rattle.gixobj_fields.specs.Writing.{RefusesNothing, SaysWhy}
 use Rattle.gixobj_fields.specs.declared.encode.Error as encode
-use Rattle.gixobj_ids.specs.declared.decode.Error as decode
-use Rattle.gixobj_runner.specs.Calls.{Answer, CallView}
-use Rattle.gixobj_runner.specs.Plans.{Carries, Goes}
-use Rattle.gixobj_runner.specs.Signing.{options_view, sign_plan, signature, signer_refusal}
-use Rattle.gixobj_runner.specs.declared.signature.sign.Error.{Error}
-use Rattle.gixobj_runner.specs.declared.signature.sign.Error.TheVariants as sign
-use Rattle.gixobj_runner.specs.declared.signature.sign.Options.{Options}
+use Rattle.gixobj_hash.specs.declared.decode.Error as decode
+use Rattle.gixobj_signature.specs.Calls.{Answer, CallView}
+use Rattle.gixobj_signature.specs.Plans.{Carries, Goes}
+use Rattle.gixobj_signature.specs.Signing.{options_view, sign_plan, signature, signer_refusal}
+use Rattle.gixobj_signature.specs.declared.signature.sign.Error.{Error}
+use Rattle.gixobj_signature.specs.declared.signature.sign.Error.TheVariants as sign
+use Rattle.gixobj_signature.specs.declared.signature.sign.Options.{Options}
 use Rattle.gixobj_tags.specs.TagOwned.{IsOwnedForm, RefusesOwning}
 use Rattle.gixobj_tags.specs.TagText.{TagLines}
 use Rattle.gixobj_tags.specs.TagViews.{owned_lines}
 use Rattle.gixobj_tags.specs.TagWriting.{RefusesOwned, tag_text}
 use Rattle.gixobj_tags.specs.declared.tag.Tag.{Tag}
-use Rattle.gixobj_texts.specs.Bytes.{newline}
+use Rattle.gixobj_hash.specs.Bytes.{newline}
 
 -- the tag without its signature
 abbrev pub unsigned : Tag → Tag

@@ -1,16 +1,16 @@
 -- The text of a tag (gitdatamodel, "tag objects"; gitformat-signature, "Tag signatures").
 use Rattle.std.specs.Prelude.{◌≡◌, ◌≢◌, ◌+◌, ◌==◌, ℕ, Bool, List, [], ◌∷◌, ◌++◌, IsFalse, IsTrue, Option, Some, None, codes, length, ⊤}
 use Rattle.std.specs.List.{list_all}
-use Rattle.gixobj_actors.specs.Actor.{BeginsWithActor}
+use Rattle.gixobj_actor.specs.Actor.{BeginsWithActor}
 use Rattle.gixobj_fields.specs.HeaderText.{field_text}
-use Rattle.gixobj_ids.specs.Hash.Hex.{IsHexOf}
-use Rattle.gixobj_ids.specs.Kind.{kind_word}
-use Rattle.gixobj_ids.specs.declared.hash.kind.Kind as hash
-use Rattle.gixobj_ids.specs.declared.kind.Kind.{Kind}
-use Rattle.gixobj_signing.specs.Markers.{HasNoMarker, IsMarkerPlace}
-use Rattle.gixobj_signing.specs.declared.signature.Format.{Format}
-use Rattle.gixobj_texts.specs.Bytes.{newline}
-use Rattle.gixobj_texts.specs.Parse.{IsFree}
+use Rattle.gixobj_hash.specs.Hash.Hex.{IsHexOf}
+use Rattle.gixobj_hash.specs.Kind.{kind_word}
+use Rattle.gixobj_hash.specs.declared.hash.kind.Kind as hash
+use Rattle.gixobj_hash.specs.declared.kind.Kind.{Kind}
+use Rattle.gixobj_text.specs.Markers.{HasNoMarker, IsMarkerPlace}
+use Rattle.gixobj_text.specs.declared.signature.Format.{Format}
+use Rattle.gixobj_hash.specs.Bytes.{newline}
+use Rattle.gixobj_hash.specs.Texts.{IsFree}
 
 -- what a tag's text holds: the hex text of an id, a kind, a name, the line of a tagger, a message, a signature
 pub record TagLines : Type 0 where

@@ -2,13 +2,13 @@
 use Rattle.std.specs.Prelude.{ℕ, List, Option, Some, None}
 use Rattle.bstr.specs.BStr.{bstr_bytes}
 use Rattle.bstr.specs.Owned.{bstring_bytes}
-use Rattle.gixobj_actors.specs.ActorWriting.{owned_text}
-use Rattle.gixobj_actors.specs.declared.actor.Signature.{Signature}
-use Rattle.gixobj_ids.specs.Hash.{hex_text}
+use Rattle.gixobj_actor.specs.ActorWriting.{owned_text}
+use Rattle.gixobj_actor.specs.declared.actor.Signature.{Signature}
+use Rattle.gixobj_hash.specs.Hash.{hex_text}
 use Rattle.gixobj_tags.specs.TagText.{TagLines}
 use Rattle.gixobj_tags.specs.declared.tag.Tag.{Tag}
 use Rattle.gixobj_tags.specs.declared.tag.TagRef.{TagRef}
-use Rattle.gixobj_texts.specs.Optional.{bytes_if_some, owned_bytes_if_some}
+use Rattle.gixobj_hash.specs.Optional.{bytes_if_some, owned_bytes_if_some}
 
 -- what a borrowed tag holds
 abbrev pub tag_lines : TagRef → TagLines

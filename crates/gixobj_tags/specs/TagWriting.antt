@@ -1,7 +1,7 @@
 -- Tags as they are written, and what is refused (gitdatamodel, "tag objects"; git-check-ref-format, "DESCRIPTION").
 use Rattle.std.specs.Prelude.{◌≡◌, ◌⊎◌, ℕ, List, [], ◌∷◌, ◌++◌, Option, Some, None, codes, if◌then◌else◌}
-use Rattle.gixobj_actors.specs.ActorWriting.{RefusesSignature}
-use Rattle.gixobj_actors.specs.declared.actor.Signature.{Signature}
+use Rattle.gixobj_actor.specs.ActorWriting.{RefusesSignature}
+use Rattle.gixobj_actor.specs.declared.actor.Signature.{Signature}
 use Rattle.gixobj_fields.specs.HeaderText.{field_text}
 use Rattle.gixobj_fields.specs.Writing.{Refused, bad_name, name_with_dash}
 use Rattle.gixobj_fields.specs.declared.encode.RefNameFault.{RefNameFault}
@@ -9,7 +9,7 @@ use Rattle.gixobj_tag_names.specs.NameRule.{BeginsWithDash, HasNoFault, IsFirstF
 use Rattle.gixobj_tags.specs.TagText.{TagLines, are_newlines, lines_text, target_text}
 use Rattle.gixobj_tags.specs.TagViews.{owned_lines}
 use Rattle.gixobj_tags.specs.declared.tag.Tag.{Tag}
-use Rattle.gixobj_texts.specs.Bytes.{newline}
+use Rattle.gixobj_hash.specs.Bytes.{newline}
 
 -- ---- texts
 

@@ -4,7 +4,7 @@ ghost use Rattle.std.specs.Prelude.{◌≡◌, ◌<◌, ◌+◌, ◌++◌, ℕ, 
 ghost use Rattle.gixobj_fields.specs.Streams.{SinkView, list_view};
 ghost use Rattle.gixobj_fields.specs.Writing.{FailsAsSink, RefusesNothing, SaysWhy};
 ghost use Rattle.gixobj_fields.specs.declared.encode.Error as encode;
-ghost use Rattle.gixobj_ids.specs.declared.hash.kind.Kind.{Kind};
+ghost use Rattle.gixobj_hash.specs.declared.hash.kind.Kind.{Kind};
 ghost use Rattle.gixobj_tag_names.specs.NameRule.{IsTagName};
 ghost use Rattle.gixobj_tags.specs.Rewriting.{AreOwnParts, KeepsBody, RefusesOwnForm};
 ghost use Rattle.gixobj_tags.specs.TagOwned.{IsOwnedForm};

@@ -1,12 +1,12 @@
 //! Tags (gitdatamodel, "tag objects").
 ghost use Rattle.std.specs.Prelude.{◌≡◌, IfErr, IfOk};
 ghost use Rattle.bstr.specs.BStr.{bstr_bytes};
-ghost use Rattle.gixobj_ids.specs.Hash.{IsHexOfAnId, Spells};
-ghost use Rattle.gixobj_ids.specs.declared.decode.Error.TheVariants.{Malformed};
+ghost use Rattle.gixobj_hash.specs.Hash.{IsHexOfAnId, Spells};
+ghost use Rattle.gixobj_hash.specs.declared.decode.Error.TheVariants.{Malformed};
 ghost use Rattle.gixobj_tags.specs.Signed.{IsSignature};
 ghost use Rattle.gixobj_tags.specs.TagOwned.{IsBadTagger, IsOwnedForm, IsTrimmedTagger, RefusesOwning};
 ghost use Rattle.gixobj_tags.specs.TagViews.{owned_lines, tag_lines};
-ghost use Rattle.gixobj_texts.specs.Optional.{bytes_if_some};
+ghost use Rattle.gixobj_hash.specs.Optional.{bytes_if_some};
 
 pub mod decode;
 mod owned;
@@ -14,15 +14,15 @@ mod sign;
 pub mod write;
 
 use bstr::{BStr, BString};
-use gixobj_actors::actor::{Signature, SignatureRef};
-use gixobj_actors::parse::trimmed_actor;
-use gixobj_ids::Kind;
-use gixobj_ids::decode::Error;
-use gixobj_ids::hash::ObjectId;
-use gixobj_ids::parse::id_of_hex;
-use gixobj_signing::signature;
-use gixobj_signing::signature::Format;
-use gixobj_texts::optional::borrowed;
+use gixobj_actor::actor::{Signature, SignatureRef};
+use gixobj_actor::parse::trimmed_actor;
+use gixobj_hash::Kind;
+use gixobj_hash::decode::Error;
+use gixobj_hash::hash::ObjectId;
+use gixobj_hash::parse::id_of_hex;
+use gixobj_text::signature;
+use gixobj_text::signature::Format;
+use gixobj_hash::optional::borrowed;
 use std::alloc::Global;
 
 /// A tag, borrowed: its fields as they stand in its text.

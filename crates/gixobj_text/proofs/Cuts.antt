@@ -4,7 +4,7 @@ use Rattle.std.proofs.Common.{◌≡◌, ◌≢◌, ◌≤◌, ◌+◌, inl, inr
 use Rattle.std.specs.Prelude.{is_some, ◌&&◌, ◌==◌, ◌-◌, take}
 use Rattle.bstr.specs.BStr.{bstr_bytes}
 use Rattle.bstr.specs.declared.bstr.BStr.{BStr}
-use Rattle.gixobj_texts.specs.Optional.{bytes_if_some}
+use Rattle.gixobj_hash.specs.Optional.{bytes_if_some}
 use Rattle.std.specs.Prelude.{MatchOption}
 use Rattle.gixobj_text.specs.Breaks.{IsUncut, are_two, behind_break, behind_next, behind_return, behind_two, none_before, nowhere}
 use Rattle.gixobj_text.specs.Titles.{HasBreaks, IsBreak, IsCut, SplitsTitle}

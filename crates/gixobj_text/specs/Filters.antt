@@ -1,7 +1,7 @@
 -- Which trailers filters keep.
 use Rattle.std.specs.Prelude.{◌≡◌, ◌++◌, ℕ, Bool, List, All, IsFalse, IsTrue, Option, Some, None, Result, Ok, Err, codes, filter as filtered, ⊤}
 use Rattle.std.specs.Iterator.{Count}
-use Rattle.gixobj_ids.specs.declared.memory.OutOfMemory.{OutOfMemory}
+use Rattle.gixobj_hash.specs.declared.memory.OutOfMemory.{OutOfMemory}
 use Rattle.gixobj_text.specs.GivingTrailers.{GivesTrailer, count_left, trailer_view, trailers_left}
 use Rattle.gixobj_text.specs.TrailerNames.{is_named, names_author, names_part}
 use Rattle.gixobj_text.specs.Trailers.{TrailerView}

@@ -7,7 +7,7 @@ use Rattle.std.specs.declared.borrow.CowSlice.TheVariants as slice
 use Rattle.std.specs.Cow.{cow_slice_items}
 use Rattle.bstr.specs.BStr.{bstr_bytes}
 use Rattle.bstr.specs.Text.{lines_of}
-use Rattle.gixobj_ids.specs.declared.memory.OutOfMemory.{OutOfMemory}
+use Rattle.gixobj_hash.specs.declared.memory.OutOfMemory.{OutOfMemory}
 use Rattle.gixobj_text.specs.Trailers.{TrailerView, trailers_of_text}
 use Rattle.gixobj_text.specs.Unfolding.{first_is_folded}
 use Rattle.gixobj_text.specs.declared.commit.message.body.trailers.TrailerRef.{TrailerRef}

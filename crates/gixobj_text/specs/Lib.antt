@@ -7,6 +7,8 @@ pub mod Filters
 pub mod FirstLines
 pub mod GivingBlocks
 pub mod GivingTrailers
+pub mod LineWalk
+pub mod Markers
 pub mod MessageTrailers
 pub mod Scanned
 pub mod Scanning
@@ -17,5 +19,3 @@ pub mod TrailerBlocks
 pub mod TrailerNames
 pub mod Trailers
 pub mod Unfolding
-pub use Rattle.gixobj_signing.specs.Markers
-pub use Rattle.gixobj_signing.specs.declared as signing

@@ -2,7 +2,7 @@
 use Rattle.std.specs.Prelude.{ℕ, Bool, true, false, cond, List, [], ◌∷◌, ◌++◌}
 use Rattle.std.specs.Char.{is_whitespace}
 use Rattle.bstr.specs.Trim.{trim_end_by}
-use Rattle.gixobj_texts.specs.Bytes.{space}
+use Rattle.gixobj_hash.specs.Bytes.{space}
 use Rattle.gixobj_text.specs.Titles.{is_nothing, pieces_of, without_trailing}
 use Rattle.gixobj_text.specs.Trailers.{trimmed}
 

@@ -3,7 +3,7 @@ use Rattle.std.specs.Prelude.{◌≡◌, ◌⊎◌, ◌≤◌, ◌==◌, ◌||�
 use Rattle.std.specs.Char.{is_whitespace}
 use Rattle.std.specs.List.{prefix_len}
 use Rattle.bstr.specs.Owned.{joined}
-use Rattle.gixobj_texts.specs.Bytes.{newline, space, tab}
+use Rattle.gixobj_hash.specs.Bytes.{newline, space, tab}
 use Rattle.gixobj_text.specs.BodyLines.{carriage_return}
 use Rattle.gixobj_text.specs.Trailers.{trimmed}
 use Rattle.bstr.specs.Trim.{trim_end_by}

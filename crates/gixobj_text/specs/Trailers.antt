@@ -5,7 +5,7 @@ use Rattle.std.specs.List.{take_while}
 use Rattle.bstr.specs.Owned.{joined}
 use Rattle.bstr.specs.Text.{lines_of}
 use Rattle.bstr.specs.Trim.{trim_end_by, trim_start_by}
-use Rattle.gixobj_texts.specs.Bytes.{space}
+use Rattle.gixobj_hash.specs.Bytes.{space}
 use Rattle.gixobj_text.specs.BodyLines.{TrailerParts, is_folded, parts_of_line, text_of}
 
 -- a trailer

@@ -2,7 +2,7 @@
 use Rattle.std.specs.Prelude.{◌≡◌, ◌<◌, ◌++◌, ℕ, Bool, true, false, cond, Some, List, [], ◌∷◌, length, map}
 use Rattle.std.specs.List.{take_while}
 use Rattle.bstr.specs.Text.{lines_of}
-use Rattle.gixobj_texts.specs.Bytes.{space}
+use Rattle.gixobj_hash.specs.Bytes.{space}
 use Rattle.gixobj_text.specs.BodyLines.{is_folded, is_trailer_line, text_of}
 use Rattle.gixobj_text.specs.Trailers.{is_filled, trailers_of_text, trimmed, with_trailer}
 

@@ -1,5 +1,5 @@
 //! Messages of commits: titles, bodies, summaries, trailers (git-commit, "DISCUSSION"; git-interpret-trailers);
-//! and signatures of objects, which it hands on.
+//! and the formats of signatures, with the markers by which a text has one (gitformat-signature).
 #![tactic(auto)]
 
 pub mod commit;

@@ -3,15 +3,15 @@ use Rattle.std.proofs.Common.{◌≡◌, ℕ, List, [], ◌∷◌, ◌++◌, All
 use Rattle.std.proofs.lemmas.List.Elements.{All-append, All-cons, All-head, All-nil, All-tail}
 use Rattle.std.specs.List.{AllZip}
 use Rattle.std.specs.Prelude.{map, ⊤}
-use Rattle.gixobj_actors.specs.Actor.{IsActor}
+use Rattle.gixobj_actor.specs.Actor.{IsActor}
 use Rattle.gixobj_fields.proofs.Runs.{behind_first, behind_passed, one_here}
 use Rattle.gixobj_fields.specs.Readers.{Standing}
 use Rattle.gixobj_fields.specs.Runs.{Ending, HasNone, broken, complete, tells_end, tells_piece}
-use Rattle.gixobj_ids.specs.Hash.{Spells}
-use Rattle.gixobj_ids.specs.declared.decode.Error.{Error}
-use Rattle.gixobj_ids.specs.declared.decode.Error.TheVariants.{Malformed, OutOfMemory}
-use Rattle.gixobj_ids.specs.declared.hash.kind.Kind.{Kind}
-use Rattle.gixobj_ids.specs.declared.hash.object_id.ObjectId.{ObjectId}
+use Rattle.gixobj_hash.specs.Hash.{Spells}
+use Rattle.gixobj_hash.specs.declared.decode.Error.{Error}
+use Rattle.gixobj_hash.specs.declared.decode.Error.TheVariants.{Malformed, OutOfMemory}
+use Rattle.gixobj_hash.specs.declared.hash.kind.Kind.{Kind}
+use Rattle.gixobj_hash.specs.declared.hash.object_id.ObjectId.{ObjectId}
 use Rattle.gixobj_lines.proofs.WholeCommits.{message_last}
 use Rattle.gixobj_lines.specs.Commit.{CommitLines, IsCommitText, encoding_lines, lines_of}
 use Rattle.gixobj_lines.specs.Lines.{LineView, MayFold, author_line, committer_line, encoding_line, header_line, message_line, parent_line, tree_line}

@@ -3,7 +3,7 @@ use Rattle.std.proofs.Common.{◌≡◌, ℕ, List, [], ◌∷◌, ◌++◌, ref
 use Rattle.std.specs.List.{AllZip}
 use Rattle.gixobj_fields.specs.Runs as runs
 use Rattle.gixobj_fields.specs.Runs.{Passes, complete, tells_end, tells_piece}
-use Rattle.gixobj_ids.specs.declared.hash.kind.Kind.{Kind}
+use Rattle.gixobj_hash.specs.declared.hash.kind.Kind.{Kind}
 use Rattle.gixobj_lines.proofs.LinesTold.{text_told}
 use Rattle.gixobj_lines.proofs.WholeCommits.{ends_behind_message, message_last, whole}
 use Rattle.gixobj_lines.specs.Commit.{CommitLines, IsCommitText}

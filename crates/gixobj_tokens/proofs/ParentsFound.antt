@@ -6,10 +6,10 @@ use Rattle.std.proofs.lemmas.List.Concat.{flat_map-append}
 use Rattle.std.specs.Iterator.{AlwaysYields}
 use Rattle.std.specs.List.{AllZip, flat_map}
 use Rattle.std.specs.Prelude.{map, ⊤}
-use Rattle.gixobj_ids.specs.Hash.{Spells}
-use Rattle.gixobj_ids.specs.declared.decode.Error.TheVariants.{Malformed, OutOfMemory}
-use Rattle.gixobj_ids.specs.declared.hash.kind.Kind.{Kind}
-use Rattle.gixobj_ids.specs.declared.hash.object_id.ObjectId.{ObjectId}
+use Rattle.gixobj_hash.specs.Hash.{Spells}
+use Rattle.gixobj_hash.specs.declared.decode.Error.TheVariants.{Malformed, OutOfMemory}
+use Rattle.gixobj_hash.specs.declared.hash.kind.Kind.{Kind}
+use Rattle.gixobj_hash.specs.declared.hash.object_id.ObjectId.{ObjectId}
 use Rattle.gixobj_fields.proofs.Runs.{behind_first, behind_passed}
 use Rattle.gixobj_fields.specs.HeaderText.{Header}
 use Rattle.gixobj_fields.specs.Runs.{Ending, HasNone, complete, tells_end, tells_error, tells_piece}

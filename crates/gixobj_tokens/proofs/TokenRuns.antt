@@ -4,8 +4,8 @@ use Rattle.std.specs.Prelude.{Some, None, Result, Ok, Err}
 use Rattle.gixobj_fields.proofs.Readers as readers
 use Rattle.gixobj_fields.proofs.Runs as runs
 use Rattle.gixobj_fields.specs.Runs.{Ending, complete}
-use Rattle.gixobj_ids.specs.declared.decode.Error.{Error}
-use Rattle.gixobj_ids.specs.declared.hash.kind.Kind.{Kind}
+use Rattle.gixobj_hash.specs.declared.decode.Error.{Error}
+use Rattle.gixobj_hash.specs.declared.hash.kind.Kind.{Kind}
 use Rattle.gixobj_lines.proofs.OneLine.{line_shortens}
 use Rattle.gixobj_lines.specs.Lines.{WantsMemory}
 use Rattle.gixobj_lines.specs.declared.lines.State.{State}

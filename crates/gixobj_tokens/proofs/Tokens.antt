@@ -3,14 +3,14 @@ use Rattle.std.proofs.Common.{◌≡◌, ℕ, List, [], ◌∷◌, ◌++◌, ref
 use Rattle.std.proofs.lemmas.List.{append-nil}
 use Rattle.std.specs.List.{AllZip}
 use Rattle.std.specs.Prelude.{codes}
-use Rattle.gixobj_actors.proofs.ActorLines.{one_actor}
+use Rattle.gixobj_actor.proofs.ActorLines.{one_actor}
 use Rattle.gixobj_fields.proofs.HeaderFields.{field_alone, of_an_id}
 use Rattle.gixobj_fields.specs.HeaderText.{HasHeader, Header}
 use Rattle.gixobj_fields.specs.Runs.{complete, tells_end, tells_piece}
 use Rattle.gixobj_fields.specs.Runs as runs
-use Rattle.gixobj_ids.proofs.HexIds.{one_id, spelled}
-use Rattle.gixobj_ids.specs.Hash.Hex.{spelled_id}
-use Rattle.gixobj_ids.specs.declared.hash.kind.Kind.{Kind}
+use Rattle.gixobj_hash.proofs.HexIds.{one_id, spelled}
+use Rattle.gixobj_hash.specs.Hash.Hex.{spelled_id}
+use Rattle.gixobj_hash.specs.declared.hash.kind.Kind.{Kind}
 use Rattle.gixobj_lines.proofs.OneLine.{no_line_of_nothing, one_line}
 use Rattle.gixobj_lines.specs.Lines.{HasLine, LineView, author_comes, committer_comes, encoding_comes, first_header_comes, first_message_comes, header_comes, message_comes, parent_comes, tree_comes}
 use Rattle.gixobj_lines.specs.declared.lines.State.{State}

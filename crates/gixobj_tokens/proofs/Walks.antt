@@ -3,8 +3,8 @@ use Rattle.std.proofs.Common.{◌++◌, ◌∷◌, ◌∙◌, List, [], ℕ, Ok,
 use Rattle.gixobj_fields.proofs.Runs.{passes_one, tells_passed}
 use Rattle.gixobj_fields.specs.Readers.{Standing}
 use Rattle.gixobj_fields.specs.Runs.{HasNoPiece, broken, complete, tells_end, tells_error}
-use Rattle.gixobj_ids.specs.declared.decode.Error.TheVariants.{Malformed}
-use Rattle.gixobj_ids.specs.declared.hash.kind.Kind.{Kind}
+use Rattle.gixobj_hash.specs.declared.decode.Error.TheVariants.{Malformed}
+use Rattle.gixobj_hash.specs.declared.hash.kind.Kind.{Kind}
 use Rattle.gixobj_lines.specs.declared.lines.State.{State}
 use Rattle.gixobj_lines.specs.declared.lines.State.TheVariants as state
 use Rattle.gixobj_tokens.specs.CommitRuns.{Tells}

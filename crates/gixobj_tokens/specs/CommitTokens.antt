@@ -1,12 +1,12 @@
 -- Commits told token by token.
 use Rattle.std.specs.Prelude.{ℕ, List, []}
 use Rattle.bstr.specs.BStr.{bstr_bytes}
-use Rattle.gixobj_actors.specs.Actor.{IsActor}
+use Rattle.gixobj_actor.specs.Actor.{IsActor}
 use Rattle.gixobj_fields.specs.HeaderReading.{header_of}
 use Rattle.gixobj_fields.specs.HeaderText.{Header}
-use Rattle.gixobj_ids.specs.Hash.{Spells}
-use Rattle.gixobj_ids.specs.declared.hash.kind.Kind.{Kind}
-use Rattle.gixobj_ids.specs.declared.hash.object_id.ObjectId.{ObjectId}
+use Rattle.gixobj_hash.specs.Hash.{Spells}
+use Rattle.gixobj_hash.specs.declared.hash.kind.Kind.{Kind}
+use Rattle.gixobj_hash.specs.declared.hash.object_id.ObjectId.{ObjectId}
 use Rattle.gixobj_lines.specs.Lines.{HasLine, LineView, author_line, committer_line, encoding_line, header_line, message_line, parent_line, tree_line}
 use Rattle.gixobj_lines.specs.declared.lines.State.{State}
 use Rattle.gixobj_tokens.specs.declared.ref_iter.Token.{Token}

@@ -7,14 +7,14 @@ use Rattle.gixobj_extra_headers.specs.ExtraHeaders.{signature_field}
 use Rattle.gixobj_fields.specs.HeaderText.{Header}
 use Rattle.gixobj_fields.specs.Runs as runs
 use Rattle.gixobj_fields.specs.Runs.{PassesNone, broken, complete}
-use Rattle.gixobj_ids.specs.declared.decode.Error.{Error}
-use Rattle.gixobj_ids.specs.declared.decode.Error.TheVariants.{Malformed, OutOfMemory}
-use Rattle.gixobj_ids.specs.declared.hash.kind.Kind.{Kind}
+use Rattle.gixobj_hash.specs.declared.decode.Error.{Error}
+use Rattle.gixobj_hash.specs.declared.decode.Error.TheVariants.{Malformed, OutOfMemory}
+use Rattle.gixobj_hash.specs.declared.hash.kind.Kind.{Kind}
 use Rattle.gixobj_lines.specs.Lines.{HasLine, LineView, WantsMemory, header_line}
 use Rattle.gixobj_lines.specs.declared.lines.State.{State}
 use Rattle.gixobj_lines.specs.declared.lines.State.TheVariants as state
-use Rattle.gixobj_verifying.specs.SignedBytes.{signed_bytes}
-use Rattle.gixobj_verifying.specs.declared.signature.SignedData.{SignedData}
+use Rattle.gixobj_signature.specs.SignedBytes.{signed_bytes}
+use Rattle.gixobj_signature.specs.declared.signature.signed_data.SignedData.{SignedData}
 
 -- the line is a header of this name
 abbrev pub IsNamedLine : List ℕ → LineView → Type 0

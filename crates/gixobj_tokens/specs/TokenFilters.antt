@@ -2,8 +2,8 @@
 use Rattle.std.specs.Prelude.{◌≡◌, Option, Some, None}
 use Rattle.std.specs.Iterator.{Count}
 use Rattle.bstr.specs.BStr.{bstr_bytes}
-use Rattle.gixobj_actors.specs.declared.actor.SignatureRef.{SignatureRef}
-use Rattle.gixobj_ids.specs.declared.hash.object_id.ObjectId.{ObjectId}
+use Rattle.gixobj_actor.specs.declared.actor.SignatureRef.{SignatureRef}
+use Rattle.gixobj_hash.specs.declared.hash.object_id.ObjectId.{ObjectId}
 use Rattle.gixobj_tokens.specs.CommitTokens.{HasToken, TokenView, parent_token}
 use Rattle.gixobj_fields.specs.Readers as readers
 use Rattle.gixobj_lines.specs.Lines.{WantsMemory}

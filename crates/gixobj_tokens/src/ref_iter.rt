@@ -1,6 +1,6 @@
 //! Commits told token by token.
 ghost use Rattle.std.specs.Prelude.{◌≡◌, MatchOption, None, Some};
-ghost use Rattle.gixobj_ids.specs.Hash.Borrowed.{borrowed_id};
+ghost use Rattle.gixobj_hash.specs.Hash.Borrowed.{borrowed_id};
 ghost use Rattle.gixobj_lines.specs.Lines.{HasHex, IsParsed, line_view};
 ghost use Rattle.gixobj_tokens.specs.CommitTokens.{TellsLine, token_view};
 ghost use Rattle.gixobj_tokens.specs.TokenGiving.{BorrowsValue, GivesToken, IsAtStart, token_id, tokens_left};
@@ -12,10 +12,10 @@ mod signature;
 
 use bstr::BStr;
 pub use filters::{ParentIds, Signatures};
-use gixobj_actors::actor::SignatureRef;
-use gixobj_ids::decode::Error;
-use gixobj_ids::hash::{Kind, ObjectId, oid};
-use gixobj_ids::parse::id_of_hex;
+use gixobj_actor::actor::SignatureRef;
+use gixobj_hash::decode::Error;
+use gixobj_hash::hash::{Kind, ObjectId, oid};
+use gixobj_hash::parse::id_of_hex;
 use gixobj_lines::lines::{Line, State, read_line};
 use std::alloc::Global;
 use std::borrow::CowSlice;

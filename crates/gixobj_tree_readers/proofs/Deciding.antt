@@ -7,11 +7,11 @@ use Rattle.std.specs.Char.{digit_value}
 use Rattle.std.specs.Prelude.{get_or}
 use Rattle.std.specs.Str.Parse.{AllDigits}
 use Rattle.gixobj_fields.specs.Runs.{Ending, broken, complete, tells_end, tells_error, tells_piece}
-use Rattle.gixobj_ids.specs.Hash.{hash_len, id_bytes, id_from}
-use Rattle.gixobj_ids.specs.declared.hash.kind.Kind.{Kind}
-use Rattle.gixobj_ids.specs.declared.hash.kind.Kind.TheVariants as hash
-use Rattle.gixobj_texts.proofs.Splits.{free_of_cut, one_cut}
-use Rattle.gixobj_texts.specs.Parse.{IsFree, SplitsAt}
+use Rattle.gixobj_hash.specs.Hash.{hash_len, id_bytes, id_from}
+use Rattle.gixobj_hash.specs.declared.hash.kind.Kind.{Kind}
+use Rattle.gixobj_hash.specs.declared.hash.kind.Kind.TheVariants as hash
+use Rattle.gixobj_hash.proofs.Splits.{free_of_cut, one_cut}
+use Rattle.gixobj_hash.specs.Texts.{IsFree, SplitsAt}
 use Rattle.gixobj_trees.proofs.ModeTexts.{octal_free}
 use Rattle.gixobj_trees.specs.Entries.{EntryView, entry_of}
 use Rattle.gixobj_trees.specs.Mode.{BeginsWithMode, KeepsByteSix, mode_of_digits}

@@ -6,7 +6,7 @@ use Rattle.std.specs.Prelude.{⊤}
 use Rattle.gixobj_fields.proofs.Runs as runs
 use Rattle.gixobj_fields.proofs.Runs.{passes_one, tells_passed}
 use Rattle.gixobj_fields.specs.Runs.{Ending, HasNoPiece, Passes, broken, complete, tells_end, tells_error, tells_piece}
-use Rattle.gixobj_ids.specs.declared.hash.kind.Kind.{Kind}
+use Rattle.gixobj_hash.specs.declared.hash.kind.Kind.{Kind}
 use Rattle.gixobj_trees.specs.Entries.{EntryView}
 use Rattle.gixobj_tree_readers.proofs.OneEntry.{one_entry, shorter}
 use Rattle.gixobj_tree_readers.specs.TreeReading.{BeginsWithEntry, BeginsWithNoEntry, HasEntry, IsEntryText, IsNoTreeText, IsTreeText, TellsEntries}

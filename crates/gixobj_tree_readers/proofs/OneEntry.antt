@@ -3,13 +3,13 @@ use Rattle.std.proofs.Common.{◌≡◌, ◌≢◌, ◌<◌, ◌≤◌, ◌+◌,
 use Rattle.std.proofs.lemmas.List.{get_or_append_left}
 use Rattle.std.specs.Prelude.{get_or}
 use Rattle.gixobj_fields.specs.HeaderText.{EndsHeader}
-use Rattle.gixobj_ids.specs.Hash.{hash_len, id_bytes, id_kind}
-use Rattle.gixobj_ids.specs.declared.hash.kind.Kind.{Kind}
-use Rattle.gixobj_ids.specs.declared.hash.kind.Kind.TheVariants as hash
-use Rattle.gixobj_ids.specs.declared.hash.object_id.ObjectId.{ObjectId}
-use Rattle.gixobj_ids.specs.declared.hash.object_id.ObjectId.TheVariants as id
-use Rattle.gixobj_texts.proofs.Splits.{free_of_cut, one_cut}
-use Rattle.gixobj_texts.specs.Parse.{IsFree, SplitsAt}
+use Rattle.gixobj_hash.specs.Hash.{hash_len, id_bytes, id_kind}
+use Rattle.gixobj_hash.specs.declared.hash.kind.Kind.{Kind}
+use Rattle.gixobj_hash.specs.declared.hash.kind.Kind.TheVariants as hash
+use Rattle.gixobj_hash.specs.declared.hash.object_id.ObjectId.{ObjectId}
+use Rattle.gixobj_hash.specs.declared.hash.object_id.ObjectId.TheVariants as id
+use Rattle.gixobj_hash.proofs.Splits.{free_of_cut, one_cut}
+use Rattle.gixobj_hash.specs.Texts.{IsFree, SplitsAt}
 use Rattle.gixobj_trees.proofs.ModeTexts.{octal_free, one_ending}
 use Rattle.gixobj_trees.specs.Entries.{EntryView, entry_of}
 use Rattle.gixobj_trees.specs.Mode.{BeginsWithMode, EndsMode, KeepsByteSix, ReadsAsMode, mode_of_digits}

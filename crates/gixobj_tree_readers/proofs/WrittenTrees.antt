@@ -4,9 +4,9 @@ use Rattle.std.proofs.lemmas.Bool.Decides.{nat_tests}
 use Rattle.std.proofs.lemmas.List.Elements.{All-cons, All-head, All-nil, All-tail}
 use Rattle.std.specs.List.{AllZip, concat}
 use Rattle.gixobj_fields.specs.Writing.{RefusesNothing}
-use Rattle.gixobj_ids.specs.Hash.{id_bytes}
-use Rattle.gixobj_ids.specs.declared.hash.kind.Kind.{Kind}
-use Rattle.gixobj_texts.specs.Parse.{IsFree}
+use Rattle.gixobj_hash.specs.Hash.{id_bytes}
+use Rattle.gixobj_hash.specs.declared.hash.kind.Kind.{Kind}
+use Rattle.gixobj_hash.specs.Texts.{IsFree}
 use Rattle.gixobj_trees.proofs.ModesBack.{mode_reads_back}
 use Rattle.gixobj_trees.proofs.TreeWrites.{AreFree, none_refused, text_more}
 use Rattle.gixobj_trees.specs.Entries.{EntryView}

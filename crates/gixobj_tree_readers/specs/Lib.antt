@@ -4,7 +4,7 @@ pub mod TreeViews
 pub use Rattle.gixobj_fields.specs.Runs
 pub use Rattle.gixobj_fields.specs.Streams
 pub use Rattle.gixobj_fields.specs.Writing
-pub use Rattle.gixobj_ids.specs.Hash
+pub use Rattle.gixobj_hash.specs.Hash
 pub use Rattle.gixobj_trees.specs.Entries
 pub use Rattle.gixobj_trees.specs.EntryOrder
 pub use Rattle.gixobj_trees.specs.Mode

@@ -1,8 +1,8 @@
 -- Trees that are written as they were read, and read as they were written.
 use Rattle.std.specs.Prelude.{◌≡◌, ◌<◌, ◌+◌, ◌++◌, ◌^◌, ℕ, List}
 use Rattle.std.specs.List.{AllZip, concat}
-use Rattle.gixobj_ids.specs.declared.hash.kind.Kind.{Kind}
-use Rattle.gixobj_texts.specs.Parse.{IsFree}
+use Rattle.gixobj_hash.specs.declared.hash.kind.Kind.{Kind}
+use Rattle.gixobj_hash.specs.Texts.{IsFree}
 use Rattle.gixobj_trees.specs.Entries.{EntryView}
 use Rattle.gixobj_trees.specs.Mode.{mode_text, old_tree_type}
 use Rattle.gixobj_tree_readers.specs.TreeReading.{IsEntryText, IsIdOf}

@@ -1,7 +1,7 @@
 -- Borrowed trees as their readers see them, wherever they lie.
 use Rattle.std.specs.Prelude.{List, map}
 use Rattle.bstr.specs.BStr.{bstr_bytes}
-use Rattle.gixobj_ids.specs.Hash.Borrowed.{borrowed_id}
+use Rattle.gixobj_hash.specs.Hash.Borrowed.{borrowed_id}
 use Rattle.gixobj_trees.specs.Entries.{EntryView, entry_of}
 use Rattle.gixobj_trees.specs.Mode.{mode_bits}
 use Rattle.gixobj_tree_readers.specs.declared.tree.entry_ref.EntryRef.{EntryRef}

@@ -1,7 +1,7 @@
 //! Laws that tie the reader of trees to the writer. Each function does nothing: its contract is the law.
 ghost use Rattle.std.specs.Prelude.{◌≡◌, All, List, ℕ};
 ghost use Rattle.gixobj_fields.specs.Writing.{RefusesNothing};
-ghost use Rattle.gixobj_ids.specs.declared.hash.kind.Kind.{Kind};
+ghost use Rattle.gixobj_hash.specs.declared.hash.kind.Kind.{Kind};
 ghost use Rattle.gixobj_trees.specs.Entries.{EntryView};
 ghost use Rattle.gixobj_trees.specs.TreeText.{RefusesTree, tree_text};
 ghost use Rattle.gixobj_tree_readers.specs.TreeReading.{BeginsWithEntry, IsTreeText};

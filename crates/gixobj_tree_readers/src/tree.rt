@@ -1,8 +1,8 @@
 //! Trees, borrowed (gitdatamodel, "trees").
 ghost use Rattle.std.specs.Prelude.{◌≡◌, ◌≢◌, [], Contains, IfErr, IfOk, IfSome, MatchOption};
 ghost use Rattle.std.specs.declared.cmp.Ordering.TheVariants.{Equal};
-ghost use Rattle.gixobj_texts.specs.Bytes.{slash};
-ghost use Rattle.gixobj_texts.specs.Parse.{IsFree};
+ghost use Rattle.gixobj_hash.specs.Bytes.{slash};
+ghost use Rattle.gixobj_hash.specs.Texts.{IsFree};
 ghost use Rattle.gixobj_trees.specs.Entries.{IsWellFormed, entry_key, key_of, name_cmp};
 ghost use Rattle.gixobj_trees.specs.Mode.{is_tree_mode};
 ghost use Rattle.gixobj_trees.specs.WellFormed.{HasKey};

@@ -4,7 +4,7 @@ use Rattle.std.proofs.lemmas.List.Elements.{All-cons, All-head, All-nil, All-tai
 use Rattle.std.specs.Char.{digit_value}
 use Rattle.std.specs.Str.Parse.{AllDigits}
 use Rattle.gixobj_trees.specs.Mode.{EndsMode}
-use Rattle.gixobj_texts.specs.Parse.{IsFree}
+use Rattle.gixobj_hash.specs.Texts.{IsFree}
 
 octal_not_space : (byte : ℕ) → digit_value byte < 8 → byte ≢ 32
 octal_not_space byte digit space =

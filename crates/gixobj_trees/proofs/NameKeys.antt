@@ -7,7 +7,7 @@ use Rattle.std.specs.Cmp.Lexicographic.{slice_cmp}
 use Rattle.std.proofs.lemmas.Cmp.{ranked}
 use Rattle.std.proofs.Math.Nat.{min-zero, suc-min-suc, zero-min}
 use Rattle.std.proofs.lemmas.List.Elements.{All-head, All-tail}
-use Rattle.gixobj_texts.specs.Parse.{IsFree}
+use Rattle.gixobj_hash.specs.Texts.{IsFree}
 use Rattle.gixobj_trees.specs.Entries.{key_of, name_cmp, next_byte}
 
 pub then_assoc : (o p q : Ordering) → ordering_then (ordering_then o p) q ≡ ordering_then o (ordering_then p q)

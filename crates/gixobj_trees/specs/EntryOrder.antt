@@ -4,8 +4,8 @@ use Rattle.std.specs.Hash.{HashWrites, slice, u8, u16}
 use Rattle.std.specs.Cmp.Lexicographic.{pointwise, slice_cmp}
 use Rattle.std.specs.Ordering.{is_eq, nat_cmp, on, then_cmp}
 use Rattle.std.specs.declared.cmp.Ordering.{Ordering}
-use Rattle.gixobj_ids.specs.Hash.{id_bytes}
-use Rattle.gixobj_ids.specs.Hash.Order.{id_cmp}
+use Rattle.gixobj_hash.specs.Hash.{id_bytes}
+use Rattle.gixobj_hash.specs.Hash.Order.{id_cmp}
 use Rattle.gixobj_trees.specs.Entries.{EntryView, entry_key}
 
 -- by key; ties by mode, name and id

@@ -6,10 +6,10 @@ use Rattle.std.specs.Hash.{items_Alike}
 use Rattle.std.specs.Cmp.{unsigned_ties, IsEquivalence, first_so, second_so, IsTotalOrder, and_equiv, eq_by_cmp_equiv, nat_cmp_total, nat_eq_equiv, on_equiv, on_total, then_total, tied_then}
 use Rattle.std.specs.Cmp.Lexicographic.{lists_equiv, lists_ties, lists_total, bytes_decides, nat_list_eq_equiv, on_texts, pointwise, slice_cmp, texts_ties}
 use Rattle.std.specs.Ordering.{is_eq, nat_cmp, ordering_then}
-use Rattle.gixobj_ids.specs.Hash.{id_bytes}
-use Rattle.gixobj_ids.specs.Hash.Order.{id_cmp}
-use Rattle.gixobj_ids.specs.Hash.OrderLaws.{id_cmp_total}
-use Rattle.gixobj_ids.specs.declared.hash.object_id.ObjectId.{ObjectId}
+use Rattle.gixobj_hash.specs.Hash.{id_bytes}
+use Rattle.gixobj_hash.specs.Hash.Order.{id_cmp}
+use Rattle.gixobj_hash.specs.Hash.OrderLaws.{id_cmp_total}
+use Rattle.gixobj_hash.specs.declared.hash.object_id.ObjectId.{ObjectId}
 use Rattle.gixobj_trees.specs.Entries.{EntryView, entry_key}
 use Rattle.gixobj_trees.specs.EntryOrder.{entry_cmp, entry_feed, same_entry, same_tree, tree_cmp, tree_feed}
 

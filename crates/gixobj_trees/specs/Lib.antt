@@ -7,8 +7,8 @@ pub mod TreeText
 pub mod WellFormed
 pub use Rattle.gixobj_fields.specs.Streams
 pub use Rattle.gixobj_fields.specs.Writing
-pub use Rattle.gixobj_ids.specs.Decode
-pub use Rattle.gixobj_ids.specs.Encode
-pub use Rattle.gixobj_ids.specs.Hash
-pub use Rattle.gixobj_ids.specs.Kind
-pub use Rattle.gixobj_texts.specs.Parse
+pub use Rattle.gixobj_hash.specs.Decode
+pub use Rattle.gixobj_hash.specs.Encode
+pub use Rattle.gixobj_hash.specs.Hash
+pub use Rattle.gixobj_hash.specs.Kind
+pub use Rattle.gixobj_hash.specs.Texts

@@ -4,7 +4,7 @@ use Rattle.std.specs.Str.Parse.{AllDigits, digits_value}
 use Rattle.gixobj_trees.specs.declared.tree.entry_mode.EntryMode.{EntryMode}
 use Rattle.gixobj_trees.specs.declared.tree.entry_kind.EntryKind.{EntryKind}
 use Rattle.gixobj_trees.specs.declared.tree.entry_kind.EntryKind.TheVariants.{Tree, Blob, BlobExecutable, Link, Commit}
-use Rattle.gixobj_texts.specs.Bytes.{digit, space}
+use Rattle.gixobj_hash.specs.Bytes.{digit, space}
 
 -- the number that a mode is
 abbrev pub mode_bits : EntryMode → ℕ

@@ -2,11 +2,11 @@
 use Rattle.std.specs.Prelude.{◌≡◌, ℕ, List, [], ◌∷◌, ◌++◌, All, Contains}
 use Rattle.std.specs.List.{flat_map}
 use Rattle.gixobj_trees.specs.Entries.{EntryView}
-use Rattle.gixobj_ids.specs.Hash.{id_bytes}
+use Rattle.gixobj_hash.specs.Hash.{id_bytes}
 use Rattle.gixobj_trees.specs.Mode.{mode_text}
-use Rattle.gixobj_texts.specs.Parse.{IsFree}
+use Rattle.gixobj_hash.specs.Texts.{IsFree}
 use Rattle.gixobj_fields.specs.Writing.{Refused, name_with_zero_byte}
-use Rattle.gixobj_texts.specs.Bytes.{space}
+use Rattle.gixobj_hash.specs.Bytes.{space}
 
 -- the mode and a space
 abbrev pub before_name : EntryView → List ℕ

@@ -3,7 +3,7 @@ ghost use Rattle.std.specs.Prelude.{◌≡◌, IfOk};
 
 use gixobj_fields::streams::Sink;
 use gixobj_fields::{WriteTo, encode};
-use gixobj_ids::{Kind, OutOfMemory};
+use gixobj_hash::{Kind, OutOfMemory};
 use std::alloc::Global;
 
 /// The content of a file, borrowed.
@@ -51,7 +51,7 @@ impl Blob {
 
 /// A blob is written as its bytes. Nothing is refused.
 impl WriteTo for BlobRef<'_> {
-    ghost use Rattle.gixobj_ids.specs.declared.kind.Kind.TheVariants as kind;
+    ghost use Rattle.gixobj_hash.specs.declared.kind.Kind.TheVariants as kind;
 
     ghost object_kind = { λ _. kind.Blob };
 
@@ -75,7 +75,7 @@ impl WriteTo for BlobRef<'_> {
 
 /// A blob is written as its bytes. Nothing is refused.
 impl WriteTo for Blob {
-    ghost use Rattle.gixobj_ids.specs.declared.kind.Kind.TheVariants as kind;
+    ghost use Rattle.gixobj_hash.specs.declared.kind.Kind.TheVariants as kind;
 
     ghost object_kind = { λ _. kind.Blob };
 

@@ -2,15 +2,15 @@
 ghost use Rattle.std.specs.Prelude.{◌≡◌, ◌≤◌, [], IfErr, IfOk, OnOk};
 ghost use Rattle.gixobj_commits.specs.CommitViews.{BorrowsLines, commit_lines};
 ghost use Rattle.gixobj_commits.specs.CommitWriting.{HasIds};
-ghost use Rattle.gixobj_ids.specs.declared.decode.Error.TheVariants.{OutOfMemory};
+ghost use Rattle.gixobj_hash.specs.declared.decode.Error.TheVariants.{OutOfMemory};
 ghost use Rattle.gixobj_lines.specs.Commit.{IsCommitText, RefusesCommit};
 ghost use Rattle.gixobj_lines.specs.Gathering.{TakesMemory, gather, nothing};
 ghost use Rattle.gixobj_lines.specs.Lines.{IsParsed, line_view};
 
 use super::CommitRef;
 use bstr::BStr;
-use gixobj_ids::decode::Error;
-use gixobj_ids::hash::Kind;
+use gixobj_hash::decode::Error;
+use gixobj_hash::hash::Kind;
 use gixobj_lines::lines::{Line, State, read_line};
 use smallvec::SmallVec;
 use std::alloc::Global;

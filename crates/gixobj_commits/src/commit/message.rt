@@ -10,10 +10,10 @@ ghost use Rattle.gixobj_text.specs.MessageTrailers.{HasTrailers};
 ghost use Rattle.gixobj_text.specs.Summing.{is_of_lines};
 ghost use Rattle.gixobj_text.specs.Titles.{SplitsTitle, summary_of};
 ghost use Rattle.gixobj_text.specs.declared.commit.message.body.filters.Filter.TheVariants.{AssistedBy, Attributions, Authors, CoAuthoredBy, SignedOffBy};
-ghost use Rattle.gixobj_texts.specs.Optional.{bytes_if_some};
+ghost use Rattle.gixobj_hash.specs.Optional.{bytes_if_some};
 
 use crate::commit::CommitRef;
-use gixobj_ids::memory::OutOfMemory;
+use gixobj_hash::memory::OutOfMemory;
 use gixobj_text::commit::MessageRef;
 use gixobj_text::commit::message::body::{Filtered, Trailers};
 use gixobj_text::commit::message::message_trailers;

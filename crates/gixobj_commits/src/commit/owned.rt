@@ -1,23 +1,23 @@
 //! Commits with parts of their own, copied from borrowed ones.
 ghost use Rattle.std.specs.Prelude.{◌≡◌, ℕ, All, IfOk, List, map};
 ghost use Rattle.bstr.specs.BStr.{bstr_bytes};
-ghost use Rattle.gixobj_actors.specs.Actor.{IsActor, IsOwnedActor};
+ghost use Rattle.gixobj_actor.specs.Actor.{IsActor, IsOwnedActor};
 ghost use Rattle.std.specs.List.{AllZip};
-ghost use Rattle.gixobj_ids.specs.Hash.{IsHexOfAnId, Spells};
+ghost use Rattle.gixobj_hash.specs.Hash.{IsHexOfAnId, Spells};
 ghost use Rattle.gixobj_fields.specs.HeaderReading.{header_of, owned_header_of};
 ghost use Rattle.gixobj_commits.specs.CommitOwned.{IsOwnedForm};
 ghost use Rattle.gixobj_commits.specs.CommitViews.{commit_lines};
-ghost use Rattle.gixobj_texts.specs.Optional.{bytes_if_some, owned_bytes_if_some};
+ghost use Rattle.gixobj_hash.specs.Optional.{bytes_if_some, owned_bytes_if_some};
 ghost use Rattle.gixobj_commits.specs.CommitWriting.{HasIds};
 
 use super::{Commit, CommitRef};
 use bstr::{BStr, BString};
-use gixobj_actors::actor::SignatureRef;
-use gixobj_actors::parse::owned_actor;
-use gixobj_ids::OutOfMemory;
-use gixobj_ids::hash::ObjectId;
-use gixobj_ids::parse::id_of_hex;
-use gixobj_texts::optional::copied;
+use gixobj_actor::actor::SignatureRef;
+use gixobj_actor::parse::owned_actor;
+use gixobj_hash::OutOfMemory;
+use gixobj_hash::hash::ObjectId;
+use gixobj_hash::parse::id_of_hex;
+use gixobj_hash::optional::copied;
 use smallvec::SmallVec;
 use std::alloc::Global;
 use std::borrow::CowSlice;

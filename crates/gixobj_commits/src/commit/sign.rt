@@ -6,15 +6,15 @@ ghost use Rattle.gixobj_commits.specs.CommitViews.{commit_lines, owned_lines};
 ghost use Rattle.gixobj_commits.specs.CommitWriting.{HasIds, RefusesOwned, commit_text};
 ghost use Rattle.gixobj_fields.specs.HeaderReading.{owned_header_of};
 ghost use Rattle.gixobj_fields.specs.Writing.{RefusesNothing};
-ghost use Rattle.gixobj_runner.specs.Plans.{Goes};
-ghost use Rattle.gixobj_runner.specs.Signing.{options_view, sign_plan, signer_refusal};
+ghost use Rattle.gixobj_signature.specs.Plans.{Goes};
+ghost use Rattle.gixobj_signature.specs.Signing.{options_view, sign_plan, signer_refusal};
 
 use super::{Commit, CommitRef, signature_field_name};
 use bstr::BString;
 use gixobj_fields::{WriteTo, encode};
-use gixobj_ids::OutOfMemory;
-use gixobj_runner::signature::Runner;
-use gixobj_runner::signature::sign::{Error, Options, sign_payload};
+use gixobj_hash::OutOfMemory;
+use gixobj_signature::signature::Runner;
+use gixobj_signature::signature::sign::{Error, Options, sign_payload};
 use std::alloc::Global;
 
 /// Signing
@@ -23,7 +23,7 @@ impl Commit {
     /// is that for the kind of the tree's id. What is signed is the written commit without them.
     ///
     /// `Encode` where the commit can't be written, before any call; else the refusals of signing, as
-    /// [`gixobj_runner::signature::sign::sign_payload`] has them. The commit is gone then.
+    /// [`gixobj_signature::signature::sign::sign_payload`] has them. The commit is gone then.
     pub fn sign<R: Runner>(
         self,
         alloc: Global,

@@ -3,14 +3,14 @@ ghost use Rattle.std.specs.Prelude.{◌≡◌, ◌<◌, ◌+◌, ◌^◌, ◌++�
 ghost use Rattle.std.specs.List.{flat_map};
 ghost use Rattle.std.specs.Option.{SomeIff};
 ghost use Rattle.bstr.specs.BStr.{bstr_bytes};
-ghost use Rattle.gixobj_ids.specs.Hash.{IsHexOfAnId, hex_text};
+ghost use Rattle.gixobj_hash.specs.Hash.{IsHexOfAnId, hex_text};
 ghost use Rattle.gixobj_fields.specs.HeaderText.{field_text};
 ghost use Rattle.gixobj_fields.specs.Streams.{Puts, PutsOrFails};
 ghost use Rattle.gixobj_fields.specs.Writing.{AddsSize, IsSize, RefusesNothing, SaysWhy};
 ghost use Rattle.gixobj_lines.specs.Commit.{encoding_text};
-ghost use Rattle.gixobj_texts.specs.Optional.{bytes_if_some};
+ghost use Rattle.gixobj_hash.specs.Optional.{bytes_if_some};
 ghost use Rattle.gixobj_commits.specs.CommitWriting.{RefusesEncodingLine, hex_lines, hex_tree};
-ghost use Rattle.gixobj_texts.specs.Bytes.{newline};
+ghost use Rattle.gixobj_hash.specs.Bytes.{newline};
 
 mod owned;
 
@@ -22,8 +22,8 @@ use gixobj_fields::encode::{
     size_with_multi_line, trusted_header_field, trusted_header_hex, trusted_header_id,
 };
 use gixobj_fields::streams::{Sink, put_parts};
-use gixobj_ids::Kind;
-use gixobj_ids::hash::ObjectId;
+use gixobj_hash::Kind;
+use gixobj_hash::hash::ObjectId;
 use std::alloc::Global;
 use std::borrow::CowSlice;
 use std::io;
@@ -33,7 +33,7 @@ use std::io;
 /// An empty encoding is refused as `EmptyValue`, and one with a newline as `NewlineInHeaderValue`,
 /// before any byte of its line.
 impl WriteTo for CommitRef<'_> {
-    ghost use Rattle.gixobj_ids.specs.declared.kind.Kind.TheVariants as kind;
+    ghost use Rattle.gixobj_hash.specs.declared.kind.Kind.TheVariants as kind;
     ghost use Rattle.gixobj_commits.specs.CommitViews.{commit_lines};
     ghost use Rattle.gixobj_commits.specs.CommitWriting.{HasIds, RefusesLines, commit_text, in_lower_case};
 
@@ -151,7 +151,7 @@ trait Field {
 /// A parent, by the hex text of its id.
 impl Field for BStr<'_> {
     ghost use Rattle.bstr.specs.BStr.{bstr_bytes};
-    ghost use Rattle.gixobj_ids.specs.Hash.{IsHexOfAnId};
+    ghost use Rattle.gixobj_hash.specs.Hash.{IsHexOfAnId};
     ghost use Rattle.gixobj_commits.specs.CommitWriting.{hex_parent};
 
     ghost can_put = { λ hex. IsHexOfAnId (bstr_bytes hex) };
@@ -170,7 +170,7 @@ impl Field for BStr<'_> {
 
 /// A parent, by its id.
 impl Field for ObjectId {
-    ghost use Rattle.gixobj_ids.specs.Hash.{hex_text};
+    ghost use Rattle.gixobj_hash.specs.Hash.{hex_text};
     ghost use Rattle.gixobj_lines.specs.Commit.{parent_text};
 
     ghost written = { λ id. parent_text (hex_text id) };

@@ -1,12 +1,12 @@
 //! The test that an object has the id by which it is named.
 ghost use Rattle.std.specs.Prelude.{◌≡◌, ◌↔◌, IfErr, IfOk, IsOk};
-ghost use Rattle.gixobj_ids.specs.Hash.{id_kind};
-ghost use Rattle.gixobj_ids.specs.Hash.Borrowed.{borrowed_id};
+ghost use Rattle.gixobj_hash.specs.Hash.{id_kind};
+ghost use Rattle.gixobj_hash.specs.Hash.Borrowed.{borrowed_id};
 ghost use Rattle.gixobj_data.specs.Checksums.{HasBothIds, checksum};
 
 use super::Data;
-use gixobj_ids::hash::{ObjectId, oid};
-use gixobj_ids::{compute_hash, hash};
+use gixobj_hash::hash::{ObjectId, oid};
+use gixobj_hash::{compute_hash, hash};
 
 /// The refusal of [`Data::verify_checksum`].
 #[derive(Debug, Drop, thiserror::Error)]

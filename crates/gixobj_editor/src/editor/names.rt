@@ -8,7 +8,7 @@ ghost use Rattle.gixobj_editor.specs.Upserts.{IsJudged, RefusesName, RefusesName
 
 use crate::editor::error::Error;
 use bstr::BString;
-use gixobj_texts::parse::has_byte;
+use gixobj_hash::texts::has_byte;
 use std::alloc::{AllocError, Global};
 
 /// The directories that a removal at the path may open, by names that entries may have, and the names from the

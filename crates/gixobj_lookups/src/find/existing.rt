@@ -1,6 +1,6 @@
 //! Why no object, or no header, is found.
 use gixobj_data::find;
-use gixobj_ids::hash::ObjectId;
+use gixobj_hash::hash::ObjectId;
 
 /// The refusal of [`FindExt::find`](crate::FindExt::find) and [`HeaderExt::header`](crate::HeaderExt::header).
 #[derive(Debug, Drop, thiserror::Error)]

@@ -1,7 +1,7 @@
 //! Why no object of a kind is found.
 use gixobj_data::find;
-use gixobj_ids::hash::ObjectId;
-use gixobj_ids::{Kind, decode};
+use gixobj_hash::hash::ObjectId;
+use gixobj_hash::{Kind, decode};
 
 /// The refusal of the lookups of [`FindExt`](crate::FindExt) that give an object.
 #[derive(Debug, Drop, thiserror::Error)]

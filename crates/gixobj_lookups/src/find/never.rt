@@ -2,13 +2,13 @@
 ghost use Rattle.std.specs.Prelude.{◌≡◌, IfErr, IfOk, IsFalse, None, Ok, false, is_some};
 ghost use Rattle.std.specs.FinMap as map;
 ghost use Rattle.gixobj_data.specs.Stores.{IsFound, RefusesFind, named};
-ghost use Rattle.gixobj_ids.specs.Hash.Borrowed.{borrowed_id};
+ghost use Rattle.gixobj_hash.specs.Hash.Borrowed.{borrowed_id};
 
 mod header;
 mod write;
 
 use gixobj_data::{Data, Exists, Find, Store, find};
-use gixobj_ids::hash::oid;
+use gixobj_hash::hash::oid;
 
 /// A store that keeps nothing and finds nothing. What is written into it gets its id, by SHA-1.
 #[derive(Clone, Copy, Debug)]

@@ -1,13 +1,13 @@
 //! Headers that a store has to have.
 ghost use Rattle.std.specs.Prelude.{◌≡◌, IfErr, IfOk};
 ghost use Rattle.gixobj_data.specs.Stores.{Names, StoredObject, header};
-ghost use Rattle.gixobj_ids.specs.Hash.Borrowed.{borrowed_id};
+ghost use Rattle.gixobj_hash.specs.Hash.Borrowed.{borrowed_id};
 ghost use Rattle.gixobj_lookups.specs.Existing.{RefusesExisting};
 
 use crate::find::existing;
 use gixobj_data::FindHeader;
-use gixobj_ids::Header;
-use gixobj_ids::hash::oid;
+use gixobj_hash::Header;
+use gixobj_hash::hash::oid;
 
 /// Lookups of headers that have to be there. Every [`FindHeader`] has them.
 pub trait HeaderExt: FindHeader {

@@ -7,8 +7,8 @@ mod shared;
 
 use crate::write::Error;
 use gixobj_fields::WriteTo;
-use gixobj_ids::Kind;
-use gixobj_ids::hash::ObjectId;
+use gixobj_hash::Kind;
+use gixobj_hash::hash::ObjectId;
 use std::alloc::Global;
 use std::io::Read;
 
@@ -18,8 +18,8 @@ use std::io::Read;
 /// to a stream, and the calls that it doesn't write itself hand it exactly that stream.
 pub trait Write {
     ghost use Rattle.std.specs.Prelude.{ℕ, List, Option, Result};
-    ghost use Rattle.gixobj_ids.specs.declared.hash.object_id.ObjectId.{ObjectId};
-    ghost use Rattle.gixobj_ids.specs.declared.kind.Kind.{Kind};
+    ghost use Rattle.gixobj_hash.specs.declared.hash.object_id.ObjectId.{ObjectId};
+    ghost use Rattle.gixobj_hash.specs.declared.kind.Kind.{Kind};
     ghost use Rattle.gixobj_lookups.specs.declared.write.Error.{Error};
 
     /// What may be answered to a stream of these bytes, where they are known, with an object of this kind and size.

@@ -5,7 +5,7 @@ ghost use Rattle.gixobj_object_readers.specs.BorrowedObjects.{HasObjectIds, IsOw
 use super::ObjectRef;
 use gixobj_commits::CommitRef;
 use gixobj_commits::commit::owned_copy;
-use gixobj_ids::decode::Error;
+use gixobj_hash::decode::Error;
 use gixobj_objects::Object;
 use gixobj_tags::TagRef;
 use gixobj_tree_readers::TreeRef;
@@ -83,7 +83,7 @@ impl<'a> From<TagRef<'a>> for ObjectRef<'a> {
 /// The tree, or the object back where it is of another kind.
 impl<'a> TryFrom<ObjectRef<'a>> for TreeRef<'a> {
     ghost use Rattle.std.specs.Prelude.{MatchResult};
-    ghost use Rattle.gixobj_ids.specs.declared.kind.Kind.TheVariants as kind;
+    ghost use Rattle.gixobj_hash.specs.declared.kind.Kind.TheVariants as kind;
     ghost use Rattle.gixobj_object_readers.specs.declared.object.ObjectRef.TheVariants as object;
 
     type Error = ObjectRef<'a>;
@@ -101,7 +101,7 @@ impl<'a> TryFrom<ObjectRef<'a>> for TreeRef<'a> {
 /// The blob, or the object back where it is of another kind.
 impl<'a> TryFrom<ObjectRef<'a>> for BlobRef<'a> {
     ghost use Rattle.std.specs.Prelude.{MatchResult};
-    ghost use Rattle.gixobj_ids.specs.declared.kind.Kind.TheVariants as kind;
+    ghost use Rattle.gixobj_hash.specs.declared.kind.Kind.TheVariants as kind;
     ghost use Rattle.gixobj_object_readers.specs.declared.object.ObjectRef.TheVariants as object;
 
     type Error = ObjectRef<'a>;
@@ -119,7 +119,7 @@ impl<'a> TryFrom<ObjectRef<'a>> for BlobRef<'a> {
 /// The commit, or the object back where it is of another kind.
 impl<'a> TryFrom<ObjectRef<'a>> for CommitRef<'a> {
     ghost use Rattle.std.specs.Prelude.{MatchResult};
-    ghost use Rattle.gixobj_ids.specs.declared.kind.Kind.TheVariants as kind;
+    ghost use Rattle.gixobj_hash.specs.declared.kind.Kind.TheVariants as kind;
     ghost use Rattle.gixobj_object_readers.specs.declared.object.ObjectRef.TheVariants as object;
 
     type Error = ObjectRef<'a>;
@@ -137,7 +137,7 @@ impl<'a> TryFrom<ObjectRef<'a>> for CommitRef<'a> {
 /// The tag, or the object back where it is of another kind.
 impl<'a> TryFrom<ObjectRef<'a>> for TagRef<'a> {
     ghost use Rattle.std.specs.Prelude.{MatchResult};
-    ghost use Rattle.gixobj_ids.specs.declared.kind.Kind.TheVariants as kind;
+    ghost use Rattle.gixobj_hash.specs.declared.kind.Kind.TheVariants as kind;
     ghost use Rattle.gixobj_object_readers.specs.declared.object.ObjectRef.TheVariants as object;
 
     type Error = ObjectRef<'a>;

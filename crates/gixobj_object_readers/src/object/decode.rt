@@ -6,8 +6,8 @@ ghost use Rattle.gixobj_object_readers.specs.ObjectReading.{IsObjectText, Refuse
 
 use super::ObjectRef;
 use gixobj_commits::CommitRef;
-use gixobj_ids::decode::{Error, LooseHeaderDecodeError, loose_header};
-use gixobj_ids::{Kind, hash};
+use gixobj_hash::decode::{Error, LooseHeaderDecodeError, loose_header};
+use gixobj_hash::{Kind, hash};
 use gixobj_tags::TagRef;
 use gixobj_tree_readers::TreeRef;
 use gixobj_trees::BlobRef;

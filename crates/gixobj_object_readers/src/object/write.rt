@@ -4,7 +4,7 @@ use super::ObjectRef;
 use gixobj_fields::WriteTo;
 use gixobj_fields::encode::Error;
 use gixobj_fields::streams::Sink;
-use gixobj_ids::Kind;
+use gixobj_hash::Kind;
 use std::alloc::Global;
 
 /// An object is written as its tree, its blob, its commit or its tag is, and refused as that is.

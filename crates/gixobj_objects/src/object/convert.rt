@@ -4,7 +4,7 @@ ghost use Rattle.gixobj_objects.specs.Objects.{owned_kind};
 
 use super::Object;
 use gixobj_commits::Commit;
-use gixobj_ids::Kind;
+use gixobj_hash::Kind;
 use gixobj_tags::Tag;
 use gixobj_trees::{Blob, BlobRef, Tree};
 
@@ -148,7 +148,7 @@ impl From<Tag> for Object {
 /// The tree, or the object back where it is of another kind.
 impl TryFrom<Object> for Tree {
     ghost use Rattle.std.specs.Prelude.{MatchResult};
-    ghost use Rattle.gixobj_ids.specs.declared.kind.Kind.TheVariants as kind;
+    ghost use Rattle.gixobj_hash.specs.declared.kind.Kind.TheVariants as kind;
     ghost use Rattle.gixobj_objects.specs.declared.object.Object.TheVariants as object;
 
     type Error = Object;
@@ -163,7 +163,7 @@ impl TryFrom<Object> for Tree {
 /// The blob, or the object back where it is of another kind.
 impl TryFrom<Object> for Blob {
     ghost use Rattle.std.specs.Prelude.{MatchResult};
-    ghost use Rattle.gixobj_ids.specs.declared.kind.Kind.TheVariants as kind;
+    ghost use Rattle.gixobj_hash.specs.declared.kind.Kind.TheVariants as kind;
     ghost use Rattle.gixobj_objects.specs.declared.object.Object.TheVariants as object;
 
     type Error = Object;
@@ -178,7 +178,7 @@ impl TryFrom<Object> for Blob {
 /// The commit, or the object back where it is of another kind.
 impl TryFrom<Object> for Commit {
     ghost use Rattle.std.specs.Prelude.{MatchResult};
-    ghost use Rattle.gixobj_ids.specs.declared.kind.Kind.TheVariants as kind;
+    ghost use Rattle.gixobj_hash.specs.declared.kind.Kind.TheVariants as kind;
     ghost use Rattle.gixobj_objects.specs.declared.object.Object.TheVariants as object;
 
     type Error = Object;
@@ -193,7 +193,7 @@ impl TryFrom<Object> for Commit {
 /// The tag, or the object back where it is of another kind.
 impl TryFrom<Object> for Tag {
     ghost use Rattle.std.specs.Prelude.{MatchResult};
-    ghost use Rattle.gixobj_ids.specs.declared.kind.Kind.TheVariants as kind;
+    ghost use Rattle.gixobj_hash.specs.declared.kind.Kind.TheVariants as kind;
     ghost use Rattle.gixobj_objects.specs.declared.object.Object.TheVariants as object;
 
     type Error = Object;

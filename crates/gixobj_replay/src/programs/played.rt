@@ -3,7 +3,7 @@
 use crate::recorded::spelling::{quoted, spelled, unspelled};
 use bstr::BString;
 use gixobj_base::parse::split_at_byte;
-use gixobj_runner::signature::{Call, Output, RunError, Runner, Word};
+use gixobj_signature::signature::{Call, Output, RunError, Runner, Word};
 use std::alloc::{AllocError, Global};
 
 /// The columns of a row that are left. As a runner it takes five for each call: what a program was asked, and what it

@@ -5,7 +5,7 @@ ghost use Rattle.gixobj_tag_names.specs.NameRule.{HasFault, HasNoFault, IsFirstF
 
 use bstr::ByteSlice;
 use gixobj_fields::encode::RefNameFault;
-use gixobj_texts::parse::has_byte;
+use gixobj_hash::texts::has_byte;
 
 /// The first fault of a name, in the order of [`RefNameFault`].
 pub(super) fn first_fault(name: &[u8]) -> Option<RefNameFault>

@@ -1,12 +1,12 @@
 //! The signature of a tag, found in its text, and what it signs (gitformat-signature, "Tag signatures").
 ghost use Rattle.std.specs.Prelude.{IfNone, IfSome};
-ghost use Rattle.gixobj_signing.specs.Markers.{HasNoMarker};
+ghost use Rattle.gixobj_text.specs.Markers.{HasNoMarker};
 ghost use Rattle.gixobj_tag_tokens.specs.TagExtracting.{GivesSignature};
 
 use super::TagRefIter;
 use bstr::BStr;
-use gixobj_signing::signature::{SignatureRef, find};
-use gixobj_verifying::signature::SignedData;
+use gixobj_text::signature::{SignatureRef, find};
+use gixobj_signature::signature::SignedData;
 
 /// Signatures
 impl<'a> TagRefIter<'a> {

@@ -1,23 +1,23 @@
 //! Tags, read whole, and their parts, on which readers of tags stand (gitdatamodel, "tag objects").
 ghost use Rattle.std.specs.Prelude.{◌≡◌, ◌∷◌, IfErr, IfNone, IfOk, IfSome, IsFalse, MatchOption};
 ghost use Rattle.bstr.specs.BStr.{bstr_bytes};
-ghost use Rattle.gixobj_ids.specs.Hash.{IsHexOfAnId};
-ghost use Rattle.gixobj_ids.specs.declared.decode.Error.TheVariants.{Malformed};
+ghost use Rattle.gixobj_hash.specs.Hash.{IsHexOfAnId};
+ghost use Rattle.gixobj_hash.specs.declared.decode.Error.TheVariants.{Malformed};
 ghost use Rattle.gixobj_tags.specs.LineReading.{HasName, HasNoName, HasNoTagger, HasTagger};
 ghost use Rattle.gixobj_tags.specs.LineViews.{IsParsed, line_if_some};
 ghost use Rattle.gixobj_tags.specs.TagText.{HasNoBody, IsBody, IsNoTagText, IsParted, IsTagText, are_newlines as are_newlines_of};
 ghost use Rattle.gixobj_tags.specs.TagViews.{tag_lines};
-ghost use Rattle.gixobj_texts.specs.Bytes.{newline};
-ghost use Rattle.gixobj_texts.specs.Optional.{bytes_if_some};
+ghost use Rattle.gixobj_hash.specs.Bytes.{newline};
+ghost use Rattle.gixobj_hash.specs.Optional.{bytes_if_some};
 
 use super::TagRef;
 use bstr::BStr;
-use gixobj_actors::actor::SignatureRef;
-use gixobj_actors::parse::split_signature;
+use gixobj_actor::actor::SignatureRef;
+use gixobj_actor::parse::split_signature;
 use gixobj_fields::parse::{after_name, after_newline, header_field, header_id, header_kind};
-use gixobj_ids::decode::Error;
-use gixobj_ids::hash::Kind;
-use gixobj_signing::signature;
+use gixobj_hash::decode::Error;
+use gixobj_hash::hash::Kind;
+use gixobj_text::signature;
 
 impl<'a> TagRef<'a> {
     /// The tag that the bytes are, whose target has an id of this kind.

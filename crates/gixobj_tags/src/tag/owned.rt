@@ -1,18 +1,18 @@
 //! Tags with parts of their own, copied from borrowed ones.
 ghost use Rattle.std.specs.Prelude.{◌≡◌, ℕ, List, Option, IfErr, IfOk};
-ghost use Rattle.gixobj_ids.specs.Hash.{IsHexOfAnId};
-ghost use Rattle.gixobj_ids.specs.declared.decode.Error.TheVariants.{Malformed};
+ghost use Rattle.gixobj_hash.specs.Hash.{IsHexOfAnId};
+ghost use Rattle.gixobj_hash.specs.declared.decode.Error.TheVariants.{Malformed};
 ghost use Rattle.gixobj_tags.specs.TagOwned.{IsBadTagger, IsOwnedForm, IsOwnedTagger, IsTagger};
 ghost use Rattle.gixobj_tags.specs.TagViews.{tag_lines};
-ghost use Rattle.gixobj_texts.specs.Optional.{bytes_if_some};
+ghost use Rattle.gixobj_hash.specs.Optional.{bytes_if_some};
 
 use super::{Tag, TagRef};
 use bstr::{BStr, BString};
-use gixobj_actors::actor::{Signature, SignatureRef};
-use gixobj_actors::parse::{actor_of_line, owned_actor};
-use gixobj_ids::OutOfMemory;
-use gixobj_ids::decode::Error;
-use gixobj_texts::optional::copied;
+use gixobj_actor::actor::{Signature, SignatureRef};
+use gixobj_actor::parse::{actor_of_line, owned_actor};
+use gixobj_hash::OutOfMemory;
+use gixobj_hash::decode::Error;
+use gixobj_hash::optional::copied;
 use std::alloc::Global;
 
 /// The actor of a tagger's line, as it stands, or none without a line.

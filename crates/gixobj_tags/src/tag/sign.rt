@@ -2,20 +2,20 @@
 ghost use Rattle.std.specs.Prelude.{◌≡◌, ◌++◌, ◌∷◌, [], IfErr, IfOk, OnOk, Some};
 ghost use Rattle.bstr.specs.Owned.{bstring_bytes};
 ghost use Rattle.gixobj_fields.specs.Writing.{RefusesNothing};
-ghost use Rattle.gixobj_ids.specs.Hash.{IsHexOfAnId};
-ghost use Rattle.gixobj_runner.specs.Signing.{options_view, sign_plan, signer_refusal};
-ghost use Rattle.gixobj_runner.specs.Plans.{Goes};
+ghost use Rattle.gixobj_hash.specs.Hash.{IsHexOfAnId};
+ghost use Rattle.gixobj_signature.specs.Signing.{options_view, sign_plan, signer_refusal};
+ghost use Rattle.gixobj_signature.specs.Plans.{Goes};
 ghost use Rattle.gixobj_tags.specs.TagSigning.{GetsSignature, HasNoPayload, IsSigned, IsSignedCopy, RefusesSigning, RefusesSigningCopy, RefusesWriting, signed_as, unsigned};
 ghost use Rattle.gixobj_tags.specs.TagViews.{owned_lines, tag_lines};
 ghost use Rattle.gixobj_tags.specs.TagWriting.{RefusesOwned, tag_text};
-ghost use Rattle.gixobj_texts.specs.Bytes.{newline};
+ghost use Rattle.gixobj_hash.specs.Bytes.{newline};
 
 use super::{Tag, TagRef};
 use bstr::BString;
 use gixobj_fields::{WriteTo, encode};
-use gixobj_ids::OutOfMemory;
-use gixobj_runner::signature::Runner;
-use gixobj_runner::signature::sign::{Error, Options, sign_payload};
+use gixobj_hash::OutOfMemory;
+use gixobj_signature::signature::Runner;
+use gixobj_signature::signature::sign::{Error, Options, sign_payload};
 use std::alloc::Global;
 
 /// Signing
@@ -24,7 +24,7 @@ impl Tag {
     /// without a signature, and a newline behind it.
     ///
     /// `Encode` where the tag can't be written, before any call; else the refusals of signing, as
-    /// [`gixobj_runner::signature::sign::sign_payload`] has them. The tag is gone then.
+    /// [`gixobj_signature::signature::sign::sign_payload`] has them. The tag is gone then.
     pub fn sign<R: Runner>(
         self,
         alloc: Global,

@@ -5,25 +5,25 @@ ghost use Rattle.bstr.specs.BStr.{bstr_bytes};
 ghost use Rattle.gixobj_fields.specs.HeaderText.{field_text};
 ghost use Rattle.gixobj_fields.specs.Streams.{Puts, PutsOrFails};
 ghost use Rattle.gixobj_fields.specs.Writing.{AddsSize, IsSize, RefusesNothing, SaysWhy};
-ghost use Rattle.gixobj_ids.specs.Kind.{kind_word};
+ghost use Rattle.gixobj_hash.specs.Kind.{kind_word};
 ghost use Rattle.gixobj_tag_names.specs.NameRule.{IsTagName, RefusesName};
 ghost use Rattle.gixobj_tags.specs.TagWriting.{RefusesNameLine, RefusesParts, body_text, message_text, signature_text};
-ghost use Rattle.gixobj_texts.specs.Optional.{bytes_if_some};
+ghost use Rattle.gixobj_hash.specs.Optional.{bytes_if_some};
 
 mod owned;
 
 use super::TagRef;
 use super::decode::are_newlines;
 use bstr::BStr;
-use gixobj_actors::actor::Signature;
-use gixobj_actors::encode::{size_with_signature, trusted_header_signature};
+use gixobj_actor::actor::Signature;
+use gixobj_actor::encode::{size_with_signature, trusted_header_signature};
 use gixobj_fields::WriteTo;
 use gixobj_fields::encode::{
     self, size_with_field, size_with_id, trusted_header_field, trusted_header_id,
 };
 use gixobj_fields::streams::{Sink, put_parts};
-use gixobj_ids::Kind;
-use gixobj_ids::hash::ObjectId;
+use gixobj_hash::Kind;
+use gixobj_hash::hash::ObjectId;
 pub use gixobj_tag_names::name::{Error, validated_name};
 use std::alloc::Global;
 use std::io;
@@ -33,7 +33,7 @@ use std::io;
 /// A name that [`validated_name`] refuses is refused as `InvalidRefName` or `StartsWithDash`, before any
 /// byte of its line. It takes no memory.
 impl WriteTo for TagRef<'_> {
-    ghost use Rattle.gixobj_ids.specs.declared.kind.Kind.TheVariants as kind;
+    ghost use Rattle.gixobj_hash.specs.declared.kind.Kind.TheVariants as kind;
     ghost use Rattle.gixobj_tags.specs.TagViews.{tag_lines};
     ghost use Rattle.gixobj_tags.specs.TagWriting.{RefusesLines, tag_text};
 
@@ -150,7 +150,7 @@ impl Target for BStr<'_> {
 impl Target for ObjectId {
     ghost use Rattle.std.specs.Prelude.{codes};
     ghost use Rattle.gixobj_fields.specs.HeaderText.{field_text};
-    ghost use Rattle.gixobj_ids.specs.Hash.{hex_text};
+    ghost use Rattle.gixobj_hash.specs.Hash.{hex_text};
 
     ghost target_line = { λ id. field_text (codes "object") (hex_text id) };
 
@@ -189,7 +189,7 @@ trait Tagger {
 /// By its line.
 impl Tagger for Option<BStr<'_>> {
     ghost use Rattle.gixobj_tags.specs.TagText.{tagger_text};
-    ghost use Rattle.gixobj_texts.specs.Optional.{bytes_if_some};
+    ghost use Rattle.gixobj_hash.specs.Optional.{bytes_if_some};
 
     ghost tagger_line = { λ line. tagger_text (bytes_if_some line) };
 

@@ -3,7 +3,7 @@
 ghost use Rattle.std.specs.Prelude.{◌≡◌, ◌≤◌, IfErr, IfOk, IfNone, IfSome, None, drop, length, take, true};
 ghost use Rattle.std.specs.Cow.{cow_slice_items};
 ghost use Rattle.bstr.specs.BStr.{bstr_bytes};
-ghost use Rattle.gixobj_texts.specs.Optional.{bytes_if_some};
+ghost use Rattle.gixobj_hash.specs.Optional.{bytes_if_some};
 ghost use Rattle.gixobj_text.specs.GivingTrailers.{is_owned, trailers_left};
 ghost use Rattle.gixobj_text.specs.MessageTrailers.{HasTrailers};
 ghost use Rattle.gixobj_text.specs.Summing.{is_of_lines};
@@ -18,7 +18,7 @@ pub mod summary;
 use body::{MessageBlocks, Trailers, block_start};
 use bstr::BStr;
 use decode::message_title_and_body;
-use gixobj_ids::memory::OutOfMemory;
+use gixobj_hash::memory::OutOfMemory;
 use std::alloc::Global;
 use std::borrow::CowSlice;
 use summary::summary;

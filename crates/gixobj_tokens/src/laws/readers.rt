@@ -2,12 +2,12 @@
 ghost use Rattle.std.specs.Prelude.{◌≡◌, ◌++◌, ◌∷◌, [], ℕ, Err, List, None, Result, Ok, Some};
 ghost use Rattle.std.specs.List.{AllZip};
 ghost use Rattle.std.proofs.lemmas.Iterator.{YieldsList};
-ghost use Rattle.gixobj_actors.specs.Actor.{IsActor};
-ghost use Rattle.gixobj_ids.specs.Hash.{Spells};
-ghost use Rattle.gixobj_ids.specs.declared.decode.Error.{Error};
-ghost use Rattle.gixobj_ids.specs.declared.decode.Error.TheVariants.{Malformed};
-ghost use Rattle.gixobj_ids.specs.declared.hash.kind.Kind.{Kind};
-ghost use Rattle.gixobj_ids.specs.declared.hash.object_id.ObjectId.{ObjectId};
+ghost use Rattle.gixobj_actor.specs.Actor.{IsActor};
+ghost use Rattle.gixobj_hash.specs.Hash.{Spells};
+ghost use Rattle.gixobj_hash.specs.declared.decode.Error.{Error};
+ghost use Rattle.gixobj_hash.specs.declared.decode.Error.TheVariants.{Malformed};
+ghost use Rattle.gixobj_hash.specs.declared.hash.kind.Kind.{Kind};
+ghost use Rattle.gixobj_hash.specs.declared.hash.object_id.ObjectId.{ObjectId};
 ghost use Rattle.gixobj_lines.specs.Commit.{CommitLines, IsCommitText};
 ghost use Rattle.gixobj_fields.specs.Runs.{broken, complete};
 ghost use Rattle.gixobj_tokens.specs.CommitRuns.{Tells};

@@ -1,6 +1,6 @@
 //! Laws of the tokens of a commit. Each function does nothing: its contract is the law.
 ghost use Rattle.std.specs.Prelude.{◌≡◌, ℕ, List};
-ghost use Rattle.gixobj_ids.specs.declared.hash.kind.Kind.{Kind};
+ghost use Rattle.gixobj_hash.specs.declared.hash.kind.Kind.{Kind};
 ghost use Rattle.gixobj_fields.specs.Runs.{Ending, complete};
 ghost use Rattle.gixobj_tokens.specs.CommitRuns.{Tells};
 ghost use Rattle.gixobj_tokens.specs.CommitTokens.{HasToken, TokenView};

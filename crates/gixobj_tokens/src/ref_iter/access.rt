@@ -6,9 +6,9 @@ ghost use Rattle.gixobj_tokens.specs.TokenPassing.{FindsAuthor, FindsCommitter, 
 
 use super::CommitRefIter;
 use bstr::BStr;
-use gixobj_actors::actor::SignatureRef;
-use gixobj_ids::decode::Error;
-use gixobj_ids::hash::ObjectId;
+use gixobj_actor::actor::SignatureRef;
+use gixobj_hash::decode::Error;
+use gixobj_hash::hash::ObjectId;
 
 /// Access
 impl<'a> CommitRefIter<'a> {

@@ -1,7 +1,7 @@
 //! Readers of tokens that tell the parents alone, or the actors alone.
 use super::CommitRefIter;
-use gixobj_actors::actor::SignatureRef;
-use gixobj_ids::hash::ObjectId;
+use gixobj_actor::actor::SignatureRef;
+use gixobj_hash::hash::ObjectId;
 
 /// The parents of a commit. [`CommitRefIter::parent_ids`] makes it.
 #[derive(Clone, Copy, Drop)]

@@ -6,8 +6,8 @@ ghost use Rattle.gixobj_tokens.specs.TokenPassing.{IsActorToken, IsActorTokenOf,
 
 use super::Token;
 use bstr::BStr;
-use gixobj_actors::actor::SignatureRef;
-use gixobj_ids::hash::ObjectId;
+use gixobj_actor::actor::SignatureRef;
+use gixobj_hash::hash::ObjectId;
 
 impl<'a> Token<'a> {
     /// The id of a parent.

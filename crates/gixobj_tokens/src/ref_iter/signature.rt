@@ -3,14 +3,14 @@ ghost use Rattle.std.specs.Prelude.{◌≡◌, IfErr, IfOk, MatchOption};
 ghost use Rattle.std.specs.Cow.{cow_slice_items};
 ghost use Rattle.gixobj_lines.specs.Lines.{header_line, line_view};
 ghost use Rattle.gixobj_tokens.specs.Extracting.{GivesSignature, HasNoSignature, HasSignature, IsNamedLine, RefusesSignature};
-ghost use Rattle.gixobj_verifying.specs.SignedBytes.{signed_bytes};
+ghost use Rattle.gixobj_signature.specs.SignedBytes.{signed_bytes};
 
 use super::CommitRefIter;
 use gixobj_extra_headers::signature_field_name;
-use gixobj_ids::decode::Error;
-use gixobj_ids::hash::Kind;
+use gixobj_hash::decode::Error;
+use gixobj_hash::hash::Kind;
 use gixobj_lines::lines::{Line, State, read_line};
-use gixobj_verifying::signature::SignedData;
+use gixobj_signature::signature::SignedData;
 use std::alloc::Global;
 use std::borrow::CowSlice;
 

@@ -1,16 +1,16 @@
 //! Trees, read whole, and the reader of one entry (gitdatamodel, "trees").
 ghost use Rattle.std.specs.Prelude.{◌≡◌, ◌<◌, IfErr, IfNone, IfOk, IfSome, length, MatchOption, None};
-ghost use Rattle.gixobj_ids.specs.Hash.{hash_len, id_kind};
-ghost use Rattle.gixobj_ids.specs.Hash.Borrowed.{borrowed_id};
+ghost use Rattle.gixobj_hash.specs.Hash.{hash_len, id_kind};
+ghost use Rattle.gixobj_hash.specs.Hash.Borrowed.{borrowed_id};
 ghost use Rattle.gixobj_tree_readers.specs.TreeReading.{BeginsWithEntry, BeginsWithId, BeginsWithNoEntry, IsTreeText, RefusesTreeText};
 ghost use Rattle.gixobj_tree_readers.specs.TreeViews.{entry_view, tree_entries};
 
 use super::{EntryRef, TreeRef};
 use bstr::BStr;
 use gixobj_fields::parse::after_space;
-use gixobj_ids::decode::Error;
-use gixobj_ids::hash::{Kind, oid};
-use gixobj_texts::parse::split_at_byte;
+use gixobj_hash::decode::Error;
+use gixobj_hash::hash::{Kind, oid};
+use gixobj_hash::texts::split_at_byte;
 use gixobj_trees::tree::EntryMode;
 use std::alloc::Global;
 

@@ -4,7 +4,7 @@ ghost use Rattle.gixobj_trees.specs.EntryOrderLaws.{entry_cmp_total, entry_equiv
 ghost use Rattle.gixobj_tree_readers.specs.TreeViews.{entry_view};
 
 use bstr::BStr;
-use gixobj_ids::hash::oid;
+use gixobj_hash::hash::oid;
 use gixobj_trees::tree::EntryMode;
 use gixobj_trees::tree::order::key_order;
 use std::cmp::Ordering;

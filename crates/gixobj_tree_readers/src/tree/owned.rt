@@ -4,7 +4,7 @@ ghost use Rattle.gixobj_tree_readers.specs.TreeViews.{entry_view, tree_entries};
 
 use super::{EntryRef, TreeRef};
 use bstr::{BStr, BString};
-use gixobj_ids::OutOfMemory;
+use gixobj_hash::OutOfMemory;
 use gixobj_trees::tree::{Entry, Tree};
 use std::alloc::Global;
 

@@ -2,7 +2,7 @@
 ghost use Rattle.std.specs.Prelude.{◌≡◌, IfErr, OnOk};
 ghost use Rattle.gixobj_fields.specs.Streams.{Puts};
 ghost use Rattle.gixobj_fields.specs.Writing.{AddsSize, SaysWhy};
-ghost use Rattle.gixobj_texts.specs.Parse.{IsFree};
+ghost use Rattle.gixobj_hash.specs.Texts.{IsFree};
 ghost use Rattle.gixobj_trees.specs.TreeText.{RefusesEntry, entry_text};
 ghost use Rattle.gixobj_tree_readers.specs.TreeViews.{entry_view, tree_entries};
 
@@ -10,7 +10,7 @@ use super::{EntryRef, TreeRef};
 use gixobj_fields::WriteTo;
 use gixobj_fields::encode::Error;
 use gixobj_fields::streams::Sink;
-use gixobj_ids::Kind;
+use gixobj_hash::Kind;
 use gixobj_trees::tree::write::{put_entry, size_with};
 use std::alloc::Global;
 
@@ -18,7 +18,7 @@ use std::alloc::Global;
 ///
 /// A name with a zero byte is refused as `NullbyteInFilename`, after its entry's mode and space.
 impl WriteTo for TreeRef<'_> {
-    ghost use Rattle.gixobj_ids.specs.declared.kind.Kind.TheVariants as kind;
+    ghost use Rattle.gixobj_hash.specs.declared.kind.Kind.TheVariants as kind;
     ghost use Rattle.gixobj_trees.specs.TreeText.{RefusesTree, tree_text};
 
     ghost object_kind = { λ _. kind.Tree };

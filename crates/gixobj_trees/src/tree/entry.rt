@@ -10,7 +10,7 @@ ghost use Rattle.gixobj_trees.specs.EntryOrderLaws.{entry_cmp_total, entry_equiv
 use super::EntryMode;
 use super::order::key_order;
 use bstr::BString;
-use gixobj_ids::hash::ObjectId;
+use gixobj_hash::hash::ObjectId;
 use std::cmp::Ordering;
 use std::hash::{Hash, Hasher};
 use std::marker::Model;

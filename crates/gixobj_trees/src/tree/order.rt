@@ -4,8 +4,8 @@ ghost use Rattle.std.specs.Int.{from_be_bytes, w64};
 ghost use Rattle.std.specs.Cmp.Lexicographic.{slice_cmp};
 ghost use Rattle.std.specs.Ordering.{nat_cmp};
 ghost use Rattle.gixobj_trees.specs.Entries.{key_of, name_cmp, next_byte};
-ghost use Rattle.gixobj_texts.specs.Parse.{IsFree};
-ghost use Rattle.gixobj_texts.specs.Bytes.{slash};
+ghost use Rattle.gixobj_hash.specs.Texts.{IsFree};
+ghost use Rattle.gixobj_hash.specs.Bytes.{slash};
 
 use std::cmp::Ordering;
 

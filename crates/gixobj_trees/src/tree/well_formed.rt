@@ -4,7 +4,7 @@ ghost use Rattle.gixobj_trees.specs.Entries.{ComesBefore, EachLater, IsEntryName
 ghost use Rattle.gixobj_trees.specs.WellFormed.{AreApart, HasKey, HasNamesake, HaveEntryNames};
 
 use super::{Entry, Tree};
-use gixobj_texts::parse::has_byte;
+use gixobj_hash::texts::has_byte;
 
 impl Tree {
     /// Whether each name is filled and without `/`, no name stands twice, and the entries ascend by

@@ -1,8 +1,8 @@
 //! Trees, written (gitdatamodel, "trees").
 ghost use Rattle.std.specs.Prelude.{◌≡◌, ◌<◌, ◌+◌, ◌^◌, length, IfErr, OnOk};
 ghost use Rattle.std.specs.Option.{SomeIff};
-ghost use Rattle.gixobj_ids.specs.Hash.Borrowed.{borrowed_id};
-ghost use Rattle.gixobj_texts.specs.Parse.{IsFree};
+ghost use Rattle.gixobj_hash.specs.Hash.Borrowed.{borrowed_id};
+ghost use Rattle.gixobj_hash.specs.Texts.{IsFree};
 ghost use Rattle.gixobj_trees.specs.Entries.{entry_of};
 ghost use Rattle.gixobj_trees.specs.Mode.{mode_bits};
 ghost use Rattle.gixobj_trees.specs.TreeText.{RefusesEntry, entry_text};
@@ -14,9 +14,9 @@ use bstr::BString;
 use gixobj_fields::WriteTo;
 use gixobj_fields::encode::Error;
 use gixobj_fields::streams::{Sink, put_parts};
-use gixobj_ids::Kind;
-use gixobj_ids::hash::oid;
-use gixobj_texts::parse::has_byte;
+use gixobj_hash::Kind;
+use gixobj_hash::hash::oid;
+use gixobj_hash::texts::has_byte;
 use std::alloc::Global;
 
 /// A tree is written as its entries in the order in which they stand, whatever that is.
@@ -24,7 +24,7 @@ use std::alloc::Global;
 /// A name with a zero byte is refused as `NullbyteInFilename`, after its entry's mode and space.
 impl WriteTo for Tree {
     ghost use Rattle.gixobj_trees.specs.TreeText.{RefusesTree, tree_text};
-    ghost use Rattle.gixobj_ids.specs.declared.kind.Kind.TheVariants as kind;
+    ghost use Rattle.gixobj_hash.specs.declared.kind.Kind.TheVariants as kind;
 
     ghost object_kind = { λ _. kind.Tree };
 

@@ -3,7 +3,7 @@ use Rattle.std.proofs.lemmas.Result.{IfOk-weaker}
 use Rattle.gixobj_base.specs.Entries.{EntryView}
 use Rattle.gixobj_base.specs.Hash.{id_kind, id_of}
 use Rattle.gixobj_base.specs.Mode.{is_tree_mode}
-use Rattle.gixobj_base.specs.ids.kind.Kind.TheVariants.{Tree}
+use Rattle.gixobj_base.specs.hash.kind.Kind.TheVariants.{Tree}
 use Rattle.gixobj_files.specs.Files.{is_null}
 use Rattle.gix_object_tests.proofs.Listings.{below_empty, below_file, below_null, below_tree, below_unknown, empty_tested_at, entry_added, filled_tested_at, first_tested_at, null_tested_at, tree_tested_at}
 use Rattle.gix_object_tests.proofs.listing.+listing.Goals as goal

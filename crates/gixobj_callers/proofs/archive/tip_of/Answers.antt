@@ -1,6 +1,6 @@
 -- What was imported last of the list.
 use Rattle.std.proofs.Common.{None, subst}
-use Rattle.gixobj_base.specs.ids.hash.kind.Kind.{Kind}
+use Rattle.gixobj_base.specs.hash.hash.kind.Kind.{Kind}
 use Rattle.gixobj_callers.proofs.Tips.{is_tip_taken, none_of_none}
 use Rattle.gixobj_callers.proofs.archive.tip_of.Goals as goal
 use Rattle.gixobj_import.specs.Imports.{AreCommitsOf, HaveFilesOfNothing}

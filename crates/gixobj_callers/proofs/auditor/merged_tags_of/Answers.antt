@@ -1,8 +1,8 @@
 use Rattle.std.proofs.Common.{◌≡◌, ℕ, List, Result, ap, subst, sym, ◌∙◌}
 use Rattle.std.specs.List.{AllZip}
 use Rattle.std.specs.Prelude.{codes}
-use Rattle.gixobj_base.specs.ids.decode.Error.{Error}
-use Rattle.gixobj_base.specs.ids.hash.kind.Kind.{Kind}
+use Rattle.gixobj_base.specs.hash.decode.Error.{Error}
+use Rattle.gixobj_base.specs.hash.hash.kind.Kind.{Kind}
 use Rattle.gixobj_codec.specs.CommitViews.{commit_lines}
 use Rattle.gixobj_codec.specs.ExtraHeaders.{hash_kind_of, searched, values_named}
 use Rattle.gixobj_codec.specs.HeadersLeft.{headers_left}

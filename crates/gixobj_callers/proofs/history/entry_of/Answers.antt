@@ -1,7 +1,7 @@
 use Rattle.std.proofs.Common.{Some, map, subst}
 use Rattle.bstr.specs.Owned.{bstring_bytes}
-use Rattle.gixobj_base.specs.ids.hash.object_id.ObjectId.{ObjectId}
-use Rattle.gixobj_base.specs.ids.kind.Kind.TheVariants.{Tree}
+use Rattle.gixobj_base.specs.hash.hash.object_id.ObjectId.{ObjectId}
+use Rattle.gixobj_base.specs.hash.kind.Kind.TheVariants.{Tree}
 use Rattle.gixobj_codec.specs.CommitViews.{commit_lines}
 use Rattle.gixobj_codec.specs.Lookups.{IsAtPath, RefusesPath}
 use Rattle.gixobj_codec.specs.Stores.{Names, StoredObject}

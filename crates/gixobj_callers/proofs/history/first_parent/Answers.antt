@@ -1,5 +1,5 @@
 use Rattle.std.proofs.Common.{refl, subst}
-use Rattle.gixobj_base.specs.ids.hash.object_id.ObjectId.{ObjectId}
+use Rattle.gixobj_base.specs.hash.hash.object_id.ObjectId.{ObjectId}
 use Rattle.gixobj_codec.specs.CommitViews.{commit_lines}
 use Rattle.gixobj_codec.specs.ParentsLeft.{parents_left}
 use Rattle.gixobj_callers.proofs.Commits.{first_spelled, none_spelled}

@@ -2,7 +2,7 @@
 use Rattle.std.proofs.Common.{List, Result}
 use Rattle.std.specs.Fn.{FnReturnsAt}
 use Rattle.gixobj_base.specs.Entries.{EntryView}
-use Rattle.gixobj_base.specs.ids.hash.object_id.ObjectId.{ObjectId}
+use Rattle.gixobj_base.specs.hash.hash.object_id.ObjectId.{ObjectId}
 use Rattle.gixobj_callers.proofs.Imported.{all_kept, bases_left, files_left, named_files, write_done}
 use Rattle.gixobj_callers.proofs.importer.import_files.Goals as goal
 use Rattle.gixobj_runs.specs.Replies.{Meaning}

@@ -1,6 +1,6 @@
 use Rattle.std.proofs.Common.{◌++◌, ◌∷◌, Result, Some, [], subst}
 use Rattle.gixobj_base.specs.Runs.{broken, complete}
-use Rattle.gixobj_base.specs.ids.decode.Error.{Error}
+use Rattle.gixobj_base.specs.hash.decode.Error.{Error}
 use Rattle.gixobj_callers.proofs.planner.is_tree.Goals as goal
 use Rattle.gixobj_codec.specs.EntryGiving.{GivesEntry}
 use Rattle.gixobj_codec.specs.TreeViews.{entry_view}

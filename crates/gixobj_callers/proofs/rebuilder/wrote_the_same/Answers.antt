@@ -2,7 +2,7 @@
 use Rattle.std.proofs.Common.{◌∙◌, ◌≡◌, List, [], Result, ap, subst}
 use Rattle.std.specs.Fn.{FnReturnsAt}
 use Rattle.gixobj_base.specs.Entries.{EntryView}
-use Rattle.gixobj_base.specs.ids.hash.object_id.ObjectId.{ObjectId}
+use Rattle.gixobj_base.specs.hash.hash.object_id.ObjectId.{ObjectId}
 use Rattle.gixobj_callers.proofs.Planned.{is_started}
 use Rattle.gixobj_callers.proofs.Rebuilt.{is_told, none_at_first, none_at_second}
 use Rattle.gixobj_callers.proofs.rebuilder.wrote_the_same.Goals as goal

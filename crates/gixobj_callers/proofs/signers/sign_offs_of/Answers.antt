@@ -1,6 +1,6 @@
 use Rattle.std.proofs.Common.{◌≡◌, ◌∙◌, List, None, Ok, Option, Result, ap, filter, map, subst}
 use Rattle.std.specs.Iterator.{Yields}
-use Rattle.gixobj_base.specs.ids.memory.OutOfMemory.{OutOfMemory}
+use Rattle.gixobj_base.specs.hash.memory.OutOfMemory.{OutOfMemory}
 use Rattle.gixobj_codec.specs.Filters.{GivesKept, all_of, filter_of, is_kept, kept_left}
 use Rattle.gixobj_codec.specs.GivingTrailers.{trailer_view, trailers_left}
 use Rattle.gixobj_codec.specs.text.commit.message.body.filters.Filter.{Filter}

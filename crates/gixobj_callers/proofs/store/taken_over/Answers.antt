@@ -1,6 +1,6 @@
 use Rattle.std.proofs.Common.{Some, ap, subst}
 use Rattle.gixobj_base.specs.Streams.{list_view}
-use Rattle.gixobj_base.specs.ids.hash.kind.Kind.{Kind}
+use Rattle.gixobj_base.specs.hash.hash.kind.Kind.{Kind}
 use Rattle.gixobj_codec.specs.LooseObjects.{IsLooseObject}
 use Rattle.gixobj_callers.proofs.store.taken_over.Goals as goal
 

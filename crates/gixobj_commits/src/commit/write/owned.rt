@@ -2,12 +2,12 @@
 
 use super::super::Commit;
 use super::{ids_size, put_ids, put_rest, size_with_rest};
-use gixobj_actors::encode::{size_with_signature, trusted_header_signature};
+use gixobj_actor::encode::{size_with_signature, trusted_header_signature};
 use gixobj_fields::WriteTo;
 use gixobj_fields::encode::Error;
 use gixobj_fields::streams::Sink;
-use gixobj_ids::Kind;
-use gixobj_texts::optional::borrowed;
+use gixobj_hash::Kind;
+use gixobj_hash::optional::borrowed;
 use std::alloc::Global;
 
 /// A commit is written with its actors and their times as these are written.
@@ -16,7 +16,7 @@ use std::alloc::Global;
 /// `author` and a space, and so is a committer behind `committer` and a space. An empty encoding is
 /// refused as `EmptyValue`, and one with a newline as `NewlineInHeaderValue`, before any byte of its line.
 impl WriteTo for Commit {
-    ghost use Rattle.gixobj_ids.specs.declared.kind.Kind.TheVariants as kind;
+    ghost use Rattle.gixobj_hash.specs.declared.kind.Kind.TheVariants as kind;
     ghost use Rattle.gixobj_commits.specs.CommitViews.{owned_lines};
     ghost use Rattle.gixobj_commits.specs.CommitWriting.{RefusesOwned, commit_text};
 

@@ -1,6 +1,6 @@
 use Rattle.std.specs.FinMap as finite
 use Rattle.gixobj_data.proofs.Keeping as law
-use Rattle.gixobj_ids.specs.Hash.Order.{id_cmp}
+use Rattle.gixobj_hash.specs.Hash.Order.{id_cmp}
 use Rattle.gixobj_data.proofs.laws.an_object_is_put_in.Goals as goal
 
 pub returns-clause-nothing : goal.returns-clause-nothing

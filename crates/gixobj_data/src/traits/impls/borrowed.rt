@@ -3,8 +3,8 @@
 use crate::data::Data;
 use crate::find::Error;
 use crate::traits::{Exists, Find, FindHeader, Store};
-use gixobj_ids::Header;
-use gixobj_ids::hash::oid;
+use gixobj_hash::Header;
+use gixobj_hash::hash::oid;
 
 impl<T: Store> Store for &T {
     ghost objects = { λ store. T.objects store.now };

@@ -1,7 +1,7 @@
 use Rattle.std.proofs.Common.{ap, subst}
 use Rattle.gixobj_files.specs.HandingOut.{HandsOutSome}
 use Rattle.gixobj_files.specs.State.{open_bases, open_dirs}
-use Rattle.gixobj_ids.specs.declared.hash.kind.Kind.{Kind}
+use Rattle.gixobj_hash.specs.declared.hash.kind.Kind.{Kind}
 use Rattle.gixobj_import.specs.Edited.{Digests}
 use Rattle.gixobj_import.proofs.Calling.{stopped, written}
 use Rattle.gixobj_import.proofs.written.write_by_digests.Goals as goal

@@ -2,12 +2,12 @@
 ghost use Rattle.std.specs.Prelude.{◌≡◌, IfErr, IfOk, None, Ok, false};
 ghost use Rattle.std.specs.FinMap as map;
 ghost use Rattle.gixobj_data.specs.Stores.{IsHeaderFound, RefusesFind};
-ghost use Rattle.gixobj_ids.specs.Hash.Borrowed.{borrowed_id};
+ghost use Rattle.gixobj_hash.specs.Hash.Borrowed.{borrowed_id};
 
 use super::Never;
 use gixobj_data::{FindHeader, find};
-use gixobj_ids::Header;
-use gixobj_ids::hash::oid;
+use gixobj_hash::Header;
+use gixobj_hash::hash::oid;
 
 /// It finds none, and takes no memory.
 impl FindHeader for Never {

@@ -1,8 +1,8 @@
 //! What is written into the store that has nothing.
 ghost use Rattle.std.specs.Prelude.{◌≡◌, IfErr, IfOk, Ok, Some, length};
 ghost use Rattle.gixobj_fields.specs.StreamHash.{ReadsObject, SkipsExactly};
-ghost use Rattle.gixobj_ids.specs.Hash.{id_of};
-ghost use Rattle.gixobj_ids.specs.declared.hash.kind.Kind.TheVariants.{Sha1};
+ghost use Rattle.gixobj_hash.specs.Hash.{id_of};
+ghost use Rattle.gixobj_hash.specs.declared.hash.kind.Kind.TheVariants.{Sha1};
 ghost use Rattle.gixobj_lookups.specs.Nothing.{AnswersId, AnswersKnownId, RefusesRead};
 ghost use Rattle.gixobj_lookups.specs.Writers.{CannotEncode, IsWritten};
 
@@ -11,8 +11,8 @@ use crate::traits::Write;
 use crate::write::Error;
 use gixobj_fields::WriteTo;
 use gixobj_fields::stream_hash::{compute_stream_hash, skip_stream};
-use gixobj_ids::hash::ObjectId;
-use gixobj_ids::{Kind, compute_hash, hash};
+use gixobj_hash::hash::ObjectId;
+use gixobj_hash::{Kind, compute_hash, hash};
 use std::alloc::Global;
 use std::io::Read;
 

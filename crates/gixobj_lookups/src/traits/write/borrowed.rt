@@ -3,8 +3,8 @@
 use crate::traits::Write;
 use crate::write::Error;
 use gixobj_fields::WriteTo;
-use gixobj_ids::Kind;
-use gixobj_ids::hash::ObjectId;
+use gixobj_hash::Kind;
+use gixobj_hash::hash::ObjectId;
 use std::alloc::Global;
 use std::io::Read;
 

@@ -1,7 +1,7 @@
 use Rattle.std.proofs.Common.{length, List, arith, ap, refl, Result, subst, ◌∙◌}
 use Rattle.std.specs.Fn.{FnReturnsAt}
 use Rattle.gixobj_files.specs.Files.{Path}
-use Rattle.gixobj_ids.specs.declared.hash.object_id.ObjectId.{ObjectId}
+use Rattle.gixobj_hash.specs.declared.hash.object_id.ObjectId.{ObjectId}
 use Rattle.gixobj_trees.specs.Entries.{EntryView}
 use Rattle.gixobj_runs.specs.Commands.{at_cursor}
 use Rattle.gixobj_runs.specs.Replies.{IsEditReply, Meaning}

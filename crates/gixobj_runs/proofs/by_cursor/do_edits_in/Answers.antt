@@ -7,7 +7,7 @@ use Rattle.gixobj_editor.specs.Upserts.{IsForAName, IsRefused}
 use Rattle.gixobj_files.specs.Files.{Trees}
 use Rattle.gixobj_files.specs.State.{State}
 use Rattle.gixobj_files.specs.Unopened.{inside}
-use Rattle.gixobj_ids.specs.declared.hash.object_id.ObjectId.{ObjectId}
+use Rattle.gixobj_hash.specs.declared.hash.object_id.ObjectId.{ObjectId}
 use Rattle.gixobj_trees.specs.Entries.{EntryView}
 use Rattle.gixobj_runs.specs.Replies.{IsReplyAt, Meaning}
 use Rattle.gixobj_runs.specs.declared.reply.Reply.TheVariants as reply

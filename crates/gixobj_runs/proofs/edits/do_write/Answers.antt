@@ -2,7 +2,7 @@ use Rattle.std.proofs.Common.{List, Result, ap, refl}
 use Rattle.std.specs.Fn.{FnReturnsAt}
 use Rattle.gixobj_files.specs.HandingOut.{HandsOutSome}
 use Rattle.gixobj_files.specs.State.{State, open_bases, open_dirs}
-use Rattle.gixobj_ids.specs.declared.hash.object_id.ObjectId.{ObjectId}
+use Rattle.gixobj_hash.specs.declared.hash.object_id.ObjectId.{ObjectId}
 use Rattle.gixobj_trees.specs.Entries.{EntryView}
 use Rattle.gixobj_runs.specs.Commands.{at_root}
 use Rattle.gixobj_runs.specs.Replies.{Meaning}

@@ -1,4 +1,4 @@
-use Rattle.gixobj_ids.specs.Hash.{id_kind}
+use Rattle.gixobj_hash.specs.Hash.{id_kind}
 use Rattle.gixobj_trees.specs.TreeText.{tree_text}
 use Rattle.gixobj_runs.proofs.laws.trees_read_as_themselves.Goals as goal
 

@@ -1,5 +1,5 @@
 use Rattle.std.proofs.Common.{ap, length, subst, sym, ◌∙◌}
-use Rattle.gixobj_ids.specs.Hash.{hex_text}
+use Rattle.gixobj_hash.specs.Hash.{hex_text}
 use Rattle.hex.specs.Hex.{IsBytes}
 use Rattle.gixobj_signed.proofs.OwnedFields.{digits_have_one_line}
 use Rattle.gixobj_signed.proofs.one_line.id_has_one_line.Goals as goal

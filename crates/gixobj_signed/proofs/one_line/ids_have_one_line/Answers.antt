@@ -1,10 +1,10 @@
 use Rattle.std.proofs.Common.{All, subst, sym, take}
 use Rattle.std.proofs.lemmas.List.{take_all, take_more}
 use Rattle.std.proofs.lemmas.List.Elements.{All-push}
-use Rattle.gixobj_ids.specs.Hash.{hex_text}
-use Rattle.gixobj_ids.specs.declared.hash.object_id.ObjectId.{ObjectId}
-use Rattle.gixobj_texts.specs.Bytes.{newline}
-use Rattle.gixobj_texts.specs.Parse.{IsFree}
+use Rattle.gixobj_hash.specs.Hash.{hex_text}
+use Rattle.gixobj_hash.specs.declared.hash.object_id.ObjectId.{ObjectId}
+use Rattle.gixobj_hash.specs.Bytes.{newline}
+use Rattle.gixobj_hash.specs.Texts.{IsFree}
 use Rattle.gixobj_signed.proofs.one_line.ids_have_one_line.Goals as goal
 
 HasOneLine : ObjectId → Type 0

@@ -1,7 +1,7 @@
 use Rattle.std.proofs.Common.{All, take}
-use Rattle.gixobj_ids.specs.Hash.{hex_text}
-use Rattle.gixobj_texts.specs.Bytes.{newline}
-use Rattle.gixobj_texts.specs.Parse.{IsFree}
+use Rattle.gixobj_hash.specs.Hash.{hex_text}
+use Rattle.gixobj_hash.specs.Bytes.{newline}
+use Rattle.gixobj_hash.specs.Texts.{IsFree}
 use Rattle.gixobj_signed.proofs.one_line.ids_have_one_line.Given as goal
 
 -- each id so far has a hex text of one line

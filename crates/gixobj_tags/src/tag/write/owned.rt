@@ -4,8 +4,8 @@ use super::super::Tag;
 use super::{put_tag, tag_size};
 use gixobj_fields::streams::Sink;
 use gixobj_fields::{WriteTo, encode};
-use gixobj_ids::Kind;
-use gixobj_texts::optional::borrowed;
+use gixobj_hash::Kind;
+use gixobj_hash::optional::borrowed;
 use std::alloc::Global;
 
 /// A tag is written with its tagger and the time as these are written.
@@ -14,7 +14,7 @@ use std::alloc::Global;
 /// before any byte of its line. A tagger whose name or email has a `<`, a `>` or a newline is refused as
 /// `IllegalActor` behind `tagger` and a space. It takes no memory.
 impl WriteTo for Tag {
-    ghost use Rattle.gixobj_ids.specs.declared.kind.Kind.TheVariants as kind;
+    ghost use Rattle.gixobj_hash.specs.declared.kind.Kind.TheVariants as kind;
     ghost use Rattle.gixobj_tags.specs.TagViews.{owned_lines};
     ghost use Rattle.gixobj_tags.specs.TagWriting.{RefusesOwned, tag_text};
 

@@ -8,7 +8,7 @@ ghost use Rattle.gixobj_text.specs.Summing.{is_of_lines};
 ghost use Rattle.gixobj_text.specs.Titles.{is_trailing_space as is_trailing_space_of, pieces_of, summary_of, summary_of_pieces, without_trailing as without_trailing_of};
 
 use bstr::ByteSlice;
-use gixobj_ids::memory::OutOfMemory;
+use gixobj_hash::memory::OutOfMemory;
 use std::alloc::{AllocError, Global};
 use std::borrow::CowSlice;
 

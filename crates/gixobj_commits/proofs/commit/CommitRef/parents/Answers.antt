@@ -1,6 +1,6 @@
 use Rattle.std.proofs.Common.{arith}
 use Rattle.std.proofs.lemmas.Grind.{common_steps}
-use Rattle.gixobj_ids.proofs.HexIds.{all_spelled}
+use Rattle.gixobj_hash.proofs.HexIds.{all_spelled}
 use Rattle.gixobj_commits.proofs.commit.CommitRef.parents.Goals as goal
 
 pub returns : goal.returns

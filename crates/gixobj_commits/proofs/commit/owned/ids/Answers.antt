@@ -1,7 +1,7 @@
 use Rattle.std.proofs.Common.{arith, map}
 use Rattle.std.proofs.lemmas.Grind.{common_steps}
 use Rattle.bstr.specs.BStr.{bstr_bytes}
-use Rattle.gixobj_ids.proofs.HexIds.{all_spelled}
+use Rattle.gixobj_hash.proofs.HexIds.{all_spelled}
 use Rattle.gixobj_extra_headers.proofs.ParentHexes.{id_at}
 use Rattle.gixobj_commits.proofs.commit.owned.ids.Goals as goal
 

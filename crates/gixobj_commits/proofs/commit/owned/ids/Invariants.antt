@@ -1,6 +1,6 @@
 use Rattle.std.proofs.Common.{◌≡◌, map, take}
 use Rattle.bstr.specs.BStr.{bstr_bytes}
-use Rattle.gixobj_ids.specs.Hash.Hex.{spelled_id}
+use Rattle.gixobj_hash.specs.Hash.Hex.{spelled_id}
 use Rattle.gixobj_commits.proofs.commit.owned.ids.Given as goal
 
 abbrev pub invariant-loop-hex : goal.invariant-loop-hex

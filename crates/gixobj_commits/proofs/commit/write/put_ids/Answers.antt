@@ -2,7 +2,7 @@
 use Rattle.std.proofs.Common.{codes}
 use Rattle.std.specs.List.{flat_map}
 use Rattle.std.proofs.lemmas.Result.{MatchResult-from_err}
-use Rattle.gixobj_ids.specs.Hash.{hex_text}
+use Rattle.gixobj_hash.specs.Hash.{hex_text}
 use Rattle.gixobj_fields.proofs.Puts.{front_first, puts_or_fails_more}
 use Rattle.gixobj_fields.specs.HeaderText.{field_text}
 use Rattle.gixobj_commits.proofs.commit.write.put_ids.Goals as goal

@@ -6,7 +6,7 @@ use Rattle.std.proofs.lemmas.Result.{err_from_is_err_and}
 use Rattle.gixobj_fields.proofs.Puts.{front_first, front_more, puts_more}
 use Rattle.gixobj_fields.proofs.Refusals.{says_why_longer}
 use Rattle.gixobj_lines.specs.Commit.{encoding_text}
-use Rattle.gixobj_texts.specs.Optional.{bytes_if_some}
+use Rattle.gixobj_hash.specs.Optional.{bytes_if_some}
 use Rattle.gixobj_commits.specs.CommitWriting.{RefusesEncodingLine}
 use Rattle.gixobj_commits.proofs.commit.write.put_rest.Goals as goal
 

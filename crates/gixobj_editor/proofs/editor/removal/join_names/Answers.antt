@@ -3,7 +3,7 @@ use Rattle.std.proofs.Common.{◌∙◌, ◌∷◌, [], ap, map, sym}
 use Rattle.std.proofs.lemmas.Iterator.{YieldsList-from_slice, items_from_drains}
 use Rattle.std.proofs.lemmas.Simd.{map-map}
 use Rattle.bstr.specs.Owned.{bstring_bytes, joined}
-use Rattle.gixobj_texts.specs.Bytes.{slash}
+use Rattle.gixobj_hash.specs.Bytes.{slash}
 use Rattle.gixobj_editor.proofs.editor.removal.join_names.Goals as goal
 
 pub returns : goal.returns

@@ -7,10 +7,10 @@ use Rattle.gixobj_fields.proofs.Puts.{puts_more}
 use Rattle.gixobj_fields.proofs.Refusals.{says_why_behind}
 use Rattle.gixobj_fields.proofs.Steps.{all_put, first_front, fourth_front, second_front, third_front}
 use Rattle.gixobj_fields.specs.HeaderText.{field_text}
-use Rattle.gixobj_ids.specs.Kind.{kind_word}
+use Rattle.gixobj_hash.specs.Kind.{kind_word}
 use Rattle.gixobj_tags.proofs.TagWrites.{name_refused, tagger_refused}
 use Rattle.gixobj_tags.specs.TagWriting.{RefusesNameLine, RefusesParts, body_text}
-use Rattle.gixobj_texts.specs.Optional.{bytes_if_some}
+use Rattle.gixobj_hash.specs.Optional.{bytes_if_some}
 use Rattle.gixobj_tags.proofs.tag.write.put_tag.Goals as goal
 
 pub returns-in_err-put_target-clause-refusal : goal.returns-in_err-put_target-clause-refusal

@@ -1,7 +1,7 @@
 use Rattle.std.proofs.Common.{ℕ, List, Option, None, subst}
 use Rattle.bstr.specs.BStr.{bstr_bytes}
 use Rattle.bstr.specs.declared.bstr.BStr.{BStr}
-use Rattle.gixobj_texts.specs.Optional.{bytes_if_some}
+use Rattle.gixobj_hash.specs.Optional.{bytes_if_some}
 use Rattle.gixobj_text.specs.GivingTrailers.{text_left}
 use Rattle.gixobj_text.specs.Titles.{SplitsTitle}
 use Rattle.gixobj_text.proofs.Reading.{none_left}

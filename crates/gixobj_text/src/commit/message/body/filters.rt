@@ -5,7 +5,7 @@ ghost use Rattle.gixobj_text.specs.declared.commit.message.body.filters.Filter.T
 ghost use Rattle.gixobj_text.specs.Filters.{GivesKept, all_of, count_of_kept, filter_of, is_kept};
 
 use crate::commit::message::body::trailers::{TrailerRef, Trailers};
-use gixobj_ids::memory::OutOfMemory;
+use gixobj_hash::memory::OutOfMemory;
 
 /// Which trailers are kept.
 #[derive(Clone, Copy, Debug, PartialEq, Eq)]

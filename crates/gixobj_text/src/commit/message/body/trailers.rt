@@ -13,7 +13,7 @@ use crate::commit::message::body::lines::{is_blank_line, line_text, split_line};
 use crate::commit::message::body::run::is_indented;
 use crate::commit::message::body::trailer_lines::parts_of_text;
 use bstr::{BStr, ByteSlice};
-use gixobj_ids::memory::OutOfMemory;
+use gixobj_hash::memory::OutOfMemory;
 use std::alloc::{AllocError, Global};
 use std::borrow::CowSlice;
 

@@ -1,5 +1,5 @@
 use Rattle.std.proofs.Common.{List, ℕ, subst, sym}
-use Rattle.gixobj_ids.specs.Hash.Borrowed.{borrowed_id}
+use Rattle.gixobj_hash.specs.Hash.Borrowed.{borrowed_id}
 use Rattle.gixobj_trees.specs.Entries.{entry_of}
 use Rattle.gixobj_trees.specs.Mode.{mode_bits}
 use Rattle.gixobj_tree_readers.proofs.OneEntry.{entry_of_parts, no_id, no_mode, no_name, no_space}

@@ -1,6 +1,6 @@
 use Rattle.std.proofs.Common.{◌≡◌, true, rules}
 use Rattle.std.specs.List.{AllPass}
-use Rattle.gixobj_texts.proofs.Digits.{AllDigits-from_pass, is_octal, octal_from_test, pass-from_AllDigits, test_from_octal}
+use Rattle.gixobj_hash.proofs.Digits.{AllDigits-from_pass, is_octal, octal_from_test, pass-from_AllDigits, test_from_octal}
 use Rattle.gixobj_trees.proofs.tree.entry_mode.are_octal.Goals as goal
 
 pub returns : goal.returns

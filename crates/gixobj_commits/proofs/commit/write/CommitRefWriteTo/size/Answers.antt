@@ -1,6 +1,6 @@
 -- The parts of the commit's text are counted one after the other.
-use Rattle.gixobj_ids.proofs.HexIds.{spelled}
-use Rattle.gixobj_ids.specs.Hash.Hex.{spelled_id}
+use Rattle.gixobj_hash.proofs.HexIds.{spelled}
+use Rattle.gixobj_hash.specs.Hash.Hex.{spelled_id}
 use Rattle.bstr.specs.BStr.{bstr_bytes}
 use Rattle.std.proofs.Common.{◌^◌}
 use Rattle.gixobj_commits.proofs.CommitWrites.{borrowed_as_put}

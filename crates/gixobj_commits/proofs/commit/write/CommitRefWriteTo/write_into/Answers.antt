@@ -1,14 +1,14 @@
 -- The parts of the commit's text are written one after the other.
-use Rattle.gixobj_ids.proofs.HexIds.{spelled}
-use Rattle.gixobj_ids.specs.Hash.Hex.{spelled_id}
+use Rattle.gixobj_hash.proofs.HexIds.{spelled}
+use Rattle.gixobj_hash.specs.Hash.Hex.{spelled_id}
 use Rattle.std.proofs.lemmas.Result.{err_from_is_err_and}
 use Rattle.bstr.specs.BStr.{bstr_bytes}
 use Rattle.gixobj_fields.proofs.Refusals.{says_why_behind}
-use Rattle.gixobj_ids.specs.Hash.{IsHexOfAnId}
+use Rattle.gixobj_hash.specs.Hash.{IsHexOfAnId}
 use Rattle.gixobj_commits.proofs.CommitWrites.{borrowed_as_put, borrowed_refused, each_mapped}
 use Rattle.gixobj_fields.proofs.Steps.{all_put, first_front, fourth_front, second_front, third_front, three_put}
 use Rattle.gixobj_commits.specs.CommitViews.{commit_lines}
-use Rattle.gixobj_texts.specs.Optional.{bytes_if_some}
+use Rattle.gixobj_hash.specs.Optional.{bytes_if_some}
 use Rattle.gixobj_commits.specs.CommitWriting.{RefusesLines, in_lower_case, RefusesEncodingLine}
 use Rattle.gixobj_commits.proofs.commit.write.CommitRefWriteTo.write_into.Goals as goal
 

@@ -5,9 +5,9 @@ use Rattle.gixobj_fields.proofs.Puts.{puts_more}
 use Rattle.gixobj_fields.proofs.Refusals.{says_why_behind}
 use Rattle.gixobj_commits.proofs.CommitWrites.{owned_as_put, owned_author_refused, owned_committer_refused, owned_encoding_refused, owned_not_refused}
 use Rattle.gixobj_fields.proofs.Steps.{all_put, first_front, fourth_front, second_front, third_front, three_put}
-use Rattle.gixobj_texts.specs.Optional.{bytes_if_some}
+use Rattle.gixobj_hash.specs.Optional.{bytes_if_some}
 use Rattle.gixobj_commits.specs.CommitWriting.{RefusesOwned, RefusesEncodingLine}
-use Rattle.gixobj_actors.specs.ActorWriting.{RefusesSignature}
+use Rattle.gixobj_actor.specs.ActorWriting.{RefusesSignature}
 use Rattle.gixobj_commits.proofs.commit.write.owned.CommitWriteTo.write_into.Goals as goal
 
 pub returns-in_err-put_ids-clause-refusal : goal.returns-in_err-put_ids-clause-refusal

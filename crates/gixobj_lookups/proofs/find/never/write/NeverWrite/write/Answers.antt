@@ -1,7 +1,7 @@
 use Rattle.std.proofs.Common.{rules, ◌≡◌, Ok, Some, inl, length, subst, sym}
-use Rattle.gixobj_ids.specs.Hash.{id_of}
-use Rattle.gixobj_ids.specs.declared.hash.kind.Kind.TheVariants.{Sha1}
-use Rattle.gixobj_ids.specs.declared.hash.object_id.ObjectId.{ObjectId}
+use Rattle.gixobj_hash.specs.Hash.{id_of}
+use Rattle.gixobj_hash.specs.declared.hash.kind.Kind.TheVariants.{Sha1}
+use Rattle.gixobj_hash.specs.declared.hash.object_id.ObjectId.{ObjectId}
 use Rattle.gixobj_lookups.proofs.Nothing.{answers_whole}
 use Rattle.gixobj_lookups.specs.Nothing.{AnswersId}
 use Rattle.gixobj_lookups.proofs.find.never.write.NeverWrite.write.Goals as goal

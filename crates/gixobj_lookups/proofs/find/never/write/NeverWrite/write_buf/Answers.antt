@@ -1,5 +1,5 @@
 use Rattle.std.proofs.Common.{Ok, Some, length, subst, sym}
-use Rattle.gixobj_ids.specs.declared.hash.object_id.ObjectId.{ObjectId}
+use Rattle.gixobj_hash.specs.declared.hash.object_id.ObjectId.{ObjectId}
 use Rattle.gixobj_lookups.proofs.Nothing.{answers_whole}
 use Rattle.gixobj_lookups.specs.Nothing.{AnswersId}
 use Rattle.gixobj_lookups.proofs.find.never.write.NeverWrite.write_buf.Goals as goal

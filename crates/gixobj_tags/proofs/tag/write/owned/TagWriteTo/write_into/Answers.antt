@@ -7,7 +7,7 @@ use Rattle.gixobj_fields.specs.Writing.{RefusesNothing, SaysWhy}
 use Rattle.gixobj_tags.specs.TagText.{tagger_text, target_text}
 use Rattle.gixobj_tags.specs.TagViews.{owned_lines}
 use Rattle.gixobj_tags.specs.TagWriting.{RefusesParts, RefusesTagger, body_text}
-use Rattle.gixobj_texts.specs.Optional.{bytes_if_some}
+use Rattle.gixobj_hash.specs.Optional.{bytes_if_some}
 use Rattle.gixobj_tags.proofs.tag.write.owned.TagWriteTo.write_into.Goals as goal
 
 pub returns-clause-nothing_refused : goal.returns-clause-nothing_refused

@@ -1,0 +1,5 @@
+pub mod ActorLines
+mod ActorTexts
+pub mod OwnedActors
+pub mod SignatureFields
+mod TimeTexts

@@ -1,0 +1,16 @@
+-- A text without a space is none of a time; else its two parts are those at the first space.
+use Rattle.gixobj_actor.proofs.TimeTexts.{spaceless_is_no_time, time_parts}
+use Rattle.gixobj_actor.proofs.date.parse_header.Goals as goal
+
+pub returns-in_err-seconds-clause-none : goal.returns-in_err-seconds-clause-none
+returns-in_err-seconds-clause-none c = rw c.from_residual.ensures (spaceless_is_no_time _ c.in_err-seconds.ensures.none)
+
+pub returns-in_err-seconds-2-clause-none : goal.returns-in_err-seconds-2-clause-none
+returns-in_err-seconds-2-clause-none c =
+    rw c.from_residual-in_err-seconds-2.ensures (λ seconds offset time.
+    c.in_err-seconds-2.ensures.none seconds (time_parts _ _ _ seconds offset c.in_ok-seconds.ensures.found time).0)
+
+pub returns-in_err-offset-clause-none : goal.returns-in_err-offset-clause-none
+returns-in_err-offset-clause-none c =
+    rw c.from_residual-in_err-offset.ensures (λ seconds offset time.
+    c.in_err-offset.ensures.none offset (time_parts _ _ _ seconds offset c.in_ok-seconds.ensures.found time).1)

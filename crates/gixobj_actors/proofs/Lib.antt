@@ -1,5 +1,0 @@
-pub mod ActorLines
-mod ActorTexts
-pub mod OwnedActors
-mod TimeTexts
-pub mod SignatureFields

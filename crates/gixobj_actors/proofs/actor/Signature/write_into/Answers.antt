@@ -1,5 +1,0 @@
-use Rattle.std.proofs.Common.{rules}
-use Rattle.gixobj_actors.proofs.actor.Signature.write_into.Goals as goal
-
-pub returns-clause-refusal : goal.returns-clause-refusal
-returns-clause-refusal g c = search rules

@@ -1,5 +1,0 @@
-use Rattle.std.proofs.Common.{rules}
-use Rattle.gixobj_actors.proofs.actor.SignatureRef.from_bytes_consuming.Goals as goal
-
-pub returns-in-None-clause-unchanged : goal.returns-in-None-clause-unchanged
-returns-in-None-clause-unchanged c = search rules

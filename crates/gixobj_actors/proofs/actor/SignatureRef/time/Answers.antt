@@ -1,4 +1,0 @@
-use Rattle.gixobj_actors.proofs.actor.SignatureRef.time.Goals as goal
-
-pub returns-clause-none : goal.returns-clause-none
-returns-clause-none c = rw (← c.as_bytes.ensures) c.parse_header.ensures.none

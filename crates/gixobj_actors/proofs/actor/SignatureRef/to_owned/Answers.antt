@@ -1,5 +1,0 @@
-use Rattle.std.proofs.Common.{rules}
-use Rattle.gixobj_actors.proofs.actor.SignatureRef.to_owned.Goals as goal
-
-pub returns-clause-name : goal.returns-clause-name
-returns-clause-name c = search rules

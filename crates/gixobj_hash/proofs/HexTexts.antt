@@ -1,0 +1,131 @@
+-- Hex text written is in lower case and reads back, and text in lower case that was read is written back.
+use Rattle.std.proofs.Common.{◌≡◌, ◌<◌, ◌+◌, ◌*◌, ◌/◌, ◌%◌, ◌==◌, ◌||◌, ◌&&◌, ℕ, zero, suc, Bool, true, false, not, List, [], ◌∷◌, length, slice_index, unwrap_or, ◌⊎◌, inl, inr, Option, Some, None, Result, Ok, Err, arith, refl, ap, sym, ◌∙◌}
+use Rattle.std.proofs.lemmas.Bool.{and_parts, cases_lt, eqb-true}
+use Rattle.std.proofs.lemmas.List.Elements.{All-cons, All-head, All-nil, All-tail}
+use Rattle.std.specs.List.{AllPass}
+use Rattle.hex.proofs.HexLemmas.{decode_of-encode_lower, decode_of-even, decode_of-ok, length-encode_with}
+use Rattle.hex.specs.Hex.{IsBytes, decode_pairs, digit_or_error, encode_lower, encode_with, hex_digit_value, lower_digits, pair_value, value_at, ◌>>=◌}
+use Rattle.hex.specs.declared.error.FromHexError.{FromHexError}
+use Rattle.gixobj_hash.specs.Hash.{IsHexOfAnId, IsId, Spells, hash_len, hex_text, id_bytes, id_kind, is_lower_hex_digit}
+use Rattle.gixobj_hash.specs.declared.hash.object_id.ObjectId.{ObjectId}
+use Rattle.gixobj_hash.specs.declared.hash.object_id.ObjectId.TheVariants.{Sha1, Sha256}
+
+-- what is written is in lower case: each of the sixteen digits is
+abbrev lower_below : ℕ → Bool
+lower_below zero = true
+lower_below (suc n) = is_lower_hex_digit (slice_index lower_digits n) && lower_below n
+
+lower_at : (n digit : ℕ) → lower_below n ≡ true → digit < n → is_lower_hex_digit (slice_index lower_digits digit) ≡ true
+lower_at zero digit all low = absurd (omega arith)
+lower_at (suc n) digit all low =
+    let parts = and_parts (is_lower_hex_digit (slice_index lower_digits n)) (lower_below n) all in
+    elim (cases_lt digit n) [
+      | inl below ↦ lower_at n digit parts.1 below
+      | inr top ↦ (let same : digit ≡ n = omega arith in rw same parts.0)
+    ]
+
+abbrev IsLower : ℕ → Type 0
+IsLower byte = is_lower_hex_digit byte ≡ true
+
+bytes-head : (byte : ℕ) (bytes : List ℕ) → IsBytes (byte ∷ bytes) → byte < 256
+bytes-head byte bytes small = small 0
+
+bytes-tail : (byte : ℕ) (bytes : List ℕ) → IsBytes (byte ∷ bytes) → IsBytes bytes
+bytes-tail byte bytes small = λ i. small (suc i)
+
+pub lower_written : (bytes : List ℕ) → IsBytes bytes → AllPass is_lower_hex_digit (encode_lower bytes)
+unfolding encode_with
+lower_written [] small = All-nil IsLower
+lower_written (byte ∷ bytes) small =
+    let low = bytes-head byte bytes small in
+    let high_digit = lower_at 16 (byte / 16) refl (omega arith) in
+    let low_digit = lower_at 16 (byte % 16) refl (omega arith) in
+    All-cons IsLower (slice_index lower_digits (byte / 16)) (slice_index lower_digits (byte % 16) ∷ encode_lower bytes) high_digit
+    (All-cons IsLower (slice_index lower_digits (byte % 16)) (encode_lower bytes) low_digit (lower_written bytes (bytes-tail byte bytes small)))
+
+-- a digit in lower case is the one that is written for its value
+abbrev is_written : ℕ → Bool
+is_written byte = not (is_lower_hex_digit byte) || (slice_index lower_digits (unwrap_or (hex_digit_value byte) 0) == byte)
+
+abbrev written_below : ℕ → Bool
+written_below zero = true
+written_below (suc n) = is_written n && written_below n
+
+written_at : (n byte : ℕ) → written_below n ≡ true → byte < n → is_written byte ≡ true
+written_at zero byte all low = absurd (omega arith)
+written_at (suc n) byte all low =
+    let parts = and_parts (is_written n) (written_below n) all in
+    elim (cases_lt byte n) [
+      | inl below ↦ written_at n byte parts.1 below
+      | inr top ↦ (let same : byte ≡ n = omega arith in rw same parts.0)
+    ]
+
+chosen : (a b : Bool) → (not a || b) ≡ true → a ≡ true → b ≡ true
+chosen true b either first = either
+chosen false b either first = cc first
+
+lower_small : (byte : ℕ) → is_lower_hex_digit byte ≡ true → byte < 103
+lower_small byte lower = grind (arith, lower)
+
+digit_written : (byte value : ℕ) → is_lower_hex_digit byte ≡ true → hex_digit_value byte ≡ Some value → slice_index lower_digits value ≡ byte
+digit_written byte value lower reads =
+    let written = written_at 103 byte refl (lower_small byte lower) in
+    let same = eqb-true (slice_index lower_digits (unwrap_or (hex_digit_value byte) 0)) byte (chosen (is_lower_hex_digit byte) _ written lower) in
+    ap (λ it. slice_index lower_digits (unwrap_or it 0)) (sym reads) ∙ same
+
+value_small : (byte value : ℕ) → hex_digit_value byte ≡ Some value → value < 16
+value_small byte value reads = grind arith
+
+-- the parts of a step that succeeded
+bound : {A B : Type 0} (r : Result A FromHexError) (f : A → Result B FromHexError) (y : B) → (r >>= f) ≡ Ok y → (x : A) × (r ≡ Ok x) × (f x ≡ Ok y)
+bound (Ok x) f y ok = (x, refl, ok)
+bound (Err e) f y ok = cc ok
+
+digit_value_of : (byte i value : ℕ) (o : Option ℕ) → digit_or_error byte i o ≡ Ok value → o ≡ Some value
+digit_value_of byte i value (Some v) ok = cc ok
+digit_value_of byte i value None ok = cc ok
+
+pub written_back : (i : ℕ) (text bytes : List ℕ) → AllPass is_lower_hex_digit text → decode_pairs i text ≡ Ok bytes → encode_lower bytes ≡ text
+unfolding decode_pairs encode_with
+written_back i [] bytes lower ok =
+    let none : [] ≡ bytes = cc ok in
+    rw (← none) refl
+written_back i (digit ∷ []) bytes lower ok = cc ok
+written_back i (high ∷ low ∷ text) bytes lower ok =
+    let lower_text = All-tail IsLower high (low ∷ text) lower in
+    let pair = bound (pair_value high low i) _ bytes ok in
+    let rest = bound (decode_pairs (i + 2) text) _ bytes pair.2 in
+    let first = bound (value_at high i) _ pair.0 pair.1 in
+    let second = bound (value_at low (i + 1)) _ pair.0 first.2 in
+    let high_value = digit_value_of high i first.0 (hex_digit_value high) first.1 in
+    let low_value = digit_value_of low (i + 1) second.0 (hex_digit_value low) second.1 in
+    let small_high = value_small high first.0 high_value in
+    let small_low = value_small low second.0 low_value in
+    let byte : first.0 * 16 + second.0 ≡ pair.0 = cc second.2 in
+    let all : pair.0 ∷ rest.0 ≡ bytes = cc rest.2 in
+    let over : pair.0 / 16 ≡ first.0 = omega arith in
+    let under : pair.0 % 16 ≡ second.0 = omega arith in
+    let one = ap (slice_index lower_digits) over ∙ digit_written high first.0 (All-head IsLower high (low ∷ text) lower) high_value in
+    let two = ap (slice_index lower_digits) under ∙ digit_written low second.0 (All-head IsLower low text lower_text) low_value in
+    let more = written_back (i + 2) text rest.0 (All-tail IsLower low text lower_text) rest.1 in
+    rw (← all) (cc (one, two, more))
+
+-- the laws, of ids
+
+pub spelled_by_its_text : (id : ObjectId) → IsId id → Spells (hex_text id) id
+spelled_by_its_text id proper = record {
+  len = length-encode_with lower_digits (id_bytes id) ∙ ap (λ n. 2 * n) proper.0;
+  digits = decode_of-encode_lower (id_bytes id) proper.1;
+}
+
+pub text_of_spelled : (text : List ℕ) (id : ObjectId) → AllPass is_lower_hex_digit text → Spells text id → hex_text id ≡ text
+text_of_spelled text id lower spells =
+    let read = decode_of-ok text (id_bytes id) spells.digits in
+    written_back 0 text (id_bytes id) lower (sym (decode_of-even text read.0) ∙ spells.digits)
+
+id_text_len : (text : List ℕ) (id : ObjectId) → length text ≡ 2 * hash_len (id_kind id) → (length text ≡ 40) ⊎ (length text ≡ 64)
+id_text_len text (Sha1 bytes) len = inl len
+id_text_len text (Sha256 bytes) len = inr len
+
+pub hex_of_spelled : (text : List ℕ) (id : ObjectId) → Spells text id → IsHexOfAnId text
+hex_of_spelled text id spells = (id_text_len text id spells.len, (decode_of-ok text (id_bytes id) spells.digits).1)

@@ -1,0 +1,14 @@
+-- What a digest in the making has been fed.
+use Rattle.std.specs.Prelude.{ℕ, List}
+use Rattle.sha1.specs.Sha1 as sha1
+use Rattle.sha2.specs.Hashers.{Holds256}
+use Rattle.gixobj_hash.specs.declared.hash.kind.Kind.{Kind}
+use Rattle.gixobj_hash.specs.declared.hash.kind.Kind.TheVariants as hash
+use Rattle.gixobj_hash.specs.declared.hash.hasher.Hasher.{Hasher}
+use Rattle.gixobj_hash.specs.declared.hash.hasher.Hasher.TheVariants as hasher
+
+-- the hasher digests, by this kind of digest, the message
+abbrev pub Holds : Kind → Hasher → List ℕ → Type 0
+Holds hash.Sha1 (hasher.Sha1 state) message = sha1.Holds state message
+Holds hash.Sha256 (hasher.Sha256 state) message = Holds256 state message
+Holds _ _ message = ⊥

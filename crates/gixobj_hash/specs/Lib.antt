@@ -1,0 +1,7 @@
+pub mod Bytes
+pub mod Decode
+pub mod Encode
+pub mod Hash
+pub mod Kind
+pub mod Optional
+pub mod Texts

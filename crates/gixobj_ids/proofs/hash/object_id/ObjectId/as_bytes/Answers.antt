@@ -1,5 +1,0 @@
-use Rattle.std.proofs.Common.{rules}
-use Rattle.gixobj_ids.proofs.hash.object_id.ObjectId.as_bytes.Goals as goal
-
-pub returns-in-Sha256-clause-value : goal.returns-in-Sha256-clause-value
-returns-in-Sha256-clause-value c = search rules

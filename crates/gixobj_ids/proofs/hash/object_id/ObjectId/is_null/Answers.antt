@@ -1,5 +1,0 @@
-use Rattle.std.proofs.Common.{rules}
-use Rattle.gixobj_ids.proofs.hash.object_id.ObjectId.is_null.Goals as goal
-
-pub returns : goal.returns
-returns c = search rules

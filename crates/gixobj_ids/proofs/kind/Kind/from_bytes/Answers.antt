@@ -1,5 +1,0 @@
-use Rattle.std.proofs.Common.{rules}
-use Rattle.gixobj_ids.proofs.kind.Kind.from_bytes.Goals as goal
-
-pub returns-in-blob-clause-accepts : goal.returns-in-blob-clause-accepts
-returns-in-blob-clause-accepts c = search rules

@@ -1,6 +1,0 @@
-use Rattle.std.proofs.Common.{rules}
-use Rattle.gixobj_ids.proofs.HexTests.{passed, told}
-use Rattle.gixobj_ids.proofs.parse.hex_hash.Goals as goal
-
-pub returns-then-are_hex-clause-accepts : goal.returns-then-are_hex-clause-accepts
-returns-then-are_hex-clause-accepts c = search (passed, told, rules)

@@ -1,9 +1,0 @@
--- The header of a loose object as it is written (gitformat-loose, "Loose object format").
-use Rattle.std.specs.Prelude.{ℕ, List, [], ◌∷◌, ◌++◌, decimal}
-use Rattle.gixobj_ids.specs.declared.kind.Kind.{Kind}
-use Rattle.gixobj_ids.specs.Kind.{kind_word}
-use Rattle.gixobj_texts.specs.Bytes.{space}
-
--- the loose header of an object of this kind and size: its kind's word, a space, its size in decimal, a zero byte
-abbrev pub loose_header_text : Kind → ℕ → List ℕ
-loose_header_text kind size = kind_word kind ++ space ∷ decimal size ++ 0 ∷ []

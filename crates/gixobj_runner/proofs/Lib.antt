@@ -1,4 +1,0 @@
-mod FieldPlaces
-mod LastPlaces
-mod Rows
-mod Told

@@ -1,9 +1,0 @@
-pub mod Calls
-pub mod Fields
-pub mod GpgReports
-pub mod Outcomes
-pub mod Plans
-pub mod Signing
-pub mod SshReports
-pub mod Telling
-pub mod Trust

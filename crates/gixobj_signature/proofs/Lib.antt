@@ -1,0 +1,6 @@
+mod FieldPlaces
+mod LastPlaces
+mod Rows
+mod Steps
+mod Told
+mod Unmarked

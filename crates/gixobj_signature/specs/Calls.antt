@@ -1,0 +1,80 @@
+-- Calls of programs and their answers, by their bytes.
+use Rattle.std.specs.Prelude.{ℕ, ℤ, Bool, List, Option, Result, Ok, Err, map}
+use Rattle.std.specs.Option.{option_map}
+use Rattle.bstr.specs.Owned.{bstring_bytes}
+use Rattle.bstr.specs.declared.bstring.BString.{BString}
+use Rattle.gixobj_signature.specs.declared.signature.Call.{Call}
+use Rattle.gixobj_signature.specs.declared.signature.Output.{Output}
+use Rattle.gixobj_signature.specs.declared.signature.RunError.{RunError}
+use Rattle.gixobj_signature.specs.declared.signature.RunError.TheVariants as run
+use Rattle.gixobj_signature.specs.declared.signature.Word.{Word}
+use Rattle.gixobj_signature.specs.declared.signature.Word.TheVariants as word
+
+-- a word of a call: its bytes; the path of the file of this number; the time of a signature, in seconds and an offset
+pub data WordView : Type 0 where
+  text : List ℕ → WordView
+  file : ℕ → WordView
+  verify_time : ℤ → ℤ → WordView
+
+-- a call of a program
+pub record CallView : Type 0 where
+  pub program : List ℕ
+  pub words : List WordView
+  pub environment : List (List ℕ × List ℕ)
+  pub files : List (List ℕ)
+  pub input : Option (List ℕ)
+  pub result : Option ℕ
+
+-- what a program that ran to its end answered
+pub record OutputView : Type 0 where
+  pub success : Bool
+  pub stdout : List ℕ
+  pub stderr : List ℕ
+  pub result : Option (List ℕ)
+
+-- why a program didn't run to its end, with the runner's text: no file, not started, not talked to, a time without a text
+pub data Failure : Type 0 where
+  no_file : List ℕ → Failure
+  not_spawned : List ℕ → Failure
+  not_told : List ℕ → Failure
+  no_time : List ℕ → Failure
+
+-- what a runner answers
+pub data Answer : Type 0 where
+  ran : OutputView → Answer
+  failed : Failure → Answer
+  no_memory : Answer
+
+abbrev pub word_view : Word → WordView
+word_view (word.Text bytes) = text (bstring_bytes bytes)
+word_view (word.File number) = file number
+word_view (word.VerifyTime time) = verify_time time.seconds time.offset
+
+abbrev pub pair_view : BString × BString → List ℕ × List ℕ
+pair_view pair = (bstring_bytes pair.0, bstring_bytes pair.1)
+
+abbrev pub call_view : Call → CallView
+call_view call = record {
+  program = bstring_bytes call.program;
+  words = map word_view call.words.items;
+  environment = map pair_view call.environment.items;
+  files = map bstring_bytes call.files.items;
+  input = option_map bstring_bytes call.input;
+  result = call.result;
+}
+
+abbrev pub output_view : Output → OutputView
+output_view it = record {
+  success = it.success;
+  stdout = it.stdout.items;
+  stderr = it.stderr.items;
+  result = option_map (λ v. v.items) it.result;
+}
+
+abbrev pub answer_view : Result Output RunError → Answer
+answer_view (Ok output) = ran (output_view output)
+answer_view (Err (run.TemporaryFile why)) = failed (no_file (bstring_bytes why))
+answer_view (Err (run.Spawn why)) = failed (not_spawned (bstring_bytes why))
+answer_view (Err (run.Communicate why)) = failed (not_told (bstring_bytes why))
+answer_view (Err (run.CommitTime why)) = failed (no_time (bstring_bytes why))
+answer_view (Err run.OutOfMemory) = no_memory

@@ -1,0 +1,30 @@
+-- Plans of calls, where each answer chooses what follows.
+use Rattle.std.specs.Prelude.{◌≡◌, ◌⊎◌, Option, Some, None}
+use Rattle.gixobj_signature.specs.Calls.{CallView, Answer}
+
+-- what is to be done: nothing, with this outcome; or a call, and then what its answer chooses; or nothing more, for want of memory
+pub data Plan (R : Type 0) : Type 0 where
+  done : R → Plan R
+  ask : CallView → (Answer → Plan R) → Plan R
+  no_more : Plan R
+
+-- exactly the calls of the plan take the runner from s to t, and what they answer makes this outcome
+abbrev pub Carries : {S R : Type 0} → (S → CallView → Answer → S → Type 0) → Plan R → S → R → S → Type 0
+Carries runs (done outcome) s r t = (r ≡ outcome) × (t ≡ s)
+Carries {S} runs (ask call next) s r t = (answer : Answer) × (m : S) × runs s call answer m × Carries runs (next answer) m r t
+Carries runs no_more s r t = ⊥
+
+-- the first calls of the plan take the runner from s to t: none of them, some, or all
+abbrev pub Begins : {S R : Type 0} → (S → CallView → Answer → S → Type 0) → Plan R → S → S → Type 0
+Begins runs (done outcome) s t = t ≡ s
+Begins {S} runs (ask call next) s t = (t ≡ s) ⊎ ((answer : Answer) × (m : S) × runs s call answer m × Begins runs (next answer) m t)
+Begins runs no_more s t = t ≡ s
+
+-- the plan is carried out where there is an outcome, and begun where memory was wanting
+abbrev pub Goes : {S R : Type 0} → (S → CallView → Answer → S → Type 0) → Plan R → S → Option R → S → Type 0
+Goes runs plan s (Some r) t = Carries runs plan s r t
+Goes runs plan s None t = Begins runs plan s t
+
+-- the plan p from s is what is left of the plan q from u: whatever comes of p from there comes of q
+abbrev pub IsLeft : {S R : Type 0} → (S → CallView → Answer → S → Type 0) → Plan R → S → Plan R → S → Type 0
+IsLeft {S} {R} runs p s q u = (r : Option R) (t : S) → Goes runs p s r t → Goes runs q u r t

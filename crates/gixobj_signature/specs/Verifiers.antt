@@ -1,0 +1,83 @@
+-- Who verifies, and how.
+use Rattle.std.specs.Prelude.{ℕ, ℤ, List, Option, map}
+use Rattle.std.specs.Option.{option_map}
+use Rattle.bstr.specs.Owned.{bstring_bytes}
+use Rattle.gixobj_signature.specs.Calls.{pair_view}
+use Rattle.gixobj_signature.specs.declared.signature.report.TrustLevel.{TrustLevel}
+use Rattle.gixobj_signature.specs.declared.signature.verify.Options.{Options}
+use Rattle.gixobj_signature.specs.declared.signature.verify.Options.TheVariants as options
+use Rattle.gixobj_signature.specs.declared.signature.verify.Program.{Program}
+use Rattle.gixobj_signature.specs.declared.signature.verify.SshProgram.{SshProgram}
+
+-- a program, the words before those that are fixed, what is set for it, and the least trust that is asked for
+pub record ProgramView : Type 0 where
+  pub program : List ℕ
+  pub arguments : List (List ℕ)
+  pub environment : List (List ℕ × List ℕ)
+  pub minimum : TrustLevel
+
+-- what a program of SSH is told besides: the file of those that may sign, that of revoked keys, and a time
+pub record SshView : Type 0 where
+  pub allowed : List ℕ
+  pub revoked : Option (List ℕ)
+  pub seconds : ℤ
+  pub offset : ℤ
+
+pub data OptionsView : Type 0 where
+  by_open_pgp : ProgramView → OptionsView
+  by_x509 : ProgramView → OptionsView
+  by_ssh : ProgramView → SshView → OptionsView
+
+abbrev pub options_view : Options → OptionsView
+options_view (options.OpenPgp program arguments environment minimum) =
+    by_open_pgp (record {
+      program = bstring_bytes program;
+      arguments = map bstring_bytes arguments.items;
+      environment = map pair_view environment.items;
+      minimum = minimum;
+    })
+options_view (options.X509 program arguments environment minimum) =
+    by_x509 (record {
+      program = bstring_bytes program;
+      arguments = map bstring_bytes arguments.items;
+      environment = map pair_view environment.items;
+      minimum = minimum;
+    })
+options_view (options.Ssh program arguments environment allowed revoked time minimum) =
+    by_ssh (record {
+      program = bstring_bytes program;
+      arguments = map bstring_bytes arguments.items;
+      environment = map pair_view environment.items;
+      minimum = minimum;
+    })
+    (record {
+      allowed = bstring_bytes allowed;
+      revoked = option_map bstring_bytes revoked;
+      seconds = time.seconds;
+      offset = time.offset;
+    })
+
+-- the same of options that are taken apart
+abbrev pub program_of : Program → ProgramView
+program_of it = record {
+  program = bstring_bytes it.program;
+  arguments = map bstring_bytes it.program_arguments.items;
+  environment = map pair_view it.environment.items;
+  minimum = it.minimum_trust;
+}
+
+abbrev pub ssh_program_of : SshProgram → ProgramView
+ssh_program_of it = record {
+  program = bstring_bytes it.program;
+  arguments = map bstring_bytes it.program_arguments.items;
+  environment = map pair_view it.environment.items;
+  minimum = it.minimum_trust;
+}
+
+abbrev pub ssh_of : SshProgram → SshView
+ssh_of it = record {
+  allowed = bstring_bytes it.allowed_signers;
+  revoked = option_map bstring_bytes it.revocation_file;
+  seconds = it.verify_time.seconds;
+  offset = it.verify_time.offset;
+}

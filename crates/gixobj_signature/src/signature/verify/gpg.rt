@@ -1,0 +1,205 @@
+//! Signatures of OpenPGP and of X.509, verified by one call (gpg(1), `--verify`).
+ghost use Rattle.std.specs.Prelude.{◌≡◌, ◌∷◌, [], IfOk, Some, map};
+ghost use Rattle.std.specs.Option.{option_map};
+ghost use Rattle.bstr.specs.Owned.{bstring_bytes};
+ghost use Rattle.gixobj_signature.specs.Calls.{call_view, output_view, word_view};
+ghost use Rattle.gixobj_signature.specs.Outcomes.{outcome_view};
+ghost use Rattle.gixobj_text.specs.declared.signature.Format.TheVariants as format;
+ghost use Rattle.gixobj_signature.specs.SignedBytes.{signed_bytes};
+ghost use Rattle.gixobj_signature.specs.Verifiers.{by_open_pgp, by_x509, program_of};
+ghost use Rattle.gixobj_signature.specs.VerifyingCalls.{open_pgp_call, open_pgp_words, whole_call, x509_call, x509_options, x509_words};
+ghost use Rattle.gixobj_signature.specs.Verifying.{ComesOf, gpg_verified, gpg_verify_plan, reported, verify_plan};
+
+use super::{Error, Program, ask_one};
+use crate::signature::{Call, Output, Runner, SignedData, Word};
+use bstr::{BString, ByteSlice};
+use gixobj_hash::OutOfMemory;
+use crate::signature::report::{Outcome, judge, parse_gpg_output};
+use crate::signature::words::{environment_of, text, words_of};
+use gixobj_text::signature::Format;
+use std::alloc::Global;
+
+/// Verifies by a program of OpenPGP, where the signature is of that format.
+pub(crate) fn verify_open_pgp<R: Runner>(
+    alloc: Global,
+    by: &Program,
+    format: Format,
+    signature: &[u8],
+    signed: &SignedData<'_>,
+    runner: &mut R,
+) -> Result<Outcome, Error>
+    ensures { ComesOf R.runs (verify_plan (by_open_pgp (program_of by.now)) signature.now (signed_bytes signed.now) (Some format)) runner.old result runner.new }
+{
+    match format {
+        Format::OpenPgp => by_open_pgp_call(alloc, by, signature, signed, runner),
+        signature_format => Err(Error::FormatMismatch {
+            program_format: Format::OpenPgp,
+            signature_format,
+        }),
+    }
+}
+
+/// Verifies by a program of X.509, where the signature is of that format.
+pub(crate) fn verify_x509<R: Runner>(
+    alloc: Global,
+    by: &Program,
+    format: Format,
+    signature: &[u8],
+    signed: &SignedData<'_>,
+    runner: &mut R,
+) -> Result<Outcome, Error>
+    ensures { ComesOf R.runs (verify_plan (by_x509 (program_of by.now)) signature.now (signed_bytes signed.now) (Some format)) runner.old result runner.new }
+{
+    match format {
+        Format::X509 => by_x509_call(alloc, by, signature, signed, runner),
+        signature_format => Err(Error::FormatMismatch {
+            program_format: Format::X509,
+            signature_format,
+        }),
+    }
+}
+
+/// Makes the call of a program of OpenPGP, and reads its report.
+fn by_open_pgp_call<R: Runner>(
+    alloc: Global,
+    by: &Program,
+    signature: &[u8],
+    signed: &SignedData<'_>,
+    runner: &mut R,
+) -> Result<Outcome, Error>
+    ensures { ComesOf R.runs (gpg_verify_plan format.OpenPgp (program_of by.now) (open_pgp_call (program_of by.now) signature.now (signed_bytes signed.now))) runner.old result runner.new }
+{
+    let call = open_pgp_call_of(alloc, by, signature, signed)?;
+    let output = ask_one(&call, runner)?;
+    Ok(outcome_of(alloc, Format::OpenPgp, by, output)?)
+}
+
+/// Makes the call of a program of X.509, and reads its report.
+fn by_x509_call<R: Runner>(
+    alloc: Global,
+    by: &Program,
+    signature: &[u8],
+    signed: &SignedData<'_>,
+    runner: &mut R,
+) -> Result<Outcome, Error>
+    ensures { ComesOf R.runs (gpg_verify_plan format.X509 (program_of by.now) (x509_call (program_of by.now) signature.now (signed_bytes signed.now))) runner.old result runner.new }
+{
+    let call = x509_call_of(alloc, by, signature, signed)?;
+    let output = ask_one(&call, runner)?;
+    Ok(outcome_of(alloc, Format::X509, by, output)?)
+}
+
+/// The outcome that the call's answer makes.
+fn outcome_of(
+    alloc: Global,
+    format: Format,
+    by: &Program,
+    output: Output,
+) -> Result<Outcome, OutOfMemory>
+    ensures { IfOk result (λ it. reported (outcome_view it) ≡ gpg_verified format (program_of by.now) (output_view output)) }
+{
+    let success = output.success;
+    let told = BString::new(output.stderr);
+    let raw = BString::new(output.stdout);
+    let report = parse_gpg_output(alloc, format, told, raw)?;
+    Ok(judge(report, success, by.minimum_trust))
+}
+
+/// The call of a program of OpenPGP, which reads what is signed.
+#[tactic(auto, unfolding(crate::specs::VerifyingCalls::open_pgp_call))]
+fn open_pgp_call_of(
+    alloc: Global,
+    by: &Program,
+    signature: &[u8],
+    signed: &SignedData<'_>,
+) -> Result<Call, OutOfMemory>
+    ensures { IfOk result (λ it. call_view it ≡ open_pgp_call (program_of by.now) signature.now (signed_bytes signed.now)) }
+{
+    let words = open_pgp_words_of(alloc, by)?;
+    let files = vec![in alloc; BString::from_slice(alloc, signature)?]?;
+    let input = Some(signed.to_bstring(alloc)?);
+    call_of(alloc, by, words, files, input)
+}
+
+/// Its words.
+fn open_pgp_words_of(alloc: Global, by: &Program) -> Result<Vec<Word>, OutOfMemory>
+    ensures { IfOk result (λ it. map word_view it.items ≡ open_pgp_words (program_of by.now)) }
+{
+    let mut words = words_of(alloc, &by.program_arguments)?;
+    words.push(text(alloc, b"--keyid-format=long")?)?;
+    words.push(text(alloc, b"--status-fd=1")?)?;
+    words.push(text(alloc, b"--verify")?)?;
+    words.push(Word::File(0))?;
+    words.push(text(alloc, b"-")?)?;
+    Ok(words)
+}
+
+/// The call of a program of X.509, for which what is signed stands in a file.
+#[tactic(auto, unfolding(crate::specs::VerifyingCalls::x509_call))]
+fn x509_call_of(
+    alloc: Global,
+    by: &Program,
+    signature: &[u8],
+    signed: &SignedData<'_>,
+) -> Result<Call, OutOfMemory>
+    ensures { IfOk result (λ it. call_view it ≡ x509_call (program_of by.now) signature.now (signed_bytes signed.now)) }
+{
+    let words = x509_words_of(alloc, by)?;
+    let files = two_files(alloc, signature, signed)?;
+    call_of(alloc, by, words, files, None)
+}
+
+/// Its words.
+fn x509_words_of(alloc: Global, by: &Program) -> Result<Vec<Word>, OutOfMemory>
+    ensures { IfOk result (λ it. map word_view it.items ≡ x509_words (program_of by.now)) }
+{
+    let mut words = x509_options_of(alloc, by)?;
+    words.push(Word::File(0))?;
+    words.push(Word::File(1))?;
+    Ok(words)
+}
+
+/// Its words before the files.
+fn x509_options_of(alloc: Global, by: &Program) -> Result<Vec<Word>, OutOfMemory>
+    ensures { IfOk result (λ it. map word_view it.items ≡ x509_options (program_of by.now)) }
+{
+    let mut words = words_of(alloc, &by.program_arguments)?;
+    words.push(text(alloc, b"--status-fd=1")?)?;
+    words.push(text(alloc, b"--verify")?)?;
+    Ok(words)
+}
+
+/// What stands in its files: the signature, and what is signed.
+fn two_files(
+    alloc: Global,
+    signature: &[u8],
+    signed: &SignedData<'_>,
+) -> Result<Vec<BString>, OutOfMemory>
+    ensures { IfOk result (λ it. map bstring_bytes it.items ≡ signature.now ∷ signed_bytes signed.now ∷ []) }
+{
+    let mut files = vec![in alloc; BString::from_slice(alloc, signature)?]?;
+    files.push(signed.to_bstring(alloc)?)?;
+    Ok(files)
+}
+
+/// A call of these words, files and input.
+fn call_of(
+    alloc: Global,
+    by: &Program,
+    words: Vec<Word>,
+    files: Vec<BString>,
+    input: Option<BString>,
+) -> Result<Call, OutOfMemory>
+    ensures { IfOk result (λ it. call_view it ≡ whole_call (program_of by.now) (map word_view words.items) (map bstring_bytes files.items) (option_map bstring_bytes input)) }
+{
+    let environment = environment_of(alloc, &by.environment)?;
+    let program = BString::from_slice(alloc, by.program.as_bytes())?;
+    Ok(Call {
+        program,
+        words,
+        environment,
+        files,
+        input,
+        result: None,
+    })
+}

@@ -1,0 +1,173 @@
+//! The calls of a program of SSH, by which a signature is verified.
+ghost use Rattle.std.specs.Prelude.{◌≡◌, ◌++◌, ◌∷◌, [], ℕ, IfOk, List, map};
+ghost use Rattle.std.specs.Option.{option_map};
+ghost use Rattle.bstr.specs.Owned.{bstring_bytes};
+ghost use Rattle.gixobj_signature.specs.Calls.{call_view, pair_view, word_view};
+ghost use Rattle.gixobj_signature.specs.SignedBytes.{signed_bytes};
+ghost use Rattle.gixobj_signature.specs.Verifiers.{ssh_of, ssh_program_of};
+ghost use Rattle.gixobj_signature.specs.VerifyingCalls.{check_words, git_words, in_english, novalidate_call, novalidate_words, principal_call, principal_words, principals_call, revocation_words, verify_words, whole_call};
+
+use crate::signature::{Call, SignedData, Word};
+use crate::signature::verify::SshProgram;
+use bstr::{BString, ByteSlice};
+use gixobj_hash::OutOfMemory;
+use crate::signature::words::{environment_of, text, words_of};
+use std::alloc::Global;
+
+/// The call that asks for the principals of the signature's key.
+#[tactic(auto, unfolding(crate::specs::VerifyingCalls::principals_call))]
+pub(crate) fn principals_call_of(
+    alloc: Global,
+    by: &SshProgram,
+    signature: &[u8],
+) -> Result<Call, OutOfMemory>
+    ensures { IfOk result (λ it. call_view it ≡ principals_call (ssh_program_of by.now) (ssh_of by.now) signature.now) }
+{
+    let mut words = words_of(alloc, &by.program_arguments)?;
+    words.push(text(alloc, b"-Y")?)?;
+    words.push(text(alloc, b"find-principals")?)?;
+    words.push(text(alloc, b"-f")?)?;
+    words.push(text(alloc, by.allowed_signers.as_bytes())?)?;
+    words.push(text(alloc, b"-s")?)?;
+    words.push(Word::File(0))?;
+    words.push(Word::VerifyTime(by.verify_time))?;
+    let input = Some(BString::new(Vec::new(alloc)));
+    call_of(alloc, by, words, signature, input)
+}
+
+/// The call that asks whether a principal made the signature.
+#[tactic(auto, unfolding(crate::specs::VerifyingCalls::principal_call))]
+pub(crate) fn principal_call_of(
+    alloc: Global,
+    by: &SshProgram,
+    principal: &[u8],
+    signature: &[u8],
+    signed: &SignedData<'_>,
+) -> Result<Call, OutOfMemory>
+    ensures { IfOk result (λ it. call_view it ≡ principal_call (ssh_program_of by.now) (ssh_of by.now) signature.now (signed_bytes signed.now) principal.now) }
+{
+    let words = principal_words_of(alloc, by, principal)?;
+    let words = with_revocation(alloc, words, &by.revocation_file)?;
+    let input = Some(signed.to_bstring(alloc)?);
+    call_of(alloc, by, words, signature, input)
+}
+
+/// Its words, but for those of the file of revoked keys.
+fn principal_words_of(
+    alloc: Global,
+    by: &SshProgram,
+    principal: &[u8],
+) -> Result<Vec<Word>, OutOfMemory>
+    ensures { IfOk result (λ it. map word_view it.items ≡ principal_words (ssh_program_of by.now) (ssh_of by.now) principal.now) }
+{
+    let mut words = verify_words_of(alloc, by)?;
+    words.push(text(alloc, principal)?)?;
+    words.push(text(alloc, b"-s")?)?;
+    words.push(Word::File(0))?;
+    words.push(Word::VerifyTime(by.verify_time))?;
+    Ok(words)
+}
+
+/// Its words before the principal.
+fn verify_words_of(alloc: Global, by: &SshProgram) -> Result<Vec<Word>, OutOfMemory>
+    ensures { IfOk result (λ it. map word_view it.items ≡ verify_words (ssh_program_of by.now) (ssh_of by.now)) }
+{
+    let mut words = git_words_of(alloc, by, b"verify")?;
+    words.push(text(alloc, b"-f")?)?;
+    words.push(text(alloc, by.allowed_signers.as_bytes())?)?;
+    words.push(text(alloc, b"-I")?)?;
+    Ok(words)
+}
+
+/// The first words of a call of this command over git's signatures.
+fn git_words_of(alloc: Global, by: &SshProgram, command: &[u8]) -> Result<Vec<Word>, OutOfMemory>
+    ensures { IfOk result (λ it. map word_view it.items ≡ git_words (ssh_program_of by.now) command.now) }
+{
+    let mut words = words_of(alloc, &by.program_arguments)?;
+    words.push(text(alloc, b"-Y")?)?;
+    words.push(text(alloc, command)?)?;
+    words.push(text(alloc, b"-n")?)?;
+    words.push(text(alloc, b"git")?)?;
+    Ok(words)
+}
+
+/// The call that asks whether the signature holds, whoever made it.
+#[tactic(auto, unfolding(crate::specs::VerifyingCalls::novalidate_call))]
+pub(crate) fn novalidate_call_of(
+    alloc: Global,
+    by: &SshProgram,
+    signature: &[u8],
+    signed: &SignedData<'_>,
+) -> Result<Call, OutOfMemory>
+    ensures { IfOk result (λ it. call_view it ≡ novalidate_call (ssh_program_of by.now) (ssh_of by.now) signature.now (signed_bytes signed.now)) }
+{
+    let words = novalidate_words_of(alloc, by)?;
+    let input = Some(signed.to_bstring(alloc)?);
+    call_of(alloc, by, words, signature, input)
+}
+
+/// Its words.
+fn novalidate_words_of(alloc: Global, by: &SshProgram) -> Result<Vec<Word>, OutOfMemory>
+    ensures { IfOk result (λ it. map word_view it.items ≡ novalidate_words (ssh_program_of by.now) (ssh_of by.now)) }
+{
+    let mut words = check_words_of(alloc, by)?;
+    words.push(text(alloc, b"-s")?)?;
+    words.push(Word::File(0))?;
+    words.push(Word::VerifyTime(by.verify_time))?;
+    Ok(words)
+}
+
+/// Its words before the signature.
+fn check_words_of(alloc: Global, by: &SshProgram) -> Result<Vec<Word>, OutOfMemory>
+    ensures { IfOk result (λ it. map word_view it.items ≡ check_words (ssh_program_of by.now)) }
+{
+    git_words_of(alloc, by, b"check-novalidate")
+}
+
+/// The words with those of the file of revoked keys, if there is one.
+fn with_revocation(
+    alloc: Global,
+    words: Vec<Word>,
+    file: &Option<BString>,
+) -> Result<Vec<Word>, OutOfMemory>
+    ensures { IfOk result (λ it. map word_view it.items ≡ map word_view words.items ++ revocation_words (option_map bstring_bytes file.now)) }
+{
+    let mut words = words;
+    if let Some(path) = file {
+        words.push(text(alloc, b"-r")?)?;
+        words.push(text(alloc, path.as_bytes())?)?;
+    }
+    Ok(words)
+}
+
+/// A call of these words with the signature in a file and this input, which is answered in English.
+fn call_of(
+    alloc: Global,
+    by: &SshProgram,
+    words: Vec<Word>,
+    signature: &[u8],
+    input: Option<BString>,
+) -> Result<Call, OutOfMemory>
+    ensures { IfOk result (λ it. call_view it ≡ whole_call (in_english (ssh_program_of by.now)) (map word_view words.items) (signature.now ∷ []) (option_map bstring_bytes input)) }
+{
+    let mut environment = environment_of(alloc, &by.environment)?;
+    environment.push(pair(alloc, b"LANG", b"C")?)?;
+    environment.push(pair(alloc, b"LC_ALL", b"C")?)?;
+    Ok(Call {
+        program: BString::from_slice(alloc, by.program.as_bytes())?,
+        words,
+        environment,
+        files: vec![in alloc; BString::from_slice(alloc, signature)?]?,
+        input,
+        result: None,
+    })
+}
+
+/// A name and its value.
+fn pair(alloc: Global, name: &[u8], value: &[u8]) -> Result<(BString, BString), OutOfMemory>
+    ensures { IfOk result (λ it. ◌≡◌ {A = List ℕ × List ℕ} (pair_view it) (name.now, value.now)) }
+{
+    let name = BString::from_slice(alloc, name)?;
+    let value = BString::from_slice(alloc, value)?;
+    Ok((name, value))
+}

@@ -1,0 +1,50 @@
+//! The words of calls and what is set for them, copied.
+ghost use Rattle.std.specs.Prelude.{◌≡◌, IfOk, map};
+ghost use Rattle.bstr.specs.Owned.{bstring_bytes};
+ghost use Rattle.gixobj_signature.specs.Calls.{pair_view, text, word_view};
+
+use crate::signature::Word;
+use bstr::{BString, ByteSlice};
+use gixobj_hash::OutOfMemory;
+use std::alloc::Global;
+
+/// The word of these bytes.
+pub fn text(alloc: Global, bytes: &[u8]) -> Result<Word, OutOfMemory>
+    ensures { IfOk result (λ it. word_view it ≡ text bytes.now) }
+{
+    Ok(Word::Text(BString::from_slice(alloc, bytes)?))
+}
+
+/// A word for each of these texts.
+pub fn words_of(alloc: Global, texts: &[BString]) -> Result<Vec<Word>, OutOfMemory>
+    ensures { IfOk result (λ it. map word_view it.items ≡ map text (map bstring_bytes texts.now)) }
+{
+    let mut words = Vec::new(alloc);
+    for one in texts {
+        words.push(text(alloc, one.as_bytes())?)?;
+    }
+    Ok(words)
+}
+
+/// Copies of these names and values.
+pub fn environment_of(
+    alloc: Global,
+    environment: &[(BString, BString)],
+) -> Result<Vec<(BString, BString)>, OutOfMemory>
+    ensures { IfOk result (λ it. map pair_view it.items ≡ map pair_view environment.now) }
+{
+    let mut copies = Vec::new(alloc);
+    for one in environment {
+        copies.push(pair_of(alloc, one)?)?;
+    }
+    Ok(copies)
+}
+
+/// A copy of a name and its value.
+fn pair_of(alloc: Global, pair: &(BString, BString)) -> Result<(BString, BString), OutOfMemory>
+    ensures { IfOk result (λ copy. pair_view copy ≡ pair_view pair.now) }
+{
+    let name = BString::from_slice(alloc, pair.0.as_bytes())?;
+    let value = BString::from_slice(alloc, pair.1.as_bytes())?;
+    Ok((name, value))
+}

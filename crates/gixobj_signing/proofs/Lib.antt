@@ -1,3 +1,0 @@
-mod Fronts
-mod MarkersFound
-pub mod MarkerPlaces

@@ -1,0 +1,25 @@
+-- A marker is found by its bytes.
+use Rattle.std.proofs.Common.{◌≡◌, ℕ, List, length, drop, refl, sym, true}
+use Rattle.std.proofs.lemmas.Bool.Decides.{Decides-eqb}
+use Rattle.std.proofs.lemmas.Slice.Eq.{starts_is}
+use Rattle.std.specs.List.{starts_with}
+use Rattle.std.specs.Prelude.{codes, nat_eq}
+use Rattle.gixobj_text.specs.Markers.{BeginsWithMarker, IsMarkerOf, pgp_message, pgp_signature, signed_message, ssh_signature}
+use Rattle.gixobj_text.specs.declared.signature.Format.{Format}
+use Rattle.gixobj_text.specs.declared.signature.Format.TheVariants as format
+
+marker_found : (format : Format) (marker bytes : List ℕ) → IsMarkerOf format marker → true ≡ starts_with nat_eq bytes marker → BeginsWithMarker format bytes
+marker_found format marker bytes is same =
+    record { marker = marker; rest = drop (length marker) bytes; known = is; joined = (starts_is Decides-eqb bytes marker (starts_with nat_eq bytes marker) refl).0 (sym same) }
+
+pub pgp_signature_found : (bytes : List ℕ) → true ≡ starts_with nat_eq bytes (codes "-----BEGIN PGP SIGNATURE-----") → BeginsWithMarker format.OpenPgp bytes
+pgp_signature_found bytes = marker_found _ _ bytes pgp_signature
+
+pub pgp_message_found : (bytes : List ℕ) → true ≡ starts_with nat_eq bytes (codes "-----BEGIN PGP MESSAGE-----") → BeginsWithMarker format.OpenPgp bytes
+pgp_message_found bytes = marker_found _ _ bytes pgp_message
+
+pub signed_message_found : (bytes : List ℕ) → true ≡ starts_with nat_eq bytes (codes "-----BEGIN SIGNED MESSAGE-----") → BeginsWithMarker format.X509 bytes
+signed_message_found bytes = marker_found _ _ bytes signed_message
+
+pub ssh_signature_found : (bytes : List ℕ) → true ≡ starts_with nat_eq bytes (codes "-----BEGIN SSH SIGNATURE-----") → BeginsWithMarker format.Ssh bytes
+ssh_signature_found bytes = marker_found _ _ bytes ssh_signature

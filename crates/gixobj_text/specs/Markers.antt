@@ -1,0 +1,45 @@
+-- The markers with which signatures begin, and where in a text they stand (gitformat-signature, "DESCRIPTION", "Tag signatures").
+use Rattle.std.specs.Prelude.{◌≡◌, ◌≤◌, ℕ, List, [], ◌∷◌, ◌++◌, ◌⊎◌, codes, length}
+use Rattle.gixobj_text.specs.declared.signature.Format.{Format}
+use Rattle.gixobj_text.specs.declared.signature.Format.TheVariants as format
+use Rattle.gixobj_hash.specs.Bytes.{newline}
+
+-- the marker with which signatures of this format begin
+pub data IsMarkerOf : Format → List ℕ → Type 0 where
+  pgp_signature : IsMarkerOf format.OpenPgp (codes "-----BEGIN PGP SIGNATURE-----")
+  pgp_message : IsMarkerOf format.OpenPgp (codes "-----BEGIN PGP MESSAGE-----")
+  signed_message : IsMarkerOf format.X509 (codes "-----BEGIN SIGNED MESSAGE-----")
+  ssh_signature : IsMarkerOf format.Ssh (codes "-----BEGIN SSH SIGNATURE-----")
+
+-- the bytes begin with a marker of this format
+pub record BeginsWithMarker (format : Format) (bytes : List ℕ) : Type 0 where
+  pub marker : List ℕ
+  pub rest : List ℕ
+  pub known : IsMarkerOf format marker
+  pub joined : bytes ≡ marker ++ rest
+
+-- the bytes begin with no marker
+abbrev pub BeginsWithNoMarker : List ℕ → Type 0
+BeginsWithNoMarker bytes = (format : Format) → ¬ BeginsWithMarker format bytes
+
+-- a line starts behind this front: it is empty, or ends in a newline
+abbrev pub StartsLine : List ℕ → Type 0
+StartsLine front = (front ≡ []) ⊎ ((lines : List ℕ) × (front ≡ lines ++ newline ∷ []))
+
+-- at this place, at the start of a line, a marker of this format stands
+pub record MarksPlace (bytes : List ℕ) (place : ℕ) (format : Format) : Type 0 where
+  pub front : List ℕ
+  pub rest : List ℕ
+  pub joined : bytes ≡ front ++ rest
+  pub as_long : length front ≡ place
+  pub starts : StartsLine front
+  pub marked : BeginsWithMarker format rest
+
+-- the last such place
+pub record IsMarkerPlace (bytes : List ℕ) (place : ℕ) (format : Format) : Type 0 where
+  pub here : MarksPlace bytes place format
+  pub last : (other : ℕ) (format' : Format) → MarksPlace bytes other format' → other ≤ place
+
+-- no line begins with a marker
+abbrev pub HasNoMarker : List ℕ → Type 0
+HasNoMarker bytes = (place : ℕ) (format : Format) → ¬ MarksPlace bytes place format

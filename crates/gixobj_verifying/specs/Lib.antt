@@ -1,4 +1,0 @@
-pub mod SignedBytes
-pub mod Verifiers
-pub mod Verifying
-pub mod VerifyingCalls
