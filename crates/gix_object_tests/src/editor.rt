@@ -3,7 +3,7 @@
 ghost use Rattle.std.specs.Prelude.{ℕ, ◌∷◌, [], IfOk, IfSome, Ok};
 ghost use Rattle.std.specs.Fn.{CalledAt};
 ghost use Rattle.gixobj_base.specs.Mode.{mode_of_kind};
-ghost use Rattle.gixobj_base.specs.trees.tree.entry_kind.EntryKind.TheVariants.{Blob};
+ghost use Rattle.gixobj_base.specs.tree.tree.entry_kind.EntryKind.TheVariants.{Blob};
 ghost use Rattle.gixobj_files.specs.Bases.{HasBases};
 ghost use Rattle.gixobj_files.specs.State.{EditorFiles, open_bases, open_dirs};
 ghost use Rattle.gixobj_directories.specs.Calls.{IsCallableOnTrees, names_of};

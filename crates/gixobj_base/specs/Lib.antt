@@ -17,10 +17,10 @@ pub use Rattle.gixobj_hash.specs.Hash
 pub use Rattle.gixobj_hash.specs.Kind
 pub use Rattle.gixobj_hash.specs.Texts
 pub use Rattle.gixobj_hash.specs.declared as hash
-pub use Rattle.gixobj_trees.specs.Entries
-pub use Rattle.gixobj_trees.specs.EntryOrder
-pub use Rattle.gixobj_trees.specs.Mode
-pub use Rattle.gixobj_trees.specs.ModeNumber
-pub use Rattle.gixobj_trees.specs.TreeText
-pub use Rattle.gixobj_trees.specs.WellFormed
-pub use Rattle.gixobj_trees.specs.declared as trees
+pub use Rattle.gixobj_tree.specs.Entries
+pub use Rattle.gixobj_tree.specs.EntryOrder
+pub use Rattle.gixobj_tree.specs.Mode
+pub use Rattle.gixobj_tree.specs.ModeNumber
+pub use Rattle.gixobj_tree.specs.TreeText
+pub use Rattle.gixobj_tree.specs.WellFormed
+pub use Rattle.gixobj_tree.specs.declared as tree

@@ -2,7 +2,7 @@
 //! object, actors and times, read and written; trees and blobs, written.
 //!
 //! It has no code: it hands on what the crates below it have, under the names by which users know it.
-//! Their modules are [`gixobj_hash`], [`gixobj_fields`], [`gixobj_actor`] and [`gixobj_trees`].
+//! Their modules are [`gixobj_hash`], [`gixobj_fields`], [`gixobj_actor`] and [`gixobj_tree`].
 #![tactic(auto)]
 
 pub mod encode;
@@ -14,4 +14,4 @@ pub use gixobj_actor::{actor, date};
 pub use gixobj_fields::stream_hash::compute_stream_hash;
 pub use gixobj_fields::{WriteTo, stream_hash, streams, traits};
 pub use gixobj_hash::{Header, Kind, OutOfMemory, compute_hash, decode, hash, kind};
-pub use gixobj_trees::{Blob, BlobRef, Tree};
+pub use gixobj_tree::{Blob, BlobRef, Tree};

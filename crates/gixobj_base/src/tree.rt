@@ -1,3 +1,3 @@
 //! Trees (gitdatamodel, "trees").
 
-pub use gixobj_trees::tree::{Entry, EntryKind, EntryMode, Tree, name_order};
+pub use gixobj_tree::tree::{Entry, EntryKind, EntryMode, Tree, name_order};

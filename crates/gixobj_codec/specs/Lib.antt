@@ -78,7 +78,7 @@ pub use Rattle.gixobj_tokens.specs.TokenFilters
 pub use Rattle.gixobj_tokens.specs.TokenGiving
 pub use Rattle.gixobj_tokens.specs.TokenPassing
 pub use Rattle.gixobj_tokens.specs.declared as tokens
-pub use Rattle.gixobj_tree_readers.specs.Rewriting as TreeRewriting
-pub use Rattle.gixobj_tree_readers.specs.TreeReading
-pub use Rattle.gixobj_tree_readers.specs.TreeViews
-pub use Rattle.gixobj_tree_readers.specs.declared as borrowed_trees
+pub use Rattle.gixobj_tree.specs.Rewriting as TreeRewriting
+pub use Rattle.gixobj_tree.specs.TreeReading
+pub use Rattle.gixobj_tree.specs.TreeViews
+pub use Rattle.gixobj_tree.specs.declared as tree

@@ -26,4 +26,4 @@ pub use gixobj_text::laws::{
     trailer_lines_are_read,
 };
 pub use gixobj_tokens::laws::{readers, tokens};
-pub use gixobj_tree_readers::laws::{tree_has_one_reading, tree_reads_back, tree_writes_back};
+pub use gixobj_tree::laws::{tree_has_one_reading, tree_reads_back, tree_writes_back};

@@ -18,4 +18,4 @@ pub use gixobj_objects::Object;
 pub use gixobj_tag_tokens::TagRefIter;
 pub use gixobj_tags::{Tag, TagRef};
 pub use gixobj_tokens::CommitRefIter;
-pub use gixobj_tree_readers::TreeRef;
+pub use gixobj_tree::TreeRef;

@@ -2,4 +2,4 @@
 
 pub use gixobj_data::TreeRefIter;
 pub use gixobj_data::tree::next_entry;
-pub use gixobj_tree_readers::tree::{EntryRef, TreeRef};
+pub use gixobj_tree::tree::{EntryRef, TreeRef};

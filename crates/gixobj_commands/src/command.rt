@@ -1,8 +1,8 @@
 //! What a run is asked for.
 use bstr::BString;
 use gixobj_hash::hash::ObjectId;
-use gixobj_trees::Tree;
-use gixobj_trees::tree::EntryKind;
+use gixobj_tree::Tree;
+use gixobj_tree::tree::EntryKind;
 
 /// An edit, or a write. A path is a list of names.
 #[derive(Debug, Drop)]

@@ -3,9 +3,9 @@ use Rattle.std.proofs.Common.{◌≡◌, ◌≢◌, ◌≤◌, ◌++◌, ◌∷�
 use Rattle.std.specs.List.{AllZip, concat}
 use Rattle.gixobj_fields.specs.Runs.{Ending, broken, tells_end, tells_error, tells_piece}
 use Rattle.gixobj_hash.specs.declared.hash.kind.Kind.{Kind}
-use Rattle.gixobj_trees.specs.Entries.{EntryView}
-use Rattle.gixobj_tree_readers.proofs.OneEntry.{one_entry}
-use Rattle.gixobj_tree_readers.specs.TreeReading.{BeginsWithEntry, BeginsWithNoEntry, IsEntryText, IsTreeText, TellsEntries}
+use Rattle.gixobj_tree.specs.Entries.{EntryView}
+use Rattle.gixobj_tree.proofs.OneEntry.{one_entry}
+use Rattle.gixobj_tree.specs.TreeReading.{BeginsWithEntry, BeginsWithNoEntry, IsEntryText, IsTreeText, TellsEntries}
 use Rattle.gixobj_data.specs.TreeReaders.{IsLongestFront}
 
 -- where the run breaks off: no texts of entries go further

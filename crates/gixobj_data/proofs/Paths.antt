@@ -8,14 +8,14 @@ use Rattle.gixobj_hash.specs.declared.hash.kind.Kind as hash
 use Rattle.gixobj_hash.specs.declared.hash.object_id.ObjectId.{ObjectId}
 use Rattle.gixobj_hash.specs.declared.kind.Kind.{Kind}
 use Rattle.gixobj_hash.specs.declared.kind.Kind.TheVariants.{Blob, Commit, Tag, Tree}
-use Rattle.gixobj_trees.specs.Entries.{EntryView}
-use Rattle.gixobj_tree_readers.proofs.OneEntry.{one_entry, shorter}
-use Rattle.gixobj_tree_readers.specs.TreeReading.{BeginsWithEntry, HasEntry, TellsEntries}
+use Rattle.gixobj_tree.specs.Entries.{EntryView}
+use Rattle.gixobj_tree.proofs.OneEntry.{one_entry, shorter}
+use Rattle.gixobj_tree.specs.TreeReading.{BeginsWithEntry, HasEntry, TellsEntries}
 use Rattle.std.specs.Option.{option_map}
 use Rattle.std.specs.declared.ops.ControlFlow.{ControlFlow}
 use Rattle.std.specs.declared.ops.ControlFlow.TheVariants.{Break, Continue}
-use Rattle.gixobj_tree_readers.specs.TreeViews.{entry_view}
-use Rattle.gixobj_tree_readers.specs.declared.tree.entry_ref.EntryRef.{EntryRef}
+use Rattle.gixobj_tree.specs.TreeViews.{entry_view}
+use Rattle.gixobj_tree.specs.declared.tree.borrowed.entry_ref.EntryRef.{EntryRef}
 use Rattle.gixobj_data.specs.Lookups.{FoundIn, HasFirst, HasNone, IsAtPath, IsNamed, IsPath, IsStep, LeadsTo, Name, RefusesPath}
 use Rattle.gixobj_data.specs.Stores.{Objects, RefusesFind, StoredObject, named}
 use Rattle.gixobj_data.specs.declared.find.Error.{Error}

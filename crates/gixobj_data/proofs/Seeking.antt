@@ -6,11 +6,11 @@ use Rattle.gixobj_fields.specs.Runs.{broken, complete}
 use Rattle.gixobj_hash.specs.declared.decode.Error.{Error}
 use Rattle.gixobj_hash.specs.declared.decode.Error.TheVariants.{Malformed, OutOfMemory}
 use Rattle.gixobj_hash.specs.declared.hash.kind.Kind.{Kind}
-use Rattle.gixobj_trees.specs.Entries.{EntryView}
-use Rattle.gixobj_tree_readers.proofs.OneEntry.{shorter}
-use Rattle.gixobj_tree_readers.specs.TreeReading.{HasEntry}
-use Rattle.gixobj_tree_readers.specs.TreeViews.{entry_view}
-use Rattle.gixobj_tree_readers.specs.declared.tree.entry_ref.EntryRef.{EntryRef}
+use Rattle.gixobj_tree.specs.Entries.{EntryView}
+use Rattle.gixobj_tree.proofs.OneEntry.{shorter}
+use Rattle.gixobj_tree.specs.TreeReading.{HasEntry}
+use Rattle.gixobj_tree.specs.TreeViews.{entry_view}
+use Rattle.gixobj_tree.specs.declared.tree.borrowed.entry_ref.EntryRef.{EntryRef}
 use Rattle.gixobj_data.proofs.Paths.{lacked}
 use Rattle.gixobj_data.specs.EntryGiving.{GivesEntry, WantsNothing, bytes_left, standing}
 use Rattle.gixobj_data.specs.Lookups.{HasFirst, HasNone, IsNamed, Name}

@@ -11,9 +11,9 @@ use Rattle.gixobj_fields.specs.Readers.{Standing}
 use Rattle.gixobj_hash.specs.declared.hash.kind.Kind as hash
 use Rattle.gixobj_hash.specs.declared.hash.object_id.ObjectId.{ObjectId}
 use Rattle.gixobj_hash.specs.declared.kind.Kind.TheVariants.{Tree}
-use Rattle.gixobj_trees.specs.Entries.{EntryView}
-use Rattle.gixobj_tree_readers.specs.TreeViews.{entry_view}
-use Rattle.gixobj_tree_readers.specs.declared.tree.entry_ref.EntryRef.{EntryRef}
+use Rattle.gixobj_tree.specs.Entries.{EntryView}
+use Rattle.gixobj_tree.specs.TreeViews.{entry_view}
+use Rattle.gixobj_tree.specs.declared.tree.borrowed.entry_ref.EntryRef.{EntryRef}
 use Rattle.gixobj_data.proofs.Paths.{Follows, breaks_at, ends_at, follows_first, follows_on, no_path_in_none, tree_or_other}
 use Rattle.gixobj_data.specs.EntryGiving.{IsAtEntry, bytes_left}
 use Rattle.gixobj_data.specs.Lookups.{HasFirst, HasNone, IsAtPath, IsStep, LeadsTo, Name, RefusesPath, RefusesPathText, tree_left}

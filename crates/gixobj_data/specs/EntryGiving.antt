@@ -5,10 +5,10 @@ use Rattle.gixobj_fields.specs.Readers.{Gives, Standing}
 use Rattle.gixobj_fields.specs.Runs as runs
 use Rattle.gixobj_hash.specs.declared.decode.Error.{Error}
 use Rattle.gixobj_hash.specs.declared.hash.kind.Kind.{Kind}
-use Rattle.gixobj_trees.specs.Entries.{EntryView}
-use Rattle.gixobj_tree_readers.specs.TreeReading.{HasEntry}
-use Rattle.gixobj_tree_readers.specs.TreeViews.{entry_view}
-use Rattle.gixobj_tree_readers.specs.declared.tree.entry_ref.EntryRef.{EntryRef}
+use Rattle.gixobj_tree.specs.Entries.{EntryView}
+use Rattle.gixobj_tree.specs.TreeReading.{HasEntry}
+use Rattle.gixobj_tree.specs.TreeViews.{entry_view}
+use Rattle.gixobj_tree.specs.declared.tree.borrowed.entry_ref.EntryRef.{EntryRef}
 use Rattle.gixobj_data.specs.declared.tree.TreeRefIter.{TreeRefIter}
 
 -- the bytes that a reader has left

@@ -11,5 +11,5 @@ pub use Rattle.gixobj_object_readers.specs.BorrowedObjects
 pub use Rattle.gixobj_object_readers.specs.ObjectReading
 pub use Rattle.gixobj_tag_tokens.specs.TokenGiving as TagTokenGiving
 pub use Rattle.gixobj_tokens.specs.TokenGiving
-pub use Rattle.gixobj_tree_readers.specs.TreeReading
-pub use Rattle.gixobj_tree_readers.specs.TreeViews
+pub use Rattle.gixobj_tree.specs.TreeReading
+pub use Rattle.gixobj_tree.specs.TreeViews

@@ -9,10 +9,10 @@ use Rattle.gixobj_hash.specs.declared.hash.object_id.ObjectId.{ObjectId}
 use Rattle.gixobj_hash.specs.declared.kind.Kind.TheVariants.{Tree}
 use Rattle.gixobj_hash.specs.Bytes.{slash}
 use Rattle.gixobj_hash.specs.Texts.{IsFree}
-use Rattle.gixobj_trees.specs.Entries.{EntryView}
-use Rattle.gixobj_tree_readers.specs.TreeReading.{HasEntry}
-use Rattle.gixobj_tree_readers.specs.TreeViews.{entry_view}
-use Rattle.gixobj_tree_readers.specs.declared.tree.entry_ref.EntryRef.{EntryRef}
+use Rattle.gixobj_tree.specs.Entries.{EntryView}
+use Rattle.gixobj_tree.specs.TreeReading.{HasEntry}
+use Rattle.gixobj_tree.specs.TreeViews.{entry_view}
+use Rattle.gixobj_tree.specs.declared.tree.borrowed.entry_ref.EntryRef.{EntryRef}
 use Rattle.gixobj_data.specs.EntryGiving.{bytes_left}
 use Rattle.gixobj_data.specs.Stores.{Objects, StoredObject, named}
 use Rattle.gixobj_data.specs.declared.find.Error.{Error}

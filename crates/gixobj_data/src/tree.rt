@@ -1,16 +1,16 @@
 //! Trees told entry by entry (gitdatamodel, "trees").
 ghost use Rattle.std.specs.Prelude.{◌≡◌, ◌-◌, [], IfErr, IfOk, length, map};
 ghost use Rattle.gixobj_data.specs.EntryGiving.{GivesEntry, IsAtEntry, IsTail, bytes_left, entries_left};
-ghost use Rattle.gixobj_tree_readers.specs.TreeReading.{IsTreeText, RefusesTreeText};
-ghost use Rattle.gixobj_tree_readers.specs.TreeViews.{entry_view};
+ghost use Rattle.gixobj_tree.specs.TreeReading.{IsTreeText, RefusesTreeText};
+ghost use Rattle.gixobj_tree.specs.TreeViews.{entry_view};
 
 mod lookup;
 
 use gixobj_hash::decode::Error;
 use gixobj_hash::hash;
-use gixobj_tree_readers::TreeRef;
-use gixobj_tree_readers::tree::EntryRef;
-use gixobj_tree_readers::tree::decode::read_entry;
+use gixobj_tree::TreeRef;
+use gixobj_tree::tree::EntryRef;
+use gixobj_tree::tree::decode::read_entry;
 pub use lookup::next_entry;
 use std::alloc::Global;
 

@@ -6,8 +6,8 @@ use Rattle.std.specs.Ordering.{nat_cmp}
 use Rattle.gixobj_files.specs.Editing.{same_name}
 use Rattle.gixobj_hash.proofs.Splits.{free_of_cut}
 use Rattle.gixobj_hash.specs.Texts.{IsFree}
-use Rattle.gixobj_tree_readers.proofs.Deciding.{cut_or_free}
-use Rattle.gixobj_trees.specs.Entries.{ComesBefore, EachLater, EntryView, IsEntryName, IsWellFormed, entry_key}
+use Rattle.gixobj_tree.proofs.Deciding.{cut_or_free}
+use Rattle.gixobj_tree.specs.Entries.{ComesBefore, EachLater, EntryView, IsEntryName, IsWellFormed, entry_key}
 
 -- a fact that holds, or doesn't
 abbrev OrNot : Type 0 → Type 0

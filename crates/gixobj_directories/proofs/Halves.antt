@@ -15,8 +15,8 @@ use Rattle.std.proofs.lemmas.List.Quantifiers.{position-Some}
 use Rattle.std.proofs.lemmas.List.Sorted.{searchable_from_sorted}
 use Rattle.std.proofs.lemmas.List.Sums.{prefix_len_is}
 use Rattle.std.proofs.lemmas.Option.{slice_get-get_or, slice_get_past}
-use Rattle.gixobj_trees.proofs.WellFormed.{same_key}
-use Rattle.gixobj_trees.specs.Entries.{EachLater}
+use Rattle.gixobj_tree.proofs.WellFormed.{same_key}
+use Rattle.gixobj_tree.specs.Entries.{EachLater}
 
 -- the first place at which a test passes, and where there is none
 module _ {X : Type 0} (p : X → Bool) where

@@ -8,7 +8,7 @@ use Rattle.std.specs.Result.{IsErrAnd}
 use Rattle.std.proofs.lemmas.Bool.{eqb-true}
 use Rattle.std.proofs.lemmas.List.{drop_all}
 use Rattle.std.proofs.lemmas.List.Elements.{All-from_recursion}
-use Rattle.gixobj_trees.specs.Entries.{ComesBefore, EachLater, EntryView, IsEntryName, IsWellFormed}
+use Rattle.gixobj_tree.specs.Entries.{ComesBefore, EachLater, EntryView, IsEntryName, IsWellFormed}
 use Rattle.gixobj_hash.specs.declared.hash.object_id.ObjectId.{ObjectId}
 use denote.Ref.{Bor}
 use Rattle.gixobj_directories.specs.Calls.{IsCallableOnTrees, IsStorable}

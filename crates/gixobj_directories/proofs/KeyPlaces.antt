@@ -17,11 +17,11 @@ use Rattle.std.proofs.lemmas.List.Quantifiers.{position-Some}
 use Rattle.std.proofs.lemmas.List.Sums.{prefix_len-le-length, prefix_len_passes, prefix_len_stops}
 use Rattle.gixobj_files.specs.Editing.{has_tree, same_name}
 use Rattle.gixobj_hash.specs.Texts.{IsFree}
-use Rattle.gixobj_trees.proofs.NameKeys.{by_keys}
-use Rattle.gixobj_trees.proofs.WellFormed.{found, same_key}
-use Rattle.gixobj_trees.specs.Entries.{EntryView, IsEntryName, IsWellFormed, entry_key, key_of, name_cmp}
-use Rattle.gixobj_trees.specs.Mode.{is_tree_mode}
-use Rattle.gixobj_trees.specs.WellFormed.{HasKey}
+use Rattle.gixobj_tree.proofs.NameKeys.{by_keys}
+use Rattle.gixobj_tree.proofs.WellFormed.{found, same_key}
+use Rattle.gixobj_tree.specs.Entries.{EntryView, IsEntryName, IsWellFormed, entry_key, key_of, name_cmp}
+use Rattle.gixobj_tree.specs.Mode.{is_tree_mode}
+use Rattle.gixobj_tree.specs.WellFormed.{HasKey}
 use Rattle.gixobj_directories.proofs.Halves.{IsNarrowed, compared, first, greater_from, halved_key, halved_place, is_before, later_at, less_to, lt_is, narrowed_none, position_at, position_none}
 
 -- a key has one name and one kind

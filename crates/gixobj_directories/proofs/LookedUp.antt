@@ -11,10 +11,10 @@ use Rattle.gixobj_files.specs.Tables.{AgreesWithStore}
 use Rattle.gixobj_hash.specs.Hash.{id_bytes}
 use Rattle.gixobj_hash.specs.declared.hash.kind.Kind.{Kind}
 use Rattle.gixobj_hash.specs.declared.hash.object_id.ObjectId.{ObjectId}
-use Rattle.gixobj_tree_readers.proofs.EntryRuns.{told}
-use Rattle.gixobj_tree_readers.proofs.OneEntry.{one_entry}
-use Rattle.gixobj_tree_readers.specs.TreeReading.{BeginsWithEntry, HasEntry, IsTreeText, TellsEntries}
-use Rattle.gixobj_trees.specs.Entries.{EntryView}
+use Rattle.gixobj_tree.proofs.EntryRuns.{told}
+use Rattle.gixobj_tree.proofs.OneEntry.{one_entry}
+use Rattle.gixobj_tree.specs.TreeReading.{BeginsWithEntry, HasEntry, IsTreeText, TellsEntries}
+use Rattle.gixobj_tree.specs.Entries.{EntryView}
 use Rattle.gixobj_directories.specs.LookedUp.{IsDirectoryIn, IsFileIn, IsLookedUp}
 use Rattle.gixobj_directories.specs.Openings.{AreTreesOf}
 

@@ -5,10 +5,10 @@ use Rattle.gixobj_files.specs.Files.{Trees}
 use Rattle.gixobj_hash.specs.declared.hash.object_id.ObjectId.{ObjectId}
 use Rattle.gixobj_hash.specs.declared.kind.Kind.{Kind}
 use Rattle.gixobj_hash.specs.declared.kind.Kind.TheVariants.{Blob, Commit, Tag, Tree}
-use Rattle.gixobj_tree_readers.proofs.Deciding.{tree_or_none}
-use Rattle.gixobj_tree_readers.proofs.EntryRuns.{one_tree}
-use Rattle.gixobj_tree_readers.specs.TreeReading.{IsTreeText}
-use Rattle.gixobj_trees.specs.Entries.{EntryView, IsWellFormed}
+use Rattle.gixobj_tree.proofs.Deciding.{tree_or_none}
+use Rattle.gixobj_tree.proofs.EntryRuns.{one_tree}
+use Rattle.gixobj_tree.specs.TreeReading.{IsTreeText}
+use Rattle.gixobj_tree.specs.Entries.{EntryView, IsWellFormed}
 use Rattle.gixobj_directories.proofs.Deciding.{formed_or_not}
 use Rattle.gixobj_directories.specs.Openings.{AreTreesOf, NamesTree}
 

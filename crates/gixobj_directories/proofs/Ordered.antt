@@ -12,8 +12,8 @@ use Rattle.std.proofs.lemmas.List.{append_cancel_right}
 use Rattle.bstr.specs.Owned.{bstring_bytes}
 use Rattle.gixobj_files.proofs.Sublists.{all_weaker}
 use Rattle.gixobj_files.specs.Editing.{same_name}
-use Rattle.gixobj_trees.proofs.WellFormed.{same_key}
-use Rattle.gixobj_trees.specs.Entries.{EachLater, EntryView, key_of}
+use Rattle.gixobj_tree.proofs.WellFormed.{same_key}
+use Rattle.gixobj_tree.specs.Entries.{EachLater, EntryView, key_of}
 use Rattle.gixobj_directories.specs.declared.open.Child.{Child}
 use Rattle.gixobj_directories.specs.Nested.{AreOrdered, IsLevel, Part, is_child_before, is_part_before, part, part_key, parts, with_part}
 use Rattle.gixobj_directories.proofs.Halves.{Ascends, compared, first, halved_key, halved_none, halved_place, later_at, lt_is, position_at, position_none, tied_keys}

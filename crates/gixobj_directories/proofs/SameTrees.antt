@@ -9,9 +9,9 @@ use Rattle.std.proofs.lemmas.Bool.{eqb-true}
 use Rattle.gixobj_hash.specs.Hash.Order.{id_cmp}
 use Rattle.gixobj_hash.specs.declared.hash.object_id.ObjectId.{ObjectId}
 use Rattle.gixobj_hash.specs.declared.hash.object_id.ObjectId.TheVariants.{Sha1, Sha256}
-use Rattle.gixobj_trees.specs.Entries.{EntryView, entry_of}
-use Rattle.gixobj_trees.specs.EntryOrder.{same_entry, same_tree}
-use Rattle.gixobj_trees.specs.EntryOrderLaws.{tree_equiv}
+use Rattle.gixobj_tree.specs.Entries.{EntryView, entry_of}
+use Rattle.gixobj_tree.specs.EntryOrder.{same_entry, same_tree}
+use Rattle.gixobj_tree.specs.EntryOrderLaws.{tree_equiv}
 
 both : (a b : Bool) → (a && b) ≡ true → (a ≡ true) × (b ≡ true)
 both true b h = (refl, h)

@@ -10,8 +10,8 @@ use Rattle.gixobj_hash.specs.declared.kind.Kind.TheVariants.{Tree}
 use Rattle.gixobj_lookups.specs.Existing.{NamesSuch, RefusesObject}
 use Rattle.gixobj_lookups.specs.declared.find.existing_object.Error as found
 use Rattle.gixobj_lookups.specs.declared.find.existing_object.Error.TheVariants as object
-use Rattle.gixobj_tree_readers.specs.TreeReading.{IsTreeText}
-use Rattle.gixobj_trees.specs.Entries.{EntryView, IsWellFormed}
+use Rattle.gixobj_tree.specs.TreeReading.{IsTreeText}
+use Rattle.gixobj_tree.specs.Entries.{EntryView, IsWellFormed}
 use Rattle.gixobj_directories.specs.declared.opening.Error.{Error}
 use Rattle.gixobj_directories.specs.declared.opening.Error.TheVariants as opening
 use Rattle.gixobj_directories.specs.declared.opening.Unasked.{Unasked}

@@ -1,6 +1,6 @@
 -- A tree that is made beside a base: its entries so far.
 use Rattle.std.specs.Prelude.{◌≢◌, ◌≤◌, List, ◌++◌, length, take}
-use Rattle.gixobj_trees.specs.Entries.{EntryView}
+use Rattle.gixobj_tree.specs.Entries.{EntryView}
 use Rattle.gixobj_hash.specs.declared.hash.object_id.ObjectId.{ObjectId}
 use Rattle.gixobj_directories.specs.declared.own_tree.OwnTree.{OwnTree}
 use Rattle.gixobj_directories.specs.declared.own_tree.OwnTree.TheVariants.{Front, Own}

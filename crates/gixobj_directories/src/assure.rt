@@ -1,7 +1,7 @@
 //! Making the directories on a path open directories.
 ghost use Rattle.std.specs.Prelude.{◌≡◌, None, OnErr, OnOk};
 ghost use Rattle.std.specs.List.{AllByRecursion};
-ghost use Rattle.gixobj_trees.specs.Entries.{IsEntryName};
+ghost use Rattle.gixobj_tree.specs.Entries.{IsEntryName};
 ghost use Rattle.gixobj_files.specs.Edits.{assured_dirs};
 ghost use Rattle.gixobj_files.specs.Files.{Path};
 ghost use Rattle.gixobj_directories.specs.Calls.{names_of};
@@ -11,7 +11,7 @@ ghost use Rattle.gixobj_files.specs.Bases.{edited_bases};
 use crate::open::{Open, add_directory, child_at};
 use bstr::BString;
 use gixobj_hash::hash::ObjectId;
-use gixobj_trees::Tree;
+use gixobj_tree::Tree;
 use std::alloc::{AllocError, Global};
 
 impl Open {

@@ -1,8 +1,8 @@
 //! The entries of a directory: one put in, one taken out, and copies.
 ghost use Rattle.std.specs.Prelude.{◌≡◌, ◌≢◌, ◌≤◌, ◌<◌, IfOk, not, vec_len, vec_capacity};
 ghost use Rattle.std.specs.List.{position, prefix_len};
-ghost use Rattle.gixobj_trees.specs.Entries.{EachLater, IsEntryName, IsWellFormed, entry_key};
-ghost use Rattle.gixobj_trees.specs.WellFormed.{HasKey};
+ghost use Rattle.gixobj_tree.specs.Entries.{EachLater, IsEntryName, IsWellFormed, entry_key};
+ghost use Rattle.gixobj_tree.specs.WellFormed.{HasKey};
 ghost use Rattle.gixobj_hash.specs.Texts.{IsFree};
 ghost use Rattle.gixobj_hash.specs.Bytes.{slash};
 ghost use Rattle.gixobj_files.specs.Editing.{comes_before, kept, same_name, with_entry, without};
@@ -10,7 +10,7 @@ ghost use Rattle.gixobj_files.specs.Files.{is_null};
 
 use crate::places::{directory_behind, file_in_front, place_by_key};
 use bstr::BString;
-use gixobj_trees::tree::Entry;
+use gixobj_tree::tree::Entry;
 use std::alloc::{AllocError, Global};
 
 /// Puts an entry in, in place of any entry of its name: before the first of the others whose key comes

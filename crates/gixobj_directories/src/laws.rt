@@ -7,8 +7,8 @@ ghost use Rattle.gixobj_directories.specs.Openings.{AreTreesOf};
 ghost use Rattle.gixobj_files.specs.Files.{Files, Table, Trees};
 ghost use Rattle.gixobj_files.specs.Tables.{AgreesWithStore};
 ghost use Rattle.gixobj_hash.specs.declared.hash.kind.Kind.{Kind};
-ghost use Rattle.gixobj_tree_readers.specs.TreeReading.{IsTreeText};
-ghost use Rattle.gixobj_trees.specs.Entries.{EntryView};
+ghost use Rattle.gixobj_tree.specs.TreeReading.{IsTreeText};
+ghost use Rattle.gixobj_tree.specs.Entries.{EntryView};
 
 /// Whatever a store means, it has the trees that it names: so what is said for all trees that are the store's is said
 /// of some.

@@ -8,8 +8,8 @@ ghost use Rattle.std.specs.Ordering.{nat_cmp};
 ghost use Rattle.bstr.specs.Owned.{bstring_bytes};
 ghost use Rattle.gixobj_hash.specs.Bytes.{slash};
 ghost use Rattle.gixobj_hash.specs.Texts.{IsFree};
-ghost use Rattle.gixobj_trees.specs.Entries.{EntryView, IsEntryName, IsWellFormed, key_of};
-ghost use Rattle.gixobj_trees.specs.Mode.{is_tree_mode, mode_bits};
+ghost use Rattle.gixobj_tree.specs.Entries.{EntryView, IsEntryName, IsWellFormed, key_of};
+ghost use Rattle.gixobj_tree.specs.Mode.{is_tree_mode, mode_bits};
 ghost use Rattle.gixobj_files.specs.Editing.{has_tree, same_name, with_entry, without};
 ghost use Rattle.gixobj_files.specs.Edits.{IsEntryOf, entry_at, removed_dirs, upserted_dirs, with_directory};
 ghost use Rattle.gixobj_files.specs.Files.{Has, Path};
@@ -21,9 +21,9 @@ use crate::entries::{copies, put};
 use crate::places::{first_look, place_by_key, place_of, take_named};
 use bstr::BString;
 use gixobj_hash::hash::ObjectId;
-use gixobj_trees::Tree;
-use gixobj_trees::tree::order::key_order;
-use gixobj_trees::tree::{Entry, EntryKind, EntryMode};
+use gixobj_tree::Tree;
+use gixobj_tree::tree::order::key_order;
+use gixobj_tree::tree::{Entry, EntryKind, EntryMode};
 use std::alloc::{AllocError, Global};
 use std::cmp::Ordering;
 use std::marker::Model;
@@ -52,7 +52,7 @@ pub(crate) struct Child {
 
 impl Model for Open {
     ghost use Rattle.std.specs.Prelude.{List, ℕ, ◌∷◌, [], length};
-    ghost use Rattle.gixobj_trees.specs.Entries.{EntryView};
+    ghost use Rattle.gixobj_tree.specs.Entries.{EntryView};
 
     ghost Value = { List (List (List ℕ) × (List EntryView × List EntryView)) };
 

@@ -1,8 +1,8 @@
 //! Opening the directories on a path, whose trees are looked up in a store.
 ghost use Rattle.std.specs.Prelude.{◌≡◌, ◌↔◌, ◌∷◌, [], IfErr, IfNone, IfOk, IfSome, IsTrue, List, OnErr, OnOk, Option, Some, true};
 ghost use Rattle.bstr.specs.Owned.{bstring_bytes};
-ghost use Rattle.gixobj_trees.specs.Entries.{EntryView, IsWellFormed};
-ghost use Rattle.gixobj_trees.specs.Mode.{is_tree_mode};
+ghost use Rattle.gixobj_tree.specs.Entries.{EntryView, IsWellFormed};
+ghost use Rattle.gixobj_tree.specs.Mode.{is_tree_mode};
 ghost use Rattle.gixobj_files.specs.Edits.{Finds, IsEntryOf, Opens, counted};
 ghost use Rattle.gixobj_files.specs.Files.{Has, Path, Trees};
 ghost use Rattle.gixobj_files.specs.Halting.{Halts};
@@ -22,7 +22,7 @@ use gixobj_hash::hash::ObjectId;
 use gixobj_hash::{OutOfMemory, decode};
 use gixobj_lookups::FindExt;
 use gixobj_lookups::find::existing_object;
-use gixobj_trees::Tree;
+use gixobj_tree::Tree;
 use std::alloc::{AllocError, Global};
 
 /// Why a directory isn't opened.

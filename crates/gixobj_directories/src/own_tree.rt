@@ -1,13 +1,13 @@
 //! The tree that an open directory gets, made beside the one that it was opened with.
 ghost use Rattle.std.specs.Prelude.{◌≡◌, ◌≢◌, ◌↔◌, ◌++◌, ◌∷◌, [], ◌==◌, IfOk, IsTrue, List, OnErr, OnOk, Some, length, slice_get};
-ghost use Rattle.gixobj_trees.specs.Entries.{EntryView};
-ghost use Rattle.gixobj_trees.specs.EntryOrder.{same_entry};
+ghost use Rattle.gixobj_tree.specs.Entries.{EntryView};
+ghost use Rattle.gixobj_tree.specs.EntryOrder.{same_entry};
 ghost use Rattle.gixobj_directories.specs.OwnTrees.{IsBeside, so_far, with_id};
 
 use crate::entries::{copies, copy};
 use gixobj_hash::hash::ObjectId;
-use gixobj_trees::Tree;
-use gixobj_trees::tree::Entry;
+use gixobj_tree::Tree;
+use gixobj_tree::tree::Entry;
 use std::alloc::{AllocError, Global};
 
 /// A tree that is made entry by entry, beside a base.

@@ -3,14 +3,14 @@ ghost use Rattle.std.specs.Prelude.{◌≡◌, ◌<◌, ◌≤◌, false, true, 
 ghost use Rattle.std.specs.List.{HoldsAt, position, prefix_len};
 ghost use Rattle.gixobj_hash.specs.Bytes.{slash};
 ghost use Rattle.gixobj_hash.specs.Texts.{IsFree};
-ghost use Rattle.gixobj_trees.specs.Entries.{IsWellFormed, key_of, name_cmp};
-ghost use Rattle.gixobj_trees.specs.Mode.{is_tree_mode};
-ghost use Rattle.gixobj_trees.specs.WellFormed.{HasKey};
+ghost use Rattle.gixobj_tree.specs.Entries.{IsWellFormed, key_of, name_cmp};
+ghost use Rattle.gixobj_tree.specs.Mode.{is_tree_mode};
+ghost use Rattle.gixobj_tree.specs.WellFormed.{HasKey};
 ghost use Rattle.gixobj_files.specs.Editing.{same_name, without};
 ghost use Rattle.gixobj_directories.specs.KeyPlaces.{has_key_before};
 
 use gixobj_hash::texts::has_byte;
-use gixobj_trees::tree::{Entry, name_order};
+use gixobj_tree::tree::{Entry, name_order};
 use std::cmp::Ordering;
 
 /// The place of the entry of this name, if there is one: sought as a file's, and then as a directory's.

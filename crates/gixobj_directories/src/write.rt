@@ -3,7 +3,7 @@ ghost use Rattle.std.specs.Prelude.{◌≡◌, ◌≢◌, ◌↔◌, ◌+◌, �
 ghost use Rattle.std.specs.Fn.{CalledAt};
 ghost use Rattle.std.specs.List.{FoldsTo};
 ghost use Rattle.std.specs.Option.{option_copied};
-ghost use Rattle.gixobj_trees.specs.Entries.{EntryView};
+ghost use Rattle.gixobj_tree.specs.Entries.{EntryView};
 ghost use Rattle.gixobj_files.specs.Bases.{edited_bases};
 ghost use Rattle.gixobj_files.specs.Edits.{only, raised, with_path};
 ghost use Rattle.gixobj_files.specs.Files.{Path};
@@ -19,8 +19,8 @@ use crate::open::{Child, Open, child_at, copy_tree};
 use crate::own_tree::OwnTree;
 use bstr::BString;
 use gixobj_hash::hash::ObjectId;
-use gixobj_trees::Tree;
-use gixobj_trees::tree::Entry;
+use gixobj_tree::Tree;
+use gixobj_tree::tree::Entry;
 use std::alloc::{AllocError, AllocFailed, Global};
 use std::fmt::Display;
 

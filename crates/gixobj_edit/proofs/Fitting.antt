@@ -22,9 +22,9 @@ use Rattle.gixobj_runs.specs.Replies.{IsRun}
 use Rattle.gixobj_runs.specs.RunTables.{ReadsAsItself}
 use Rattle.gixobj_runs.specs.declared.reply.Reply.{Reply}
 use Rattle.gixobj_store.specs.declared.Memory.{Memory}
-use Rattle.gixobj_tree_readers.specs.Rewriting.{ReadsBack}
-use Rattle.gixobj_trees.specs.Entries.{EntryView}
-use Rattle.gixobj_trees.specs.TreeText.{tree_text}
+use Rattle.gixobj_tree.specs.Rewriting.{ReadsBack}
+use Rattle.gixobj_tree.specs.Entries.{EntryView}
+use Rattle.gixobj_tree.specs.TreeText.{tree_text}
 use Rattle.gixobj_edit.specs.Digests.{HaveOwnIds, IsAnsweredDigest}
 use Rattle.gixobj_edit.specs.Edits.{memory_means}
 

@@ -10,7 +10,7 @@ use Rattle.gixobj_hash.specs.declared.hash.kind.Kind as hash
 use Rattle.gixobj_hash.specs.declared.hash.object_id.ObjectId.{ObjectId}
 use Rattle.gixobj_fields.specs.declared.encode.Error.{Error}
 use Rattle.gixobj_store.specs.declared.Memory.{Memory}
-use Rattle.gixobj_trees.specs.Entries.{EntryView}
+use Rattle.gixobj_tree.specs.Entries.{EntryView}
 use Rattle.gixobj_edit.specs.Digests.{IsAnsweredDigest}
 use Rattle.gixobj_edit.specs.Edits.{IsEdit, IsNew, IsTold, memory_means}
 use Rattle.gixobj_edit.specs.declared.editing.EditError.{EditError}

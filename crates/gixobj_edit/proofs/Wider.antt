@@ -17,7 +17,7 @@ use Rattle.gixobj_files.specs.HandingOut.{HandsOutSome}
 use Rattle.gixobj_files.specs.State.{State, open_bases, open_dirs}
 use Rattle.gixobj_files.specs.Tables.{Pair}
 use Rattle.gixobj_hash.specs.declared.hash.object_id.ObjectId.{ObjectId}
-use Rattle.gixobj_trees.specs.Entries.{EntryView}
+use Rattle.gixobj_tree.specs.Entries.{EntryView}
 use Rattle.gixobj_runs.specs.Commands.{Place, at_cursor, at_root}
 use Rattle.gixobj_runs.specs.Replies.{Answers, AreEditReplies, Denies, Gives, IsEditReply, IsRefusedWrite, IsReply, IsReplyAt, IsRun, IsWriteKept, IsWrittenAt, Meaning, dirs_at}
 use Rattle.gixobj_runs.specs.declared.reply.EditReply.{EditReply}

@@ -9,8 +9,8 @@ use Rattle.gixobj_hash.specs.declared.hash.kind.Kind as hash
 use Rattle.gixobj_hash.specs.declared.hash.object_id.ObjectId.{ObjectId}
 use Rattle.gixobj_hash.specs.declared.kind.Kind.TheVariants.{Tree}
 use Rattle.gixobj_keeping.specs.Keeping.{HasNoText, HasText}
-use Rattle.gixobj_trees.specs.Entries.{EntryView}
-use Rattle.gixobj_trees.specs.TreeText.{tree_text}
+use Rattle.gixobj_tree.specs.Entries.{EntryView}
+use Rattle.gixobj_tree.specs.TreeText.{tree_text}
 
 -- the answer to a tree is the digest of its written bytes; or there was no room for these; or else it can't be written
 abbrev pub IsAnsweredDigest : hash.Kind → List EntryView → Result ObjectId Error → Type 0

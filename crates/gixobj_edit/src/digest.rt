@@ -4,7 +4,7 @@ ghost use Rattle.gixobj_edit.specs.Digests.{IsAnsweredDigest};
 use gixobj_fields::{WriteTo, encode};
 use gixobj_hash::hash::ObjectId;
 use gixobj_hash::{Kind, compute_hash, hash};
-use gixobj_trees::Tree;
+use gixobj_tree::Tree;
 use std::alloc::Global;
 
 /// The digest of the tree as it is written. `Writer` where there was no room for the written text, and any other

@@ -15,7 +15,7 @@ use gixobj_keeping::Keep;
 use gixobj_runs::run;
 use gixobj_script::{ScriptError, answer_lines, read_script};
 use gixobj_store::Memory;
-use gixobj_trees::Tree;
+use gixobj_tree::Tree;
 use std::alloc::Global;
 
 /// Why a script isn't run, or what came of it isn't told.

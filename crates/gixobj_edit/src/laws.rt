@@ -12,7 +12,7 @@ ghost use Rattle.gixobj_runs.specs.Replies.{IsRun};
 ghost use Rattle.gixobj_runs.specs.RunTables.{AgreesWithRun};
 ghost use Rattle.gixobj_store.specs.Memory.{memory_objects};
 ghost use Rattle.gixobj_store.specs.declared.Memory.{Memory};
-ghost use Rattle.gixobj_tree_readers.specs.Rewriting.{ReadsBack};
+ghost use Rattle.gixobj_tree.specs.Rewriting.{ReadsBack};
 
 use gixobj_fields::encode;
 use gixobj_runs::Reply;

@@ -24,7 +24,7 @@ use Rattle.gixobj_files.proofs.UnopenedCounts.{asked_count}
 use Rattle.gixobj_hash.specs.Hash.{null_id}
 use Rattle.gixobj_hash.specs.declared.hash.kind.Kind.{Kind}
 use Rattle.gixobj_hash.specs.declared.hash.object_id.ObjectId.{ObjectId}
-use Rattle.gixobj_trees.specs.Entries.{EntryView, IsEntryName}
+use Rattle.gixobj_tree.specs.Entries.{EntryView, IsEntryName}
 use Rattle.gixobj_editor.specs.Cursors.{IsAssured, RefusesCursor}
 use Rattle.gixobj_editor.specs.Upserts.{RefusesNames, edit_refusal}
 use Rattle.gixobj_editor.specs.declared.editor.error.Error.{Error}

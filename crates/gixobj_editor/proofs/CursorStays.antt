@@ -13,7 +13,7 @@ use Rattle.gixobj_files.proofs.PrefixStays.{removed_stays, upserted_stays}
 use Rattle.gixobj_files.proofs.StillOpenedOpenings.{opening_keeps}
 use Rattle.gixobj_hash.specs.Hash.{null_id}
 use Rattle.gixobj_hash.specs.declared.hash.object_id.ObjectId.{ObjectId}
-use Rattle.gixobj_trees.specs.Entries.{EntryView}
+use Rattle.gixobj_tree.specs.Entries.{EntryView}
 use Rattle.gixobj_editor.specs.Cursors.{from_root}
 use Rattle.gixobj_editor.specs.Removals.{IsRemoved}
 use Rattle.gixobj_files.specs.Bases.{opened_bases}

@@ -1,6 +1,6 @@
 -- How far the directories on a path were opened, where the opening went no further.
 use Rattle.std.proofs.Common.{◌≡◌, ◌∙◌, ◌≤◌, ℕ, List, [], ◌∷◌, ◌++◌, Option, append-nil, append_assoc, arith, length, refl, sym, ap, subst}
-use Rattle.gixobj_trees.specs.Entries.{EntryView}
+use Rattle.gixobj_tree.specs.Entries.{EntryView}
 use Rattle.gixobj_hash.specs.declared.hash.object_id.ObjectId.{ObjectId}
 use Rattle.gixobj_files.specs.Edits.{Opens, arrived, counted}
 use Rattle.gixobj_files.specs.Files.{Path, Trees}

@@ -1,7 +1,7 @@
 -- How far a removal's opening comes, and which names it judges.
 use Rattle.std.proofs.Common.{◌≡◌, ◌≢◌, ◌∙◌, ◌⊎◌, inl, inr, ℕ, Bool, List, [], ◌∷◌, ◌++◌, Option, Some, None, refl, sym, ap, subst}
 use Rattle.std.proofs.lemmas.List.Elements.{All-cons, All-head, All-nil, All-tail}
-use Rattle.gixobj_trees.specs.Entries.{EntryView, IsEntryName}
+use Rattle.gixobj_tree.specs.Entries.{EntryView, IsEntryName}
 use Rattle.gixobj_hash.specs.declared.hash.object_id.ObjectId.{ObjectId}
 use Rattle.gixobj_data.specs.Stores.{Objects}
 use Rattle.gixobj_directories.specs.Calls.{AreNames}

@@ -1,7 +1,7 @@
 -- The base of each open directory is what the id of its entry stands for, in every table that has agreed with the store, and that of a
 -- null id is empty.
 use Rattle.std.proofs.Common.{◌≡◌, inl, inr, true, false, List, [], refl, sym, ap, subst, ◌∙◌, Option, Some}
-use Rattle.gixobj_trees.specs.Entries.{EntryView}
+use Rattle.gixobj_tree.specs.Entries.{EntryView}
 use Rattle.gixobj_hash.specs.Hash.{id_kind}
 use Rattle.gixobj_hash.specs.declared.hash.object_id.ObjectId.{ObjectId}
 use Rattle.gixobj_files.specs.Edits.{Finds}

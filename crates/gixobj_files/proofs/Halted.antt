@@ -1,8 +1,8 @@
 -- An opening that came to a halt: how far it came, how many ids it asked for, and where it stopped.
 use Rattle.std.proofs.Common.{◌≡◌, inl, inr, ℕ, ◌≤◌, true, false, List, [], ◌∷◌, ◌++◌, append_assoc, length, length-append, refl, sym, ap, subst, ◌∙◌, arith, Option, Some, None}
 use Rattle.std.specs.Prelude.{◌&&◌}
-use Rattle.gixobj_trees.specs.Entries.{EntryView}
-use Rattle.gixobj_trees.specs.Mode.{is_tree_mode}
+use Rattle.gixobj_tree.specs.Entries.{EntryView}
+use Rattle.gixobj_tree.specs.Mode.{is_tree_mode}
 use Rattle.gixobj_hash.specs.declared.hash.object_id.ObjectId.{ObjectId}
 use Rattle.gixobj_files.specs.Edits.{Finds, IsEntryOf, Opens, arrived, down, entry_of, found, only, stops}
 use Rattle.gixobj_files.specs.Files.{Path, Trees}

@@ -5,8 +5,8 @@ use Rattle.std.specs.Cmp.Lexicographic.{bytes_decides, slice_cmp, texts_ties}
 use Rattle.std.specs.Ordering.{is_eq, is_lt, nat_cmp, ordering_reverse}
 use Rattle.std.proofs.lemmas.Cmp.{nat_list_cmp_total}
 use Rattle.std.proofs.lemmas.List.Elements.{All-contains, Contains-push}
-use Rattle.gixobj_trees.specs.Entries.{ComesBefore, EntryView, entry_key, key_of}
-use Rattle.gixobj_trees.specs.Mode.{is_tree_mode}
+use Rattle.gixobj_tree.specs.Entries.{ComesBefore, EntryView, entry_key, key_of}
+use Rattle.gixobj_tree.specs.Mode.{is_tree_mode}
 use Rattle.gixobj_hash.specs.Texts.{IsFree}
 use Rattle.gixobj_files.specs.Editing.{comes_before}
 

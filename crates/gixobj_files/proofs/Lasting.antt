@@ -1,6 +1,6 @@
 -- What holds of each entry of the open directories holds after each call.
 use Rattle.std.proofs.Common.{◌≢◌, List, [], ◌∷◌, ◌++◌, ℕ, None}
-use Rattle.gixobj_trees.specs.Entries.{EntryView}
+use Rattle.gixobj_tree.specs.Entries.{EntryView}
 use Rattle.gixobj_hash.specs.declared.hash.object_id.ObjectId.{ObjectId}
 use Rattle.gixobj_files.specs.Edits.{IsNoTree, Opens, assured_dirs, only, removed_dirs, upserted_dirs, with_path}
 use Rattle.gixobj_files.specs.Files.{Has, Path, Trees}

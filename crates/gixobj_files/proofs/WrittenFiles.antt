@@ -2,8 +2,8 @@
 use Rattle.std.proofs.Common.{◌≡◌, ◌≢◌, ◌⊎◌, inl, inr, ⊎_elim, ℕ, zero, suc, true, false, cond, List, [], ◌∷◌, ◌++◌, refl, sym, ap, subst, ◌∙◌, Option, Some, None}
 use Rattle.std.specs.Prelude.{MatchOption}
 use Rattle.std.specs.List.{AllByRecursion}
-use Rattle.gixobj_trees.specs.Entries.{EachLater, EntryView}
-use Rattle.gixobj_trees.specs.Mode.{is_tree_mode}
+use Rattle.gixobj_tree.specs.Entries.{EachLater, EntryView}
+use Rattle.gixobj_tree.specs.Mode.{is_tree_mode}
 use Rattle.gixobj_hash.specs.declared.hash.object_id.ObjectId.{ObjectId}
 use Rattle.gixobj_files.specs.Files.{Below, Files, Has, Path, SameFiles, Table, is_null, stands_for}
 use Rattle.gixobj_files.proofs.Based.{Based}

@@ -1,7 +1,7 @@
 -- The base of each open directory but the root: what the id of its entry stood for when it was opened. That of the root counts for
 -- nothing.
 use Rattle.std.specs.Prelude.{◌≡◌, true, IsFalse, List, [], ◌∷◌, ◌++◌, Option, Some, None}
-use Rattle.gixobj_trees.specs.Entries.{EntryView}
+use Rattle.gixobj_tree.specs.Entries.{EntryView}
 use Rattle.gixobj_files.specs.Files.{Path, Table, is_null}
 use Rattle.gixobj_files.specs.Opening.{Dirs, HasAt, IsOpened}
 

@@ -1,6 +1,6 @@
 -- The trees that a write hands out, with the ids that they get: those of changed directories alone.
 use Rattle.std.specs.Prelude.{◌≡◌, ◌≢◌, ◌+◌, ℕ, List, [], ◌∷◌, ◌++◌, Some, None, if◌then◌else◌}
-use Rattle.gixobj_trees.specs.Entries.{EntryView}
+use Rattle.gixobj_tree.specs.Entries.{EntryView}
 use Rattle.gixobj_hash.specs.declared.hash.object_id.ObjectId.{ObjectId}
 use Rattle.gixobj_files.specs.Edits.{raised}
 use Rattle.gixobj_files.specs.Files.{is_null}

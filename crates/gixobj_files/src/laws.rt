@@ -1,7 +1,7 @@
 //! Laws of the definitions. Each function does nothing: its contract is the law.
 ghost use Rattle.std.specs.Prelude.{◌↔◌, ◌≤◌, ℕ, All, List, length};
 ghost use Rattle.std.specs.FinMap as map;
-ghost use Rattle.gixobj_trees.specs.Entries.{EntryView, IsWellFormed};
+ghost use Rattle.gixobj_tree.specs.Entries.{EntryView, IsWellFormed};
 ghost use Rattle.gixobj_hash.specs.declared.hash.object_id.ObjectId.{ObjectId};
 ghost use Rattle.gixobj_files.specs.Files.{Path, Table, Trees};
 ghost use Rattle.gixobj_files.specs.History.{History, Step};

@@ -13,7 +13,7 @@ use Rattle.gixobj_files.specs.State.{State}
 use Rattle.gixobj_files.specs.Tables.{Pair}
 use Rattle.gixobj_hash.specs.declared.hash.kind.Kind as hash
 use Rattle.gixobj_hash.specs.declared.hash.object_id.ObjectId.{ObjectId}
-use Rattle.gixobj_trees.specs.Entries.{EntryView}
+use Rattle.gixobj_tree.specs.Entries.{EntryView}
 use Rattle.gixobj_runs.specs.Replies.{Denies, Gives}
 use Rattle.gixobj_import.specs.Edited.{Digests}
 

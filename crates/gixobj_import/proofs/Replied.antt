@@ -13,8 +13,8 @@ use Rattle.gixobj_files.specs.Edits.{IsNoTree}
 use Rattle.gixobj_files.specs.Files.{Trees}
 use Rattle.gixobj_files.specs.State.{State, open_dirs}
 use Rattle.gixobj_hash.specs.declared.hash.object_id.ObjectId.{ObjectId}
-use Rattle.gixobj_trees.specs.Mode.{mode_of_kind}
-use Rattle.gixobj_trees.specs.declared.tree.entry_kind.EntryKind.{EntryKind}
+use Rattle.gixobj_tree.specs.Mode.{mode_of_kind}
+use Rattle.gixobj_tree.specs.declared.tree.entry_kind.EntryKind.{EntryKind}
 use Rattle.gixobj_runs.specs.Replies.{IsRefusedEdit, Meaning, reply_to}
 use Rattle.gixobj_runs.specs.RunTables.{OfTrees}
 use Rattle.gixobj_import.specs.Edited.{IsReplied}

@@ -9,7 +9,7 @@ use Rattle.gixobj_files.specs.History.{History, Step, after_step, assure, remove
 use Rattle.gixobj_files.specs.Opening.{HasAt, OpenFiles}
 use Rattle.gixobj_files.specs.State.{DirMap, EditorFiles, State, open_bases, open_dirs, root_alone}
 use Rattle.gixobj_hash.specs.declared.hash.object_id.ObjectId.{ObjectId}
-use Rattle.gixobj_trees.specs.Entries.{EntryView}
+use Rattle.gixobj_tree.specs.Entries.{EntryView}
 use Rattle.gixobj_import.specs.Imports.{no_files}
 
 pub same_refl : (A : FileSet) → SameFiles A A

@@ -9,8 +9,8 @@ use Rattle.gixobj_hash.specs.declared.hash.object_id.ObjectId.{ObjectId}
 use Rattle.gixobj_hash.specs.declared.kind.Kind.TheVariants.{Tree}
 use Rattle.gixobj_keeping.specs.Keeping.{commit_object, tree_object, with_commit, with_tree, with_trees}
 use Rattle.gixobj_runs.specs.RunTables.{AgreesWithObjects, ReadsAsItself}
-use Rattle.gixobj_tree_readers.specs.TreeReading.{IsTreeText}
-use Rattle.gixobj_trees.specs.Entries.{EntryView}
+use Rattle.gixobj_tree.specs.TreeReading.{IsTreeText}
+use Rattle.gixobj_tree.specs.Entries.{EntryView}
 use Rattle.gixobj_import.specs.Commits.{step_text}
 use Rattle.gixobj_import.specs.Imports.{AgreesWithImports, pairs_of_imports, with_imports}
 use Rattle.gixobj_import.specs.declared.import.Imported.{Imported}

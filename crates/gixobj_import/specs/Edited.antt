@@ -18,8 +18,8 @@ use Rattle.gixobj_runs.specs.Commands.{at_root}
 use Rattle.gixobj_runs.specs.Replies.{Answers, IsEditReply, Meaning}
 use Rattle.gixobj_runs.specs.declared.reply.EditReply.{EditReply}
 use Rattle.gixobj_runs.specs.declared.reply.EditReply.TheVariants as reply
-use Rattle.gixobj_trees.specs.Mode.{mode_of_kind}
-use Rattle.gixobj_trees.specs.TreeText.{tree_text}
+use Rattle.gixobj_tree.specs.Mode.{mode_of_kind}
+use Rattle.gixobj_tree.specs.TreeText.{tree_text}
 
 -- what an edit does to the files; a write does nothing
 abbrev pub steps_of_edit : Edit → List Step

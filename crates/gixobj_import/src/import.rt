@@ -24,7 +24,7 @@ use gixobj_hash::OutOfMemory;
 use gixobj_hash::hash::{self, ObjectId};
 pub use gixobj_keeping::KeepCommit;
 use gixobj_keeping::{Keep, KeepError};
-use gixobj_trees::Tree;
+use gixobj_tree::Tree;
 use std::alloc::Global;
 
 /// A step of an import: edits of the files so far, and who made them a commit.

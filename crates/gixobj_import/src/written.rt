@@ -20,7 +20,7 @@ use gixobj_hash::laws::hex_reads_back;
 use gixobj_hash::{Kind, compute_hash};
 use gixobj_keeping::{Keep, keep_all};
 use gixobj_runs::EditReply;
-use gixobj_trees::Tree;
+use gixobj_tree::Tree;
 use std::alloc::Global;
 
 /// Does the edits, none of which may be a write, writes the root by digests, and has the store keep

@@ -7,7 +7,7 @@ use gixobj_data::{Data, Find, Store, find};
 use gixobj_hash::hash::{ObjectId, oid};
 use gixobj_keeping::{Keep, KeepCommit, KeepError};
 use gixobj_store::Memory;
-use gixobj_trees::Tree;
+use gixobj_tree::Tree;
 use std::alloc::Global;
 
 /// A store in memory. The call of `keep` or `keep_commit` at this place, counted from 1, is refused.

@@ -6,7 +6,7 @@ use gixobj_editor::editor::Error;
 use gixobj_hash::hash::{Kind as HashKind, ObjectId};
 use gixobj_import::{ImportError, Importer, Step, Stopped, import_all};
 use gixobj_store::Memory;
-use gixobj_trees::tree::EntryKind;
+use gixobj_tree::tree::EntryKind;
 use std::alloc::{AllocError, Global};
 use std::test::Fail;
 

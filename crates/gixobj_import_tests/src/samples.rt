@@ -8,7 +8,7 @@ use gixobj_data::Find;
 use gixobj_hash::hash::ObjectId;
 use gixobj_hash::{Kind, compute_hash};
 use gixobj_import::{ImportError, Imported, Step};
-use gixobj_trees::tree::EntryKind;
+use gixobj_tree::tree::EntryKind;
 use std::alloc::{AllocError, Global};
 
 /// The id that the hex digits spell; of others the null id.

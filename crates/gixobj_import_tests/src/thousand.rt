@@ -10,7 +10,7 @@ use gixobj_hash::hash::{Kind as HashKind, ObjectId};
 use gixobj_hash::{Kind, compute_hash};
 use gixobj_import::{Imported, Importer, Step, import_all};
 use gixobj_store::Memory;
-use gixobj_trees::tree::EntryKind;
+use gixobj_tree::tree::EntryKind;
 use std::alloc::{AllocError, Global};
 use std::test::Fail;
 

@@ -6,8 +6,8 @@ use Rattle.gixobj_fields.specs.Writing.{Refused, RefusesNothing}
 use Rattle.gixobj_hash.specs.Hash.{id_kind}
 use Rattle.gixobj_hash.specs.declared.hash.object_id.ObjectId.{ObjectId}
 use Rattle.gixobj_hash.specs.declared.kind.Kind.TheVariants.{Commit, Tree}
-use Rattle.gixobj_trees.specs.Entries.{EntryView}
-use Rattle.gixobj_trees.specs.TreeText.{RefusesTree, tree_text}
+use Rattle.gixobj_tree.specs.Entries.{EntryView}
+use Rattle.gixobj_tree.specs.TreeText.{RefusesTree, tree_text}
 use Rattle.gixobj_keeping.specs.declared.KeepError.{KeepError}
 use Rattle.gixobj_keeping.specs.declared.KeepError.TheVariants.{OutOfMemory, Store}
 

@@ -1,3 +1,3 @@
 pub mod Keeping
 pub use Rattle.gixobj_data.specs.Stores
-pub use Rattle.gixobj_trees.specs.TreeText
+pub use Rattle.gixobj_tree.specs.TreeText

@@ -9,7 +9,7 @@ use bstr::BString;
 use gixobj_data::Find;
 use gixobj_hash::OutOfMemory;
 use gixobj_hash::hash::ObjectId;
-use gixobj_trees::Tree;
+use gixobj_tree::Tree;
 use std::alloc::{AllocError, AllocFailed};
 
 /// The refusal of a store to keep a tree or a commit.

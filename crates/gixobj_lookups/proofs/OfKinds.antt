@@ -13,10 +13,10 @@ use Rattle.gixobj_object_readers.specs.declared.object.ObjectRef.TheVariants as 
 use Rattle.gixobj_tags.specs.TagText.{IsTagText}
 use Rattle.gixobj_tags.specs.TagViews.{tag_lines}
 use Rattle.gixobj_tags.specs.declared.tag.TagRef.{TagRef}
-use Rattle.gixobj_tree_readers.specs.TreeReading.{IsTreeText}
-use Rattle.gixobj_tree_readers.specs.TreeViews.{tree_entries}
-use Rattle.gixobj_tree_readers.specs.declared.tree.TreeRef.{TreeRef}
-use Rattle.gixobj_trees.specs.declared.blob.BlobRef.{BlobRef}
+use Rattle.gixobj_tree.specs.TreeReading.{IsTreeText}
+use Rattle.gixobj_tree.specs.TreeViews.{tree_entries}
+use Rattle.gixobj_tree.specs.declared.tree.borrowed.TreeRef.{TreeRef}
+use Rattle.gixobj_tree.specs.declared.blob.BlobRef.{BlobRef}
 use Rattle.gixobj_lookups.specs.Existing.{NamesSuch, NamesText}
 
 is_blob : (hash : hash.Kind) (of : Kind) (text : List ℕ) (blob : BlobRef) → IsObjectText hash of text (ref.Blob blob) → (of ≡ kind.Blob) × (blob.bytes.now ≡ text)

@@ -3,7 +3,7 @@ use Rattle.std.proofs.Common.{◌≢◌, ℕ, List, [], ◌∷◌, refl}
 use Rattle.std.specs.List.{concat}
 use Rattle.gixobj_base.specs.Entries.{EntryView}
 use Rattle.gixobj_base.specs.hash.hash.kind.Kind as hash
-use Rattle.gixobj_tree_readers.specs.TreeReading.{BeginsWithEntry, IsTreeText}
+use Rattle.gixobj_tree.specs.TreeReading.{BeginsWithEntry, IsTreeText}
 
 pub first_entry : (hash : hash.Kind) (content : List ℕ) (entries : List EntryView)
     → IsTreeText hash content entries → entries ≢ [] → (e : EntryView) × (rest : List ℕ) × BeginsWithEntry hash content e rest

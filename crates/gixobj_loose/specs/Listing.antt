@@ -8,7 +8,7 @@ use Rattle.gixobj_base.specs.Mode.{entry_word, kind_of_mode, mode_text}
 use Rattle.gixobj_base.specs.hash.hash.kind.Kind as hash
 use Rattle.gixobj_base.specs.hash.kind.Kind.{Kind}
 use Rattle.gixobj_base.specs.hash.kind.Kind.TheVariants.{Tree}
-use Rattle.gixobj_tree_readers.specs.TreeReading.{BeginsWithEntry, IsNoTreeText, IsTreeText}
+use Rattle.gixobj_tree.specs.TreeReading.{BeginsWithEntry, IsNoTreeText, IsTreeText}
 use Rattle.gixobj_loose.specs.Object.{BeginsWithObject, HasNoHeader, IsShort}
 use Rattle.gixobj_loose.specs.declared.refusal.Refusal.{Refusal}
 use Rattle.gixobj_loose.specs.declared.refusal.Refusal.TheVariants.{BadHeader, BadTree, NotATree, OutOfMemory, ShortData}

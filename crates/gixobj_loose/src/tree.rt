@@ -3,14 +3,14 @@ ghost use Rattle.std.specs.Prelude.{◌≡◌, ◌≢◌, [], ◌++◌, IfOk, If
 ghost use Rattle.gixobj_base.specs.hash.kind.Kind.TheVariants.{Tree};
 ghost use Rattle.gixobj_loose.specs.Listing.{IsListed, RefusesListing, RefusesTree, entry_line, listing_of};
 ghost use Rattle.gixobj_loose.specs.Object.{BeginsWithObject};
-ghost use Rattle.gixobj_tree_readers.specs.TreeViews.{entry_view, tree_entries};
+ghost use Rattle.gixobj_tree.specs.TreeViews.{entry_view, tree_entries};
 
 use crate::object::loose_object;
 use crate::refusal::Refusal;
 use gixobj_base::decode::Error;
 use gixobj_base::{Kind, hash};
-use gixobj_tree_readers::TreeRef;
-use gixobj_tree_readers::tree::EntryRef;
+use gixobj_tree::TreeRef;
+use gixobj_tree::tree::EntryRef;
 use std::alloc::{AllocError, Global};
 
 /// A line for each entry of the loose tree that the input begins with, whose ids are of this kind:

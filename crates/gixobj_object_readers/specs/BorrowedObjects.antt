@@ -14,8 +14,8 @@ use Rattle.gixobj_objects.specs.declared.object.Object.TheVariants as own
 use Rattle.gixobj_tags.specs.TagOwned.{IsOwnedForm as IsOwnedTag, RefusesOwning as RefusesOwningTag}
 use Rattle.gixobj_tags.specs.TagViews.{tag_lines}
 use Rattle.gixobj_tags.specs.TagWriting.{RefusesLines as RefusesTagLines, tag_text}
-use Rattle.gixobj_tree_readers.specs.TreeViews.{tree_entries}
-use Rattle.gixobj_trees.specs.TreeText.{RefusesTree, tree_text}
+use Rattle.gixobj_tree.specs.TreeViews.{tree_entries}
+use Rattle.gixobj_tree.specs.TreeText.{RefusesTree, tree_text}
 use Rattle.gixobj_object_readers.specs.declared.object.ObjectRef.{ObjectRef}
 use Rattle.gixobj_object_readers.specs.declared.object.ObjectRef.TheVariants as object
 

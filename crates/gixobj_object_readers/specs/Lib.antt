@@ -14,6 +14,6 @@ pub use Rattle.gixobj_tags.specs.TagOwned
 pub use Rattle.gixobj_tags.specs.TagText
 pub use Rattle.gixobj_tags.specs.TagViews
 pub use Rattle.gixobj_tags.specs.TagWriting
-pub use Rattle.gixobj_tree_readers.specs.TreeReading
-pub use Rattle.gixobj_tree_readers.specs.TreeViews
-pub use Rattle.gixobj_trees.specs.TreeText
+pub use Rattle.gixobj_tree.specs.TreeReading
+pub use Rattle.gixobj_tree.specs.TreeText
+pub use Rattle.gixobj_tree.specs.TreeViews

@@ -10,8 +10,7 @@ pub use decode::LooseDecodeError;
 use gixobj_commits::CommitRef;
 use gixobj_hash::Kind;
 use gixobj_tags::TagRef;
-use gixobj_tree_readers::TreeRef;
-use gixobj_trees::BlobRef;
+use gixobj_tree::{BlobRef, TreeRef};
 
 /// An object of any kind, borrowed.
 #[derive(Clone, Debug, Drop, PartialEq, Eq, PartialOrd, Ord, Hash)]

@@ -7,7 +7,7 @@ use Rattle.gixobj_hash.specs.declared.kind.Kind.{Kind}
 use Rattle.gixobj_hash.specs.declared.kind.Kind.TheVariants as kind
 use Rattle.gixobj_tags.specs.TagViews.{owned_lines as owned_tag_lines}
 use Rattle.gixobj_tags.specs.TagWriting.{RefusesOwned as RefusesOwnedTag, tag_text}
-use Rattle.gixobj_trees.specs.TreeText.{RefusesTree, tree_text}
+use Rattle.gixobj_tree.specs.TreeText.{RefusesTree, tree_text}
 use Rattle.gixobj_objects.specs.declared.object.Object.{Object}
 use Rattle.gixobj_objects.specs.declared.object.Object.TheVariants as object
 

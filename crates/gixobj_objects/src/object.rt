@@ -8,7 +8,7 @@ mod write;
 use gixobj_commits::Commit;
 use gixobj_hash::Kind;
 use gixobj_tags::Tag;
-use gixobj_trees::{Blob, Tree};
+use gixobj_tree::{Blob, Tree};
 
 /// An object of any kind, owned.
 #[derive(Clone, Debug, Drop, PartialEq, Eq, PartialOrd, Ord, Hash)]

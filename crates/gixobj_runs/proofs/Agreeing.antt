@@ -12,8 +12,8 @@ use Rattle.gixobj_files.specs.Tables.{AgreesWithPairs, FitsBeside, IsEmptyId, Pa
 use Rattle.gixobj_hash.specs.declared.hash.object_id.ObjectId.{ObjectId}
 use Rattle.gixobj_hash.specs.declared.hash.object_id.ObjectId.TheVariants as id
 use Rattle.gixobj_keeping.specs.Keeping.{tree_object, with_tree, with_trees}
-use Rattle.gixobj_tree_readers.specs.TreeReading.{IsTreeText}
-use Rattle.gixobj_trees.specs.Entries.{EntryView}
+use Rattle.gixobj_tree.specs.TreeReading.{IsTreeText}
+use Rattle.gixobj_tree.specs.Entries.{EntryView}
 use Rattle.gixobj_runs.specs.Commands.{pairs_handed_out, pairs_kept}
 use Rattle.gixobj_runs.specs.RunTables.{AgreesWithObjects, AgreesWithRun, ReadsAsItself}
 use Rattle.gixobj_runs.specs.declared.reply.Reply.{Reply}

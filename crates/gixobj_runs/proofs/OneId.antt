@@ -25,10 +25,10 @@ use Rattle.gixobj_files.specs.Opening.{Dirs, HasAt, IsOpened}
 use Rattle.gixobj_files.specs.State.{DirMap, EditorFiles, State, open_bases, open_dirs, root_alone}
 use Rattle.gixobj_files.specs.Tables.{AgreesWithPairs, AgreesWithStore, Pair}
 use Rattle.gixobj_hash.specs.Hash.{null_id}
-use Rattle.gixobj_trees.specs.Entries.{EntryView, IsWellFormed}
-use Rattle.gixobj_trees.specs.Mode.{is_tree_mode, mode_of_kind}
-use Rattle.gixobj_trees.specs.declared.tree.entry_kind.EntryKind.{EntryKind}
-use Rattle.gixobj_trees.specs.declared.tree.entry_kind.EntryKind.TheVariants as kind
+use Rattle.gixobj_tree.specs.Entries.{EntryView, IsWellFormed}
+use Rattle.gixobj_tree.specs.Mode.{is_tree_mode, mode_of_kind}
+use Rattle.gixobj_tree.specs.declared.tree.entry_kind.EntryKind.{EntryKind}
+use Rattle.gixobj_tree.specs.declared.tree.entry_kind.EntryKind.TheVariants as kind
 use Rattle.gixobj_runs.proofs.Keeping.{AgreesThroughout, throughout_first, throughout_then}
 use Rattle.gixobj_runs.proofs.Named.{agrees_front, agrees_later, agrees_written, assured_keeps, command_keeps, edit_keeps, names_history}
 use Rattle.gixobj_runs.proofs.Told.{no_tree_mode, plain_before, told_by_trees, up_to_like}

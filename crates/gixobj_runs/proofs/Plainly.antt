@@ -34,8 +34,8 @@ use Rattle.gixobj_files.specs.State.{DirMap, State, open_bases, open_dirs, root_
 use Rattle.gixobj_files.specs.Tables.{AgreesWithPairs, AgreesWithStore, Pair}
 use Rattle.gixobj_hash.specs.Hash.{null_id}
 use Rattle.gixobj_hash.specs.declared.hash.object_id.ObjectId.{ObjectId}
-use Rattle.gixobj_trees.specs.Entries.{EntryView}
-use Rattle.gixobj_trees.specs.Mode.{is_tree_mode}
+use Rattle.gixobj_tree.specs.Entries.{EntryView}
+use Rattle.gixobj_tree.specs.Mode.{is_tree_mode}
 
 directory_is : (front : Path) (last : List ℕ) → directory_of (front ++ last ∷ []) ≡ front
 directory_is [] last = refl

@@ -26,8 +26,8 @@ use Rattle.gixobj_files.specs.Tables.{Pair}
 use Rattle.gixobj_files.specs.Unopened.{inside}
 use Rattle.gixobj_hash.specs.declared.hash.object_id.ObjectId.{ObjectId}
 use Rattle.gixobj_keeping.specs.Keeping.{HasText, StopsKeeping, with_trees}
-use Rattle.gixobj_trees.specs.Entries.{EntryView, IsWellFormed}
-use Rattle.gixobj_trees.specs.Mode.{mode_of_kind}
+use Rattle.gixobj_tree.specs.Entries.{EntryView, IsWellFormed}
+use Rattle.gixobj_tree.specs.Mode.{mode_of_kind}
 use Rattle.gixobj_runs.specs.Commands.{Place, at_cursor, at_root, path_at}
 use Rattle.gixobj_runs.specs.RunTables.{OfTrees}
 use Rattle.gixobj_runs.specs.declared.reply.EditReply.{EditReply}

@@ -7,9 +7,9 @@ use Rattle.gixobj_files.specs.Tables.{AgreesWithPairs, IsEmptyId, Pair}
 use Rattle.gixobj_hash.specs.Hash.{id_kind}
 use Rattle.gixobj_hash.specs.declared.hash.object_id.ObjectId.{ObjectId}
 use Rattle.gixobj_keeping.specs.Keeping.{with_trees}
-use Rattle.gixobj_tree_readers.specs.TreeReading.{IsTreeText}
-use Rattle.gixobj_trees.specs.Entries.{EntryView, IsWellFormed}
-use Rattle.gixobj_trees.specs.TreeText.{tree_text}
+use Rattle.gixobj_tree.specs.TreeReading.{IsTreeText}
+use Rattle.gixobj_tree.specs.Entries.{EntryView, IsWellFormed}
+use Rattle.gixobj_tree.specs.TreeText.{tree_text}
 use Rattle.gixobj_runs.specs.Commands.{pairs_handed_out, pairs_kept}
 use Rattle.gixobj_runs.specs.declared.reply.Reply.{Reply}
 

@@ -13,7 +13,7 @@ use gixobj_commands::Edit;
 use gixobj_editor::editor::{Cursor, Editor, Error};
 use gixobj_hash::hash::ObjectId;
 use gixobj_keeping::{Keep, keep_all};
-use gixobj_trees::Tree;
+use gixobj_tree::Tree;
 use std::alloc::Global;
 
 /// Does edits at paths from one directory.

@@ -9,7 +9,7 @@ use gixobj_commands::Edit;
 use gixobj_editor::editor::{Editor, Error};
 use gixobj_hash::hash::ObjectId;
 use gixobj_keeping::{Keep, keep_all};
-use gixobj_trees::Tree;
+use gixobj_tree::Tree;
 
 /// Does one edit, or a write.
 pub(crate) fn do_edit<S: Keep, E, F: Fn(&Tree) -> Result<ObjectId, E>>(

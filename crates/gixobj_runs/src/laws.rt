@@ -7,10 +7,10 @@ ghost use Rattle.gixobj_files.specs.Tables.{FitsBeside, Pair};
 ghost use Rattle.gixobj_hash.specs.Hash.{id_kind};
 ghost use Rattle.gixobj_runs.specs.Commands.{pairs_handed_out, pairs_kept};
 ghost use Rattle.gixobj_runs.specs.RunTables.{AgreesWithRun, ReadsAsItself};
-ghost use Rattle.gixobj_tree_readers.specs.Rewriting.{ReadsBack};
+ghost use Rattle.gixobj_tree.specs.Rewriting.{ReadsBack};
 
 use crate::reply::Reply;
-use gixobj_tree_readers::laws::{tree_has_one_reading, tree_reads_back};
+use gixobj_tree::laws::{tree_has_one_reading, tree_reads_back};
 
 /// Some table agrees with a run, as long as no id of what its writes handed out stands for two
 /// trees, and the written text of each tree that was kept reads as no other well-formed tree.

@@ -19,7 +19,7 @@ use gixobj_editor::editor::{Editor, Written};
 use gixobj_hash::OutOfMemory;
 use gixobj_hash::hash::ObjectId;
 use gixobj_keeping::Keep;
-use gixobj_trees::Tree;
+use gixobj_tree::Tree;
 use std::alloc::Global;
 
 /// Does the commands in order, on an editor over a store that keeps trees. Each gets a reply, and

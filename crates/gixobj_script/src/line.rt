@@ -3,8 +3,8 @@ ghost use Rattle.std.specs.Prelude.{◌≡◌, ℕ, List, codes, IfOk, IfNone, I
 ghost use Rattle.gixobj_commands.specs.Views.{command_view, edit_view};
 ghost use Rattle.gixobj_hash.specs.declared.hash.object_id.ObjectId.{ObjectId};
 ghost use Rattle.gixobj_script.specs.Lines.{HasCommand, HasEdit, HasNoCommand, HasNoEdit, IsCommandText, IsEditText, IsEntryAt, IsHexOfId, word_and};
-ghost use Rattle.gixobj_trees.specs.Mode.{entry_word};
-ghost use Rattle.gixobj_trees.specs.declared.tree.entry_kind.EntryKind.{EntryKind};
+ghost use Rattle.gixobj_tree.specs.Mode.{entry_word};
+ghost use Rattle.gixobj_tree.specs.declared.tree.entry_kind.EntryKind.{EntryKind};
 
 use crate::path::names_of_path;
 use gixobj_commands::{Command, Edit};
@@ -13,8 +13,8 @@ use gixobj_hash::OutOfMemory;
 use gixobj_hash::hash::{Kind, ObjectId};
 use gixobj_hash::parse::{hex_hash, id_of_hex};
 use gixobj_hash::texts::split_at_byte;
-use gixobj_trees::Tree;
-use gixobj_trees::tree::EntryKind;
+use gixobj_tree::Tree;
+use gixobj_tree::tree::EntryKind;
 use std::alloc::Global;
 
 /// The command whose text the line is, with ids of this kind, or none: that of an edit, `at PREFIX EDIT`

@@ -14,8 +14,8 @@ use Rattle.gixobj_hash.specs.declared.hash.kind.Kind.{Kind}
 use Rattle.gixobj_hash.specs.declared.hash.object_id.ObjectId.{ObjectId}
 use Rattle.gixobj_hash.specs.declared.kind.Kind.TheVariants.{Commit, Tree}
 use Rattle.gixobj_keeping.specs.Keeping.{commit_object, tree_object, with_commit, with_tree}
-use Rattle.gixobj_trees.specs.Entries.{EntryView}
-use Rattle.gixobj_trees.specs.TreeText.{tree_text}
+use Rattle.gixobj_tree.specs.Entries.{EntryView}
+use Rattle.gixobj_tree.specs.TreeText.{tree_text}
 use Rattle.gixobj_store.specs.Memory.{memory_objects, stored_object}
 use Rattle.gixobj_store.specs.declared.Memory.{Memory}
 use Rattle.gixobj_store.specs.declared.Stored.{Stored}

@@ -15,7 +15,7 @@ use gixobj_fields::{WriteTo, encode};
 use gixobj_hash::hash::{ObjectId, oid};
 use gixobj_hash::{Header, Kind, OutOfMemory, compute_hash, hash};
 use gixobj_keeping::{Keep, KeepCommit, KeepError};
-use gixobj_trees::Tree;
+use gixobj_tree::Tree;
 use std::alloc::Global;
 use std::collections::BTreeMap;
 

@@ -7,7 +7,7 @@ ghost use Rattle.gixobj_data.specs.EntryGiving.{bytes_left};
 ghost use Rattle.gixobj_data.specs.Lookups.{AreNamesOf, HasFirst, HasNone, IsAtPath, IsStep, Name, RefusesPath, RefusesPathText, named_parts, tree_left};
 ghost use Rattle.gixobj_data.specs.Stores.{stored};
 ghost use Rattle.gixobj_hash.specs.declared.kind.Kind.TheVariants as object;
-ghost use Rattle.gixobj_tree_readers.specs.TreeViews.{entry_view};
+ghost use Rattle.gixobj_tree.specs.TreeViews.{entry_view};
 
 use crate::data::Data;
 use crate::find::Error;
@@ -17,8 +17,7 @@ use bstr::BString;
 use gixobj_hash::hash::ObjectId;
 use gixobj_hash::{Kind, OutOfMemory};
 use gixobj_hash::texts::split_at_byte;
-use gixobj_tree_readers::tree::EntryRef;
-use gixobj_trees::tree::Entry;
+use gixobj_tree::tree::{Entry, EntryRef};
 use std::alloc::Global;
 use std::ops::ControlFlow;
 

@@ -17,7 +17,7 @@ ghost use Rattle.gixobj_files.specs.Bases.{opened_bases};
 ghost use Rattle.gixobj_files.specs.Opening.{IsOpened, in_path};
 ghost use Rattle.gixobj_files.specs.State.{open_bases, open_dirs};
 ghost use Rattle.gixobj_files.specs.Unopened.{inside};
-ghost use Rattle.gixobj_trees.specs.Mode.{mode_of_kind};
+ghost use Rattle.gixobj_tree.specs.Mode.{mode_of_kind};
 
 use super::names::{check_names, copy_names, join_paths};
 use super::{Editor, Error, WriteError, Written};
@@ -27,8 +27,8 @@ use gixobj_directories::opening::Unasked;
 use gixobj_directories::write::write_at;
 use gixobj_hash::OutOfMemory;
 use gixobj_hash::hash::ObjectId;
-use gixobj_trees::Tree;
-use gixobj_trees::tree::{Entry, EntryKind};
+use gixobj_tree::Tree;
+use gixobj_tree::tree::{Entry, EntryKind};
 use std::alloc::AllocError;
 use std::marker::Model;
 

@@ -10,8 +10,8 @@ ghost use Rattle.gixobj_files.specs.Bases.{opened_bases};
 ghost use Rattle.gixobj_directories.specs.Openings.{AreTreesOf, EndsBefore};
 ghost use Rattle.gixobj_hash.specs.declared.hash.object_id.ObjectId.{ObjectId};
 ghost use Rattle.gixobj_hash.specs.Bytes.{slash};
-ghost use Rattle.gixobj_trees.specs.Entries.{EntryView, IsEntryName};
-ghost use Rattle.gixobj_trees.specs.Mode.{is_tree_mode};
+ghost use Rattle.gixobj_tree.specs.Entries.{EntryView, IsEntryName};
+ghost use Rattle.gixobj_tree.specs.Mode.{is_tree_mode};
 ghost use Rattle.gixobj_editor.specs.Upserts.{IsOpenedInPart, RefusesNames, directory_of};
 ghost use Rattle.gixobj_editor.specs.Removals.{Judges, RefusesDirectoryAt, RefusesRemoval};
 

@@ -16,8 +16,8 @@ ghost use Rattle.gixobj_tag_tokens.specs.TokenGiving.{IsAtStart as IsAtStartOfTa
 ghost use Rattle.gixobj_tags.specs.TagText.{IsTagText};
 ghost use Rattle.gixobj_tags.specs.TagViews.{tag_lines};
 ghost use Rattle.gixobj_tokens.specs.TokenGiving.{IsAtStart};
-ghost use Rattle.gixobj_tree_readers.specs.TreeReading.{IsTreeText};
-ghost use Rattle.gixobj_tree_readers.specs.TreeViews.{tree_entries};
+ghost use Rattle.gixobj_tree.specs.TreeReading.{IsTreeText};
+ghost use Rattle.gixobj_tree.specs.TreeViews.{tree_entries};
 
 use crate::find::{existing, existing_iter, existing_object};
 use gixobj_commits::CommitRef;
@@ -28,8 +28,7 @@ use gixobj_object_readers::ObjectRef;
 use gixobj_tag_tokens::TagRefIter;
 use gixobj_tags::TagRef;
 use gixobj_tokens::CommitRefIter;
-use gixobj_tree_readers::TreeRef;
-use gixobj_trees::BlobRef;
+use gixobj_tree::{BlobRef, TreeRef};
 use std::alloc::Global;
 
 /// Lookups of objects that have to be there. Every [`Find`] has them.

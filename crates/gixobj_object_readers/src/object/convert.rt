@@ -8,8 +8,7 @@ use gixobj_commits::commit::owned_copy;
 use gixobj_hash::decode::Error;
 use gixobj_objects::Object;
 use gixobj_tags::TagRef;
-use gixobj_tree_readers::TreeRef;
-use gixobj_trees::BlobRef;
+use gixobj_tree::{BlobRef, TreeRef};
 use std::alloc::Global;
 
 /// Conversion

@@ -9,8 +9,7 @@ use gixobj_commits::CommitRef;
 use gixobj_hash::decode::{Error, LooseHeaderDecodeError, loose_header};
 use gixobj_hash::{Kind, hash};
 use gixobj_tags::TagRef;
-use gixobj_tree_readers::TreeRef;
-use gixobj_trees::BlobRef;
+use gixobj_tree::{BlobRef, TreeRef};
 use std::alloc::Global;
 
 /// The refusal of [`ObjectRef::from_loose`].

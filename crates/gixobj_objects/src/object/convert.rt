@@ -6,7 +6,7 @@ use super::Object;
 use gixobj_commits::Commit;
 use gixobj_hash::Kind;
 use gixobj_tags::Tag;
-use gixobj_trees::{Blob, BlobRef, Tree};
+use gixobj_tree::{Blob, BlobRef, Tree};
 
 /// Conversion
 impl Object {

@@ -1,7 +1,7 @@
 -- Each call adds its step.
 use Rattle.std.proofs.Common.{ap, sym, subst, ◌∙◌}
 use Rattle.gixobj_base.specs.Mode.{mode_of_kind}
-use Rattle.gixobj_base.specs.trees.tree.entry_kind.EntryKind.TheVariants.{Blob}
+use Rattle.gixobj_base.specs.tree.tree.entry_kind.EntryKind.TheVariants.{Blob}
 use Rattle.gixobj_directories.specs.Calls.{names_of}
 use Rattle.gixobj_directories.specs.Openings.{AreTreesOf}
 use Rattle.gixobj_files.specs.Files.{Upserted}

@@ -4,7 +4,7 @@ use Rattle.gixobj_base.specs.hash.decode.Error.{Error}
 use Rattle.gixobj_callers.proofs.planner.is_tree.Goals as goal
 use Rattle.gixobj_codec.specs.EntryGiving.{GivesEntry}
 use Rattle.gixobj_codec.specs.TreeViews.{entry_view}
-use Rattle.gixobj_codec.specs.borrowed_trees.tree.entry_ref.EntryRef.{EntryRef}
+use Rattle.gixobj_codec.specs.tree.tree.borrowed.entry_ref.EntryRef.{EntryRef}
 
 pub returns-in-Err : goal.returns-in-Err
 returns-in-Err c = λ entries is.

@@ -1,6 +1,6 @@
 use Rattle.gixobj_data.proofs.BrokenTrees.{longest_front}
 use Rattle.gixobj_data.proofs.laws.tree_readers_read_one_language.Goals as goal
-use Rattle.gixobj_tree_readers.proofs.EntryRuns as runs
+use Rattle.gixobj_tree.proofs.EntryRuns as runs
 
 pub returns-clause-told : goal.returns-clause-told
 returns-clause-told c = runs.told

@@ -1,5 +1,5 @@
 use Rattle.std.proofs.Common.{◌∙◌, ap, not}
-use Rattle.gixobj_trees.specs.Entries.{EntryView}
+use Rattle.gixobj_tree.specs.Entries.{EntryView}
 use Rattle.gixobj_files.specs.Files.{is_null}
 use Rattle.gixobj_files.proofs.NullIds.{null_tested}
 use Rattle.gixobj_directories.proofs.entries.is_kept.Goals as goal

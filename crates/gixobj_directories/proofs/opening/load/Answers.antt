@@ -2,7 +2,7 @@
 use Rattle.std.proofs.Common.{◌∙◌, inl, inr, [], ◌∷◌, refl, sym, subst}
 use Rattle.std.proofs.lemmas.Result.{IfOk-weaker}
 use mathlib.Core.Bool.{true≢false}
-use Rattle.gixobj_trees.specs.Entries.{IsWellFormed}
+use Rattle.gixobj_tree.specs.Entries.{IsWellFormed}
 use Rattle.gixobj_directories.proofs.OpeningSteps.{on_err}
 use Rattle.gixobj_directories.proofs.opening.load.Goals as goal
 

@@ -1,8 +1,8 @@
 use Rattle.std.proofs.Common.{◌≡◌, ◌∙◌, Some, length, true, refl, sym, ap, subst}
 use Rattle.std.specs.Prelude.{slice_get}
 use Rattle.std.proofs.lemmas.Option.{slice_get_read}
-use Rattle.gixobj_trees.specs.EntryOrder.{same_entry}
-use Rattle.gixobj_trees.specs.EntryOrderLaws.{entry_equiv}
+use Rattle.gixobj_tree.specs.EntryOrder.{same_entry}
+use Rattle.gixobj_tree.specs.EntryOrderLaws.{entry_equiv}
 use Rattle.gixobj_directories.specs.OwnTrees.{with_id}
 use Rattle.gixobj_directories.proofs.SameTrees.{one_entry}
 use Rattle.gixobj_directories.proofs.own_tree.goes_on.Goals as goal

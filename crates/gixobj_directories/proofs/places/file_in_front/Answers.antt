@@ -3,7 +3,7 @@ use Rattle.std.proofs.lemmas.List.Sums.{prefix_len-le-length}
 use Rattle.gixobj_directories.proofs.Halves.{lt_is}
 use Rattle.gixobj_directories.proofs.KeyPlaces.{first_of_two, no_file, told}
 use Rattle.gixobj_directories.specs.KeyPlaces.{has_key_before}
-use Rattle.gixobj_trees.specs.Entries.{key_of}
+use Rattle.gixobj_tree.specs.Entries.{key_of}
 use Rattle.gixobj_directories.proofs.places.file_in_front.Goals as goal
 
 pub returns-then-place-eq0 : goal.returns-then-place-eq0

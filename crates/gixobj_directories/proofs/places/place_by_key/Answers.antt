@@ -1,7 +1,7 @@
 -- Each look at an entry narrows the places where one of the key can stand.
 use Rattle.std.proofs.Common.{◌≡◌, ◌∙◌, ◌<◌, ◌≤◌, HoldsAt, Less, Equal, Greater, Ordering, Ok, Err, length, sym, subst, arith}
 use Rattle.std.specs.List.Sorted.{IsBinarySearchResult}
-use Rattle.gixobj_trees.specs.Entries.{entry_key, key_of}
+use Rattle.gixobj_tree.specs.Entries.{entry_key, key_of}
 use Rattle.gixobj_directories.proofs.Halves.{IsNarrowed, compared, narrowed_down, narrowed_none, narrowed_up}
 use Rattle.gixobj_directories.proofs.KeyPlaces.{found_before, found_kind, found_none, found_place, told}
 use Rattle.gixobj_directories.proofs.places.place_by_key.Goals.{in-Less, in-Greater}

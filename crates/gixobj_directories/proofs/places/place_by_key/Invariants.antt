@@ -1,6 +1,6 @@
 -- An entry of the key can stand only among those that are left, and the next look is at one of these.
 use Rattle.std.proofs.Common.{◌<◌, ◌≤◌, ◌-◌, length}
-use Rattle.gixobj_trees.specs.Entries.{entry_key, key_of}
+use Rattle.gixobj_tree.specs.Entries.{entry_key, key_of}
 use Rattle.gixobj_directories.proofs.Halves.{IsNarrowed}
 use Rattle.gixobj_directories.proofs.places.place_by_key.Given as goal
 

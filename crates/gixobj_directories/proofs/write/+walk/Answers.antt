@@ -1,7 +1,7 @@
 use Rattle.std.proofs.Common.{◌≡◌, ◌≢◌, ◌∙◌, ◌+◌, ◌<◌, ℕ, [], ◌∷◌, ◌++◌, List, Option, Some, None, Ok, Err, drop, length, refl, rules, sym, ap, subst, arith, append_assoc, append-nil}
 use Rattle.std.specs.Fn.{CalledAt}
 use Rattle.std.specs.Option.{option_copied}
-use Rattle.gixobj_trees.specs.Entries.{EntryView, IsWellFormed}
+use Rattle.gixobj_tree.specs.Entries.{EntryView, IsWellFormed}
 use Rattle.gixobj_hash.specs.declared.hash.object_id.ObjectId.{ObjectId}
 use Rattle.gixobj_directories.specs.Calls.{IsStorable}
 use Rattle.gixobj_directories.specs.Handing.{Stopped, Visits, child_side, kept_with}

@@ -1,7 +1,7 @@
 use Rattle.std.proofs.Common.{◌≡◌, ◌+◌, ◌*◌, ◌++◌, ℕ, List, drop, length, Ok}
 use Rattle.std.specs.Fn.{CalledAt}
 use Rattle.std.specs.List.{FoldsTo}
-use Rattle.gixobj_trees.specs.Entries.{EntryView}
+use Rattle.gixobj_tree.specs.Entries.{EntryView}
 use Rattle.gixobj_files.specs.Edits.{raised}
 use Rattle.gixobj_files.specs.HandingOut.{Walks}
 use Rattle.gixobj_files.specs.Tables.{Pair}

@@ -1,6 +1,6 @@
 use Rattle.std.proofs.Common.{ℕ, [], List, Ok, Err, sym, subst, append-nil}
 use Rattle.std.specs.Fn.{CalledAt}
-use Rattle.gixobj_trees.specs.Entries.{EntryView}
+use Rattle.gixobj_tree.specs.Entries.{EntryView}
 use Rattle.gixobj_directories.specs.Calls.{IsStorable}
 use Rattle.gixobj_files.specs.HandingOut.{Leaves}
 use Rattle.gixobj_directories.specs.Nested.{bases_of, dirs_of}

@@ -1,7 +1,7 @@
 -- The lines of the entries before the one in hand.
 use Rattle.std.proofs.Common.{◌≡◌, map, take}
 use Rattle.gixobj_loose.specs.Listing.{listing_of}
-use Rattle.gixobj_tree_readers.specs.TreeViews.{entry_view}
+use Rattle.gixobj_tree.specs.TreeViews.{entry_view}
 use Rattle.gixobj_loose.proofs.tree.lines.Given as goal
 
 abbrev pub invariant-loop-entry : goal.invariant-loop-entry

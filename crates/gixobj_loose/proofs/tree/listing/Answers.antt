@@ -1,6 +1,6 @@
 -- Where a line found no memory, an entry was read.
 use Rattle.std.proofs.Common.{inr}
-use Rattle.gixobj_tree_readers.specs.TreeViews.{tree_entries}
+use Rattle.gixobj_tree.specs.TreeViews.{tree_entries}
 use Rattle.gixobj_loose.proofs.FirstEntry.{first_entry}
 use Rattle.gixobj_loose.proofs.tree.listing.Goals as goal
 

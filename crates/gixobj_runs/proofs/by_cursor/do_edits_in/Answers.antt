@@ -8,7 +8,7 @@ use Rattle.gixobj_files.specs.Files.{Trees}
 use Rattle.gixobj_files.specs.State.{State}
 use Rattle.gixobj_files.specs.Unopened.{inside}
 use Rattle.gixobj_hash.specs.declared.hash.object_id.ObjectId.{ObjectId}
-use Rattle.gixobj_trees.specs.Entries.{EntryView}
+use Rattle.gixobj_tree.specs.Entries.{EntryView}
 use Rattle.gixobj_runs.specs.Replies.{IsReplyAt, Meaning}
 use Rattle.gixobj_runs.specs.declared.reply.Reply.TheVariants as reply
 use Rattle.gixobj_runs.proofs.Replied.{done_at}

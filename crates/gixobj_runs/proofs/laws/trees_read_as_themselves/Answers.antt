@@ -1,5 +1,5 @@
 use Rattle.gixobj_hash.specs.Hash.{id_kind}
-use Rattle.gixobj_trees.specs.TreeText.{tree_text}
+use Rattle.gixobj_tree.specs.TreeText.{tree_text}
 use Rattle.gixobj_runs.proofs.laws.trees_read_as_themselves.Goals as goal
 
 pub returns : goal.returns

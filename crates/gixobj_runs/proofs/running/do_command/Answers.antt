@@ -4,7 +4,7 @@ use Rattle.bstr.specs.declared.bstring.BString.{BString}
 use Rattle.gixobj_directories.specs.Calls.{names_of}
 use Rattle.gixobj_editor.specs.Cursors.{prefix_of}
 use Rattle.gixobj_hash.specs.declared.hash.object_id.ObjectId.{ObjectId}
-use Rattle.gixobj_trees.specs.Entries.{EntryView}
+use Rattle.gixobj_tree.specs.Entries.{EntryView}
 use Rattle.gixobj_runs.specs.Replies.{IsReplyAt, Meaning}
 use Rattle.gixobj_runs.proofs.Replied.{root_set}
 use Rattle.gixobj_runs.proofs.running.do_command.Goals as goal

@@ -1,7 +1,7 @@
 use Rattle.std.proofs.Common.{length, List, arith, ap, refl, Result}
 use Rattle.std.specs.Fn.{FnReturnsAt}
 use Rattle.gixobj_hash.specs.declared.hash.object_id.ObjectId.{ObjectId}
-use Rattle.gixobj_trees.specs.Entries.{EntryView}
+use Rattle.gixobj_tree.specs.Entries.{EntryView}
 use Rattle.gixobj_runs.specs.Replies.{Meaning}
 use Rattle.gixobj_runs.proofs.Named.{names_history}
 use Rattle.gixobj_runs.proofs.OneId.{ids_tell_files}

@@ -1,5 +1,5 @@
 use Rattle.std.proofs.Common.{rules}
-use Rattle.gixobj_tree_readers.specs.TreeViews.{entry_view}
+use Rattle.gixobj_tree.specs.TreeViews.{entry_view}
 use Rattle.gixobj_data.proofs.Seeking.{found_first, none_before_damage, none_to_the_end, seeks_on}
 use Rattle.gixobj_data.specs.Lookups.{IsNamed}
 use Rattle.gixobj_data.proofs.tree.TreeRefIter.first_named.Goals as goal

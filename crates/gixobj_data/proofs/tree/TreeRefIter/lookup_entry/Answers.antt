@@ -2,7 +2,7 @@ use Rattle.std.proofs.Common.{rules, ◌≡◌, map, None, Option, Some, subst, 
 use Rattle.std.proofs.lemmas.Result.{err_from_is_err_and}
 use Rattle.std.specs.declared.ops.ControlFlow.TheVariants.{Break, Continue}
 use Rattle.bstr.specs.Owned.{bstring_bytes}
-use Rattle.gixobj_trees.specs.Entries.{EntryView}
+use Rattle.gixobj_tree.specs.Entries.{EntryView}
 use Rattle.gixobj_data.proofs.Steps.{copy_refused, ends_in_none, ends_there, first_step, found_there, goes_on, starts_at, starts_on}
 use Rattle.gixobj_data.specs.Lookups.{IsAtPath, tree_left}
 use Rattle.gixobj_data.proofs.tree.TreeRefIter.lookup_entry.Goals as goal

@@ -1,6 +1,6 @@
 use Rattle.std.proofs.Common.{rules, ◌≡◌, ◌≢◌, ◌∷◌, List, ap, length, map, sym, ◌∙◌}
 use Rattle.bstr.specs.Owned.{bstring_bytes}
-use Rattle.gixobj_tree_readers.specs.TreeViews.{entry_view}
+use Rattle.gixobj_tree.specs.TreeViews.{entry_view}
 use Rattle.gixobj_data.proofs.Steps.{first_name, first_of_reader, no_more, none_of_reader, some_more}
 use Rattle.gixobj_data.specs.EntryGiving.{IsAtEntry}
 use Rattle.gixobj_data.specs.Lookups.{Name}

@@ -14,7 +14,7 @@ use Rattle.gixobj_directories.specs.declared.open.Child.{Child}
 use Rattle.gixobj_directories.proofs.Handing.{err_weaker}
 use Rattle.gixobj_directories.proofs.Levels.{level_root, level_set, none_named, not_found}
 use Rattle.gixobj_directories.proofs.OpeningSteps.{HaltsAt, IsFormedList, OpensAs, StaysOpened, counted_more, down_in, found_in, halts_down, halts_in, halted_here, level_new, names_none, no_memory, none_found, opens_down, opens_in, stays_down, stays_in, still_opened, stop_in}
-use Rattle.gixobj_trees.specs.Entries.{EntryView}
+use Rattle.gixobj_tree.specs.Entries.{EntryView}
 use Rattle.gixobj_files.specs.Bases.{base_opened}
 use Rattle.gixobj_directories.proofs.BaseSteps.{found_base, opened_moved, opening, set_moved, unmoved, unmoved_as}
 use Rattle.gixobj_directories.proofs.Ordered.{level_apart}

@@ -1,6 +1,6 @@
 use Rattle.std.proofs.Common.{◌≡◌, ◌++◌, List, drop}
 use Rattle.std.proofs.lemmas.List.{take-append-drop}
-use Rattle.gixobj_trees.specs.Entries.{EntryView}
+use Rattle.gixobj_tree.specs.Entries.{EntryView}
 use Rattle.gixobj_directories.specs.OwnTrees.{so_far}
 use Rattle.gixobj_directories.proofs.OpeningSteps.{on_err}
 use Rattle.gixobj_directories.proofs.own_tree.OwnTree.into_tree.Goals as goal

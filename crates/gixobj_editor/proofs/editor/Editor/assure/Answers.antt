@@ -1,7 +1,7 @@
 -- The directories on the path are opened, and then those that are missing are made.
 use Rattle.std.proofs.Common.{◌≡◌, ◌∙◌, [], refl, sym, ap, subst}
 use Rattle.std.proofs.lemmas.List.Elements.{recursion_from_All}
-use Rattle.gixobj_trees.specs.Entries.{IsEntryName}
+use Rattle.gixobj_tree.specs.Entries.{IsEntryName}
 use Rattle.gixobj_files.specs.Edits.{IsNoTree, Opens, assured_dirs}
 use Rattle.gixobj_files.specs.State.{State, open_dirs}
 use Rattle.gixobj_files.specs.Unopened.{inside}

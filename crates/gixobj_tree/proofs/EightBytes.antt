@@ -1,0 +1,127 @@
+-- Eight bytes stand in the order of the number that they spell, the first counting most.
+use Rattle.std.proofs.Common.{◌≡◌, ◌≢◌, ℕ, zero, suc, ◌+◌, ◌*◌, ◌<◌, ◌≤◌, arith, Bool, true, false, List, [], ◌∷◌, length, get_or, take, drop, refl, sym, ap, ◌∙◌, Less, Equal, Greater, Ordering, Some}
+use mathlib.Core.Bool.{true≢false}
+use Rattle.std.specs.Int.{from_be_bytes, w64}
+use Rattle.std.specs.Ordering.{MatchOrdering, is_ne, nat_cmp, ordering_then}
+use Rattle.std.specs.Cmp.{nat_cmp_is}
+use Rattle.std.specs.Cmp.Lexicographic.{slice_cmp}
+use Rattle.std.proofs.lemmas.Cmp.{ranked}
+use Rattle.std.specs.Option.{option_cmp}
+use Rattle.gixobj_tree.specs.Entries.{name_cmp, next_byte}
+use Rattle.gixobj_tree.proofs.NameKeys.{decides, more, no_left, no_right, then_assoc}
+
+abbrev Bytes : List ℕ → Type 0
+Bytes xs = (k : ℕ) → get_or xs k 0 < 256
+
+-- the number of these digits in base 256, behind others
+abbrev pub value : ℕ → List ℕ → ℕ
+value n [] = n
+value n (x ∷ xs) = value (256 * n + x) xs
+
+-- one digit more
+digit : (m n x y : ℕ) → x < 256 → y < 256 → nat_cmp (256 * m + x) (256 * n + y) ≡ ordering_then (nat_cmp m n) (nat_cmp x y)
+digit m n x y a b = sym (nat_cmp_is (256 * m + x) (256 * n + y) (ordering_then (nat_cmp m n) (nat_cmp x y)) (ranks (nat_cmp m n) (nat_cmp x y) (ranked m n (nat_cmp m n) refl) (ranked x y (nat_cmp x y) refl)))
+  where
+    ranks : (o p : Ordering) → MatchOrdering o (m < n) (m ≡ n) (n < m) → MatchOrdering p (x < y) (x ≡ y) (y < x)
+        → MatchOrdering (ordering_then o p) (256 * m + x < 256 * n + y) (256 * m + x ≡ 256 * n + y) (256 * n + y < 256 * m + x)
+    ranks Less p h i = let l : m < n = h in omega arith
+    ranks Equal Less h i = let e : m ≡ n = h in let l : x < y = i in omega arith
+    ranks Equal Equal h i = let e : m ≡ n = h in let f : x ≡ y = i in omega arith
+    ranks Equal Greater h i = let e : m ≡ n = h in let l : y < x = i in omega arith
+    ranks Greater p h i = let l : n < m = h in omega arith
+
+then_equal : (o : Ordering) → o ≡ ordering_then o Equal
+then_equal Less = refl
+then_equal Equal = refl
+then_equal Greater = refl
+
+ordered : (xs ys : List ℕ) (m n : ℕ) → Bytes xs → Bytes ys → length xs ≡ length ys → nat_cmp (value m xs) (value n ys) ≡ ordering_then (nat_cmp m n) (slice_cmp nat_cmp xs ys)
+ordered [] [] m n a b l = then_equal (nat_cmp m n)
+ordered [] (y ∷ ys) m n a b l = absurd (omega arith)
+ordered (x ∷ xs) [] m n a b l = absurd (omega arith)
+ordered (x ∷ xs) (y ∷ ys) m n a b l =
+    ordered xs ys (256 * m + x) (256 * n + y) (λ k. a (suc k)) (λ k. b (suc k)) (omega arith)
+    ∙ ap (λ o. ordering_then o (slice_cmp nat_cmp xs ys)) (digit m n x y (a 0) (b 0))
+    ∙ then_assoc (nat_cmp m n) (nat_cmp x y) (slice_cmp nat_cmp xs ys)
+
+-- the rule goes on behind the first so many bytes
+steps : (n : ℕ) (xs ys : List ℕ) (t u : Bool) → n ≤ length xs → n ≤ length ys
+    → name_cmp xs t ys u ≡ ordering_then (slice_cmp nat_cmp (take n xs) (take n ys)) (name_cmp (drop n xs) t (drop n ys) u)
+steps zero xs ys t u a b = refl
+steps (suc n) (x ∷ xs) (y ∷ ys) t u a b =
+    more x y xs ys t u _ (steps n xs ys t u (omega arith) (omega arith))
+    ∙ sym (then_assoc (nat_cmp x y) (slice_cmp nat_cmp (take n xs) (take n ys)) (name_cmp (drop n xs) t (drop n ys) u))
+steps (suc n) [] ys t u a b = absurd (omega arith)
+steps (suc n) (x ∷ xs) [] t u a b = absurd (omega arith)
+
+-- eight bytes, whatever stands behind them
+worth : (xs : List ℕ) → 8 ≤ length xs → from_be_bytes w64 (take 8 xs) ≡ value 0 (take 8 xs)
+worth (a ∷ b ∷ c ∷ d ∷ e ∷ f ∷ g ∷ h ∷ rest) l = omega arith
+worth [] l = absurd (omega arith)
+worth (a ∷ []) l = absurd (omega arith)
+worth (a ∷ b ∷ []) l = absurd (omega arith)
+worth (a ∷ b ∷ c ∷ []) l = absurd (omega arith)
+worth (a ∷ b ∷ c ∷ d ∷ []) l = absurd (omega arith)
+worth (a ∷ b ∷ c ∷ d ∷ e ∷ []) l = absurd (omega arith)
+worth (a ∷ b ∷ c ∷ d ∷ e ∷ f ∷ []) l = absurd (omega arith)
+worth (a ∷ b ∷ c ∷ d ∷ e ∷ f ∷ g ∷ []) l = absurd (omega arith)
+
+long : (n : ℕ) (xs : List ℕ) → n ≤ length xs → length (take n xs) ≡ n
+long zero xs l = refl
+long (suc n) [] l = absurd (omega arith)
+long (suc n) (x ∷ xs) l = ap suc (long n xs (omega arith))
+
+front_bytes : (n : ℕ) (xs : List ℕ) → Bytes xs → Bytes (take n xs)
+front_bytes zero xs b k = omega arith
+front_bytes (suc n) [] b k = omega arith
+front_bytes (suc n) (x ∷ xs) b zero = b 0
+front_bytes (suc n) (x ∷ xs) b (suc k) = front_bytes n xs (λ i. b (suc i)) k
+
+pub eight : (xs ys : List ℕ) → Bytes xs → Bytes ys → 8 ≤ length xs → 8 ≤ length ys
+    → nat_cmp (from_be_bytes w64 (take 8 xs)) (from_be_bytes w64 (take 8 ys)) ≡ slice_cmp nat_cmp (take 8 xs) (take 8 ys)
+eight xs ys a b l m =
+    ap (λ n. nat_cmp n (from_be_bytes w64 (take 8 ys))) (worth xs l) ∙ ap (nat_cmp (value 0 (take 8 xs))) (worth ys m)
+    ∙ ordered (take 8 xs) (take 8 ys) 0 0 (front_bytes 8 xs a) (front_bytes 8 ys b) (long 8 xs l ∙ sym (long 8 ys m))
+
+-- what the names compare as where their first bytes are alike, and where they are not
+pub behind : (n : ℕ) (xs ys : List ℕ) (t u : Bool) → n ≤ length xs → n ≤ length ys → slice_cmp nat_cmp (take n xs) (take n ys) ≡ Equal
+    → name_cmp xs t ys u ≡ name_cmp (drop n xs) t (drop n ys) u
+behind n xs ys t u a b same = steps n xs ys t u a b ∙ ap (λ o. ordering_then o (name_cmp (drop n xs) t (drop n ys) u)) same
+
+pub settled : (n : ℕ) (xs ys : List ℕ) (t u : Bool) → n ≤ length xs → n ≤ length ys → slice_cmp nat_cmp (take n xs) (take n ys) ≢ Equal
+    → slice_cmp nat_cmp (take n xs) (take n ys) ≡ name_cmp xs t ys u
+settled n xs ys t u a b apart = decides (slice_cmp nat_cmp (take n xs) (take n ys)) (name_cmp (drop n xs) t (drop n ys) u) apart ∙ sym (steps n xs ys t u a b)
+
+-- byte by byte: where the next bytes are the same, and where there are none, or others
+pub one_more : (n : ℕ) (xs ys : List ℕ) (t u : Bool) → n < length xs → n < length ys → get_or xs n 0 ≡ get_or ys n 0
+    → name_cmp (drop n xs) t (drop n ys) u ≡ name_cmp (drop (suc n) xs) t (drop (suc n) ys) u
+one_more n [] ys t u a b same = absurd (omega arith)
+one_more n (x ∷ xs) [] t u a b same = absurd (omega arith)
+one_more zero (x ∷ xs) (y ∷ ys) t u a b same =
+    more x y xs ys t u (name_cmp xs t ys u) refl ∙ sym (ap (λ o. ordering_then o (name_cmp xs t ys u)) (nat_cmp_is x y Equal same))
+one_more (suc n) (x ∷ xs) (y ∷ ys) t u a b same = one_more n xs ys t u (omega arith) (omega arith) same
+
+stopped : (xs ys : List ℕ) (t u : Bool) → (0 < length xs → 0 < length ys → get_or xs 0 0 ≢ get_or ys 0 0)
+    → option_cmp nat_cmp (next_byte xs t) (next_byte ys u) ≡ name_cmp xs t ys u
+stopped [] [] t u apart = refl
+stopped [] (y ∷ ys) t u apart = sym (no_left y ys t u (option_cmp nat_cmp (next_byte [] t) (Some y)) refl)
+stopped (x ∷ xs) [] t u apart = sym (no_right x xs t u (option_cmp nat_cmp (Some x) (next_byte [] u)) refl)
+stopped (x ∷ xs) (y ∷ ys) t u apart =
+    decides (nat_cmp x y) (name_cmp xs t ys u) (λ tie. apart (omega arith) (omega arith) (ranked x y Equal (sym tie)))
+    ∙ sym (more x y xs ys t u (name_cmp xs t ys u) refl)
+
+pub at_stop : (n : ℕ) (xs ys : List ℕ) (t u : Bool) → (n < length xs → n < length ys → get_or xs n 0 ≢ get_or ys n 0)
+    → option_cmp nat_cmp (next_byte (drop n xs) t) (next_byte (drop n ys) u) ≡ name_cmp (drop n xs) t (drop n ys) u
+at_stop zero xs ys t u apart = stopped xs ys t u apart
+at_stop (suc n) (x ∷ xs) (y ∷ ys) t u apart = at_stop n xs ys t u (λ a b. apart (omega arith) (omega arith))
+at_stop (suc n) [] ys t u apart = stopped [] (drop (suc n) ys) t u (λ a b. absurd (omega arith))
+at_stop (suc n) (x ∷ xs) [] t u apart = stopped (drop n xs) [] t u (λ a b. absurd (omega arith))
+
+-- whether an order is a tie
+pub tied : (o : Ordering) → is_ne o ≡ false → o ≡ Equal
+tied Less e = absurd (true≢false e)
+tied Equal e = refl
+tied Greater e = absurd (true≢false e)
+
+pub not_tied : (o : Ordering) → true ≡ is_ne o → o ≢ Equal
+not_tied o e tie = true≢false (e ∙ ap is_ne tie)

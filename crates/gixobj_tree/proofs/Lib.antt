@@ -1,0 +1,13 @@
+mod Bisecting
+pub mod Deciding
+pub mod EightBytes
+pub mod EntryRuns
+pub mod ModeTexts
+pub mod ModesBack
+pub mod NameKeys
+mod OctalNumbers
+pub mod OneEntry
+pub mod TreeWrites
+mod Viewed
+pub mod WellFormed
+mod WrittenTrees

@@ -1,0 +1,84 @@
+-- Writing a tree entry by entry.
+use Rattle.std.proofs.Common.{◌≡◌, ℕ, ◌+◌, ◌<◌, ◌≤◌, ◌^◌, List, [], ◌∷◌, ◌++◌, length, get_or, take, drop, All, inr, refl, ap, arith, sym, ◌∙◌, append_assoc, length-append}
+use Rattle.std.specs.Prelude.{Contains}
+use Rattle.std.proofs.lemmas.List.{append-nil, take_all, take_more, take-append-drop, drop_more}
+use Rattle.std.proofs.lemmas.List.Elements.{All-contains, All-push, Contains-append_right, Contains-get_or}
+use Rattle.std.proofs.lemmas.List.Concat.{flat_map-append}
+use Rattle.gixobj_tree.specs.Entries.{EntryView, entry_of}
+use Rattle.gixobj_hash.specs.Texts.{IsFree}
+use Rattle.gixobj_tree.specs.TreeText.{RefusesEntry, RefusesTree, before_name, entry_text, tree_text}
+use Rattle.gixobj_fields.specs.Streams.{Puts, PutsFront, SinkView}
+use Rattle.gixobj_fields.specs.Writing.{Refused, SaysWhy}
+use Rattle.gixobj_fields.specs.declared.encode.Error.{Error}
+use Rattle.gixobj_fields.specs.declared.encode.Error.TheVariants.{OutOfMemory}
+use Rattle.gixobj_hash.specs.Hash.{id_bytes}
+use Rattle.gixobj_hash.specs.declared.hash.object_id.ObjectId.{ObjectId}
+use Rattle.gixobj_tree.specs.Mode.{mode_text}
+use Rattle.gixobj_fields.proofs.Puts.{front_first, front_more}
+use Rattle.gixobj_fields.proofs.Refusals.{says_why_within}
+
+-- no name has a zero byte
+abbrev pub AreFree : List EntryView → Type 0
+AreFree entries = All (λ e. IsFree 0 e.name) entries
+
+pub text_more : (items : List EntryView) (i : ℕ) (e : EntryView) → i < length items → e ≡ get_or items i e → tree_text (take (i + 1) items) ≡ tree_text (take i items) ++ entry_text e
+text_more items i e h is = rw (take_more items i e h, ← is) (flat_map-append entry_text (take i items) (e ∷ []) ∙ ap (λ (xs : List ℕ). tree_text (take i items) ++ xs) (append-nil (entry_text e)))
+
+pub free_more : (items : List EntryView) (i : ℕ) (e : EntryView) → i < length items → e ≡ get_or items i e → AreFree (take i items) → IsFree 0 e.name → AreFree (take (i + 1) items)
+free_more items i e h is front one = rw (take_more items i e h, ← is) (All-push (λ (x : EntryView). IsFree 0 x.name) (take i items) e front one)
+
+pub cut_at : (items : List EntryView) (i : ℕ) (e : EntryView) → i < length items → e ≡ get_or items i e → items ≡ take i items ++ e ∷ drop (i + 1) items
+cut_at items i e h is =
+    let rest : drop i items ≡ e ∷ drop (i + 1) items = drop_more items i e h ∙ ap (λ (x : EntryView). x ∷ drop (i + 1) items) (sym is) in
+    sym (take-append-drop i items) ∙ ap (λ (xs : List EntryView). take i items ++ xs) rest
+
+text_at : (items : List EntryView) (i : ℕ) (e : EntryView) → i < length items → e ≡ get_or items i e → tree_text items ≡ tree_text (take i items) ++ (entry_text e ++ tree_text (drop (i + 1) items))
+text_at items i e h is = ap tree_text (cut_at items i e h is) ∙ flat_map-append entry_text (take i items) (e ∷ drop (i + 1) items)
+
+pub none_refused : (items : List EntryView) (value : Refused) (parts : List ℕ) → AreFree items → RefusesTree items value parts → ⊥
+none_refused items value parts free r =
+    let has : Contains items r.entry = rw (r.joined) (Contains-append_right r.front (r.entry ∷ r.back) r.entry (Contains-get_or (r.entry ∷ r.back) 0 r.entry (omega arith))) in
+    All-contains (λ (it : ℕ). it ≡ 0 → ⊥) r.entry.name 0 (All-contains (λ (x : EntryView). IsFree 0 x.name) items r.entry free has) r.refused.0 refl
+
+-- all entries are written
+pub nothing_refused : (items all : List EntryView) (i : ℕ) → items ≡ all → length items ≤ i → AreFree (take i items) → (value : Refused) (parts : List ℕ) → RefusesTree all value parts → ⊥
+nothing_refused items all i same h free value parts r = none_refused items value parts (rw (← take_all i items h) free) (rw same r)
+
+-- an entry that is refused behind entries that are not
+pub refused_at : (a b c : SinkView) (items : List EntryView) (i : ℕ) (e : EntryView) → i < length items → e ≡ get_or items i e
+    → Puts a b (tree_text (take i items)) → AreFree (take i items) → (why : Error) → SaysWhy (RefusesEntry e) b c (entry_text e) why → SaysWhy (RefusesTree items) a c (tree_text items) why
+refused_at a b c items i e h is put free why says =
+    rw (text_at items i e h is) (says_why_within (RefusesEntry e) (RefusesTree items) a b c (tree_text (take i items)) (entry_text e) (tree_text (drop (i + 1) items)) put
+    (λ value parts r. record { front = take i items; entry = e; back = drop (i + 1) items; begun = parts; joined = cut_at items i e h is; free = free; refused = r; written = refl })
+    why says)
+
+front_shorter : (items : List EntryView) (n : ℕ) → length (tree_text (take n items)) ≤ length (tree_text items)
+front_shorter items n =
+    let e : tree_text items ≡ tree_text (take n items) ++ tree_text (drop n items) = ap tree_text (sym (take-append-drop n items)) ∙ flat_map-append entry_text (take n items) (drop n items) in
+    omega (arith, ap length e, length-append (tree_text (take n items)) (tree_text (drop n items)))
+
+-- a tree is as long as a front of it at least
+pub too_long : (items all : List EntryView) (i : ℕ) (e : EntryView) (n : ℕ) → items ≡ all → i < length items → e ≡ get_or items i e → n ≡ length (tree_text (take i items))
+    → (n + length (entry_text e) < 2 ^ 64 → ⊥) → length (tree_text all) < 2 ^ 64 → ⊥
+too_long items all i e n same h is len over short =
+    over (omega (arith, short, len, ap length (ap tree_text same), ap length (text_more items i e h is), length-append (tree_text (take i items)) (entry_text e), front_shorter items (i + 1)))
+
+-- ---- an entry
+
+-- the mode and its space, put
+pub mode_put : (a b : SinkView) (mode : ℕ) (name digits : List ℕ) (id : ObjectId) → digits ≡ mode_text mode → Puts a b (digits ++ 32 ∷ []) → Puts a b (before_name (entry_of mode name id))
+mode_put a b mode name digits id same put = rw (← same) put
+
+-- a front of the mode and its space is a front of the entry
+pub mode_front : (a b : SinkView) (mode : ℕ) (name digits : List ℕ) (id : ObjectId) → digits ≡ mode_text mode → PutsFront a b (digits ++ 32 ∷ []) → PutsFront a b (entry_text (entry_of mode name id))
+mode_front a b mode name digits id same part = rw (← same) (front_first a b ((digits ++ 32 ∷ []) ++ name) (0 ∷ id_bytes id) (front_first a b (digits ++ 32 ∷ []) name part))
+
+-- a front of the name, the zero byte and the id stands behind the mode
+pub name_front : (a b c : SinkView) (mode : ℕ) (name bytes : List ℕ) (id : ObjectId) → bytes ≡ id_bytes id → Puts a b (before_name (entry_of mode name id)) → PutsFront b c (name ++ 0 ∷ (bytes ++ []))
+    → PutsFront a c (entry_text (entry_of mode name id))
+name_front a b c mode name bytes id same put part =
+    rw (append_assoc (before_name (entry_of mode name id)) name (0 ∷ id_bytes id), ← same, ← append-nil bytes) (front_more a b c (before_name (entry_of mode name id)) (name ++ 0 ∷ (bytes ++ [])) put part)
+
+-- a name with a zero byte is not copied for want of memory
+pub no_copy : (a b : SinkView) (mode : ℕ) (name : List ℕ) (id : ObjectId) → Contains name 0 → Puts a b (before_name (entry_of mode name id)) → SaysWhy (RefusesEntry (entry_of mode name id)) a b (entry_text (entry_of mode name id)) OutOfMemory
+no_copy a b mode name id has put = (name, inr (before_name (entry_of mode name id), (has, refl, refl), put))

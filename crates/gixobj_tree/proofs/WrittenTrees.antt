@@ -1,0 +1,85 @@
+-- Borrowed trees written, and trees written back and read back.
+use Rattle.std.proofs.Common.{◌≡◌, ◌<◌, ◌+◌, ◌++◌, ◌∷◌, ◌==◌, ◌&&◌, ℕ, Bool, true, false, List, [], All, ap, append_assoc, arith, codes, get_or, length, length-append, if◌then◌else◌, map, refl, subst, sym, take, ◌∙◌}
+use Rattle.std.proofs.lemmas.Bool.Decides.{nat_tests}
+use Rattle.std.proofs.lemmas.List.Elements.{All-cons, All-head, All-nil, All-tail}
+use Rattle.std.specs.List.{AllZip, concat}
+use Rattle.gixobj_fields.specs.Writing.{RefusesNothing}
+use Rattle.gixobj_hash.specs.Hash.{id_bytes}
+use Rattle.gixobj_hash.specs.declared.hash.kind.Kind.{Kind}
+use Rattle.gixobj_hash.specs.Texts.{IsFree}
+use Rattle.gixobj_tree.proofs.ModesBack.{mode_reads_back}
+use Rattle.gixobj_tree.proofs.TreeWrites.{AreFree, none_refused, text_more}
+use Rattle.gixobj_tree.specs.Entries.{EntryView}
+use Rattle.gixobj_tree.specs.Mode.{KeepsByteSix, first_digit, last_digits, mode_text, octal_digits, second_digit}
+use Rattle.gixobj_tree.specs.TreeText.{RefusesTree, entry_text, tree_text}
+use Rattle.gixobj_tree.proofs.Viewed.{seen_there, seen_within}
+use Rattle.gixobj_tree.specs.Rewriting.{HasOwnModes, IsOwnEntryText, ReadsBack}
+use Rattle.gixobj_tree.specs.TreeReading.{IsEntryText, IsTreeText}
+
+-- the size with one entry more
+pub size_more : {X : Type 0} (view : X → EntryView) (xs : List X) (i : ℕ) (x : X) (n m : ℕ) → i < length xs → x ≡ get_or xs i x → n ≡ length (tree_text (take i (map view xs))) → m ≡ n + length (entry_text (view x))
+    → m ≡ length (tree_text (take (i + 1) (map view xs)))
+size_more view xs i x n m low is so_far more =
+    let text = text_more (map view xs) i (view x) (seen_within view xs i low) (seen_there view xs i x low is) in
+    omega (arith, so_far, more, ap length text, length-append (tree_text (take i (map view xs))) (entry_text (view x)))
+
+-- ---- written back
+
+regrouped : (digits name id : List ℕ) → (digits ++ 32 ∷ []) ++ name ++ 0 ∷ id ≡ digits ++ 32 ∷ (name ++ 0 ∷ id)
+regrouped digits name id = append_assoc (digits ++ 32 ∷ []) name (0 ∷ id) ∙ append_assoc digits (32 ∷ []) (name ++ 0 ∷ id)
+
+own_text : (kind : Kind) (e : EntryView) (text : List ℕ) → IsOwnEntryText kind e text → entry_text e ≡ text
+own_text kind e text it = rw (← it.own) (regrouped it.is.digits e.name (id_bytes e.id)) ∙ sym it.is.joined
+
+all_own : (kind : Kind) (entries : List EntryView) (texts : List (List ℕ)) → AllZip (IsOwnEntryText kind) entries texts → tree_text entries ≡ concat texts
+all_own kind [] [] are = refl
+all_own kind [] (text ∷ texts) are = absurd are
+all_own kind (e ∷ entries) [] are = absurd are
+all_own kind (e ∷ entries) (text ∷ texts) are = ap (λ (it : List ℕ). it ++ tree_text entries) (own_text kind e text are.0) ∙ ap (λ (it : List ℕ). text ++ it) (all_own kind entries texts are.1)
+
+all_texts : (kind : Kind) (entries : List EntryView) (texts : List (List ℕ)) → AllZip (IsOwnEntryText kind) entries texts → AllZip (IsEntryText kind) entries texts
+all_texts kind [] [] are = tt
+all_texts kind [] (text ∷ texts) are = absurd are
+all_texts kind (e ∷ entries) [] are = absurd are
+all_texts kind (e ∷ entries) (text ∷ texts) are = (are.0.is, all_texts kind entries texts are.1)
+
+pub written_back : (kind : Kind) (text : List ℕ) (entries : List EntryView) → HasOwnModes kind text entries → IsTreeText kind text entries × (tree_text entries ≡ text)
+written_back kind text entries (texts, joined, are) = ((texts, joined, all_texts kind entries texts are), all_own kind entries texts are ∙ sym joined)
+
+names_free : (kind : Kind) (entries : List EntryView) (texts : List (List ℕ)) → AllZip (IsEntryText kind) entries texts → AreFree entries
+names_free kind [] [] are = All-nil (λ (e : EntryView). IsFree 0 e.name)
+names_free kind [] (text ∷ texts) are = absurd are
+names_free kind (e ∷ entries) [] are = absurd are
+names_free kind (e ∷ entries) (text ∷ texts) are = All-cons (λ (it : EntryView). IsFree 0 it.name) e entries are.0.name (names_free kind entries texts are.1)
+
+-- of a tree that was read no name is refused
+pub nothing_refused : (kind : Kind) (text : List ℕ) (entries : List EntryView) → IsTreeText kind text entries → RefusesNothing (RefusesTree entries)
+nothing_refused kind text entries (texts, joined, are) = λ value parts refused. none_refused entries value parts (names_free kind entries texts are) refused
+
+-- ---- read back
+
+-- a mode that is written of six digits is followed by byte 6, and one of five by byte 5
+six_of_text : (mode : ℕ) (rest : List ℕ) (zero four one : Bool) → zero ≡ false → KeepsByteSix ((if zero then codes "0" else if four && one then codes "0" ++ last_digits mode else if four then last_digits mode else octal_digits mode) ++ 32 ∷ rest)
+    (if zero then codes "0" else if four && one then codes "0" ++ last_digits mode else if four then last_digits mode else octal_digits mode)
+six_of_text mode rest true four one some = cc some
+six_of_text mode rest false true true some = λ is other. refl
+six_of_text mode rest false true false some = λ is other. absurd (other refl)
+six_of_text mode rest false false one some = λ is other. refl
+
+six_kept : (mode : ℕ) (rest : List ℕ) → 0 < mode → KeepsByteSix (mode_text mode ++ 32 ∷ rest) (mode_text mode)
+six_kept mode rest some =
+    let filled : (mode == 0) ≡ false = grind (arith, nat_tests, some) in
+    six_of_text mode rest (mode == 0) (second_digit mode == 4) (first_digit mode == 1) filled
+
+own_entry : (kind : Kind) (e : EntryView) → ReadsBack kind e → IsEntryText kind e (entry_text e)
+own_entry kind e it =
+    let joined = regrouped (mode_text e.mode) e.name (id_bytes e.id) in
+    let six = six_kept e.mode (e.name ++ 0 ∷ id_bytes e.id) it.some in
+    let P : List ℕ → Type 0 = λ text. KeepsByteSix text (mode_text e.mode) in
+    record { digits = mode_text e.mode; joined = joined; mode = mode_reads_back e.mode it.bits it.told_apart; byte_six = subst P (sym joined) six; name = it.name; id = it.id }
+
+pub read_back : (kind : Kind) (entries : List EntryView) → All (ReadsBack kind) entries → IsTreeText kind (tree_text entries) entries
+read_back kind [] all = ([], refl, tt)
+read_back kind (e ∷ entries) all =
+    let (texts, joined, are) = read_back kind entries (All-tail (ReadsBack kind) e entries all) in
+    (entry_text e ∷ texts, ap (λ (it : List ℕ). entry_text e ++ it) joined, (own_entry kind e (All-head (ReadsBack kind) e entries all), are))

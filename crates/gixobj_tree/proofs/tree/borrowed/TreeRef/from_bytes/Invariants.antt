@@ -1,0 +1,12 @@
+-- The entries so far were read of the input, and the rest is left.
+use Rattle.std.proofs.Common.{length, map}
+use Rattle.gixobj_tree.proofs.EntryRuns.{PassesEntries}
+use Rattle.gixobj_tree.proofs.tree.borrowed.TreeRef.from_bytes.Given as goal
+use Rattle.gixobj_tree.specs.TreeViews.{entry_view}
+
+abbrev pub invariant-loop-rest : goal.invariant-loop-rest
+invariant-loop-rest l = PassesEntries l.hash_kind l.bytes (map entry_view l.entries.items) l.rest
+
+-- fewer bytes are left each time
+abbrev pub decreases-loop-rest : goal.decreases-loop-rest
+decreases-loop-rest l = length l.rest

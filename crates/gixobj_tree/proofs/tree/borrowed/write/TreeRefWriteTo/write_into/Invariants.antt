@@ -1,0 +1,16 @@
+-- The entries before the one in hand are put, and none of their names has a zero byte.
+use Rattle.std.proofs.Common.{◌≡◌, take, map}
+use Rattle.gixobj_fields.specs.Streams.{Puts}
+use Rattle.gixobj_tree.proofs.TreeWrites.{AreFree}
+use Rattle.gixobj_tree.specs.TreeText.{tree_text}
+use Rattle.gixobj_tree.proofs.tree.borrowed.write.TreeRefWriteTo.write_into.Given as goal
+use Rattle.gixobj_tree.specs.TreeViews.{entry_view}
+
+abbrev pub invariant-loop-entry : goal.invariant-loop-entry
+invariant-loop-entry g l =
+    record {
+      put : Puts (g.S.Sink.view l.fn.sink) (g.S.Sink.view l.sink) (tree_text (take l.entry-index (map entry_view l.entry-items)));
+      free : AreFree (take l.entry-index (map entry_view l.entry-items));
+      same : l.entry-items ≡ l.self.entries.items;
+      same_loan : g.S.Sink.loan l.sink ≡ g.S.Sink.loan l.fn.sink;
+    }

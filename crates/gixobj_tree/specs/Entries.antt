@@ -1,0 +1,60 @@
+-- Entries of trees: their keys, their order, and well-formed lists of them (gitdatamodel, "trees"; git's index
+-- compares names so that a directory stands where its files would).
+use Rattle.std.specs.Prelude.{◌≡◌, ◌≢◌, ℕ, Bool, Option, Some, None, List, [], ◌∷◌, ◌++◌, if◌then◌else◌, length, min, take, drop}
+use Rattle.std.specs.List.{AllByRecursion}
+use Rattle.std.specs.Cmp.Lexicographic.{slice_cmp}
+use Rattle.std.specs.Option.{option_cmp}
+use Rattle.std.specs.Ordering.{nat_cmp, ordering_then}
+use Rattle.std.specs.declared.cmp.Ordering.{Ordering}
+use Rattle.std.specs.declared.cmp.Ordering.TheVariants.{Less}
+use Rattle.gixobj_tree.specs.Mode.{is_tree_mode}
+use Rattle.gixobj_hash.specs.Texts.{IsFree}
+use Rattle.gixobj_hash.specs.declared.hash.object_id.ObjectId.{ObjectId}
+use Rattle.gixobj_hash.specs.Bytes.{slash}
+
+-- an entry as contracts see it
+pub record EntryView : Type 0 where
+  pub mode : ℕ
+  pub name : List ℕ
+  pub id : ObjectId
+
+-- the entry of this mode, name and id
+abbrev pub entry_of : ℕ → List ℕ → ObjectId → EntryView
+entry_of mode name id = record { mode = mode; name = name; id = id }
+
+-- the key of a name: with a slash after a tree's
+abbrev pub key_of : List ℕ → Bool → List ℕ
+key_of name is_tree = if is_tree then name ++ (slash ∷ []) else name
+
+abbrev pub entry_key : EntryView → List ℕ
+entry_key e = key_of e.name (is_tree_mode e.mode)
+
+-- the first byte of the rest of a name, where a tree's end counts as a slash
+abbrev pub next_byte : List ℕ → Bool → Option ℕ
+next_byte [] is_tree = if is_tree then Some 47 else None
+next_byte (byte ∷ rest) is_tree = Some byte
+
+-- the common length bytewise, and then the next byte; no byte comes before every byte
+abbrev pub name_cmp : List ℕ → Bool → List ℕ → Bool → Ordering
+name_cmp xs x_is_tree ys y_is_tree =
+    let n = min (length xs) (length ys) in
+    ordering_then (slice_cmp nat_cmp (take n xs) (take n ys)) (option_cmp nat_cmp (next_byte (drop n xs) x_is_tree) (next_byte (drop n ys) y_is_tree))
+
+abbrev pub ComesBefore : EntryView → EntryView → Type 0
+ComesBefore x y = slice_cmp nat_cmp (entry_key x) (entry_key y) ≡ Less
+
+-- a name that an entry of a well-formed tree may have
+pub record IsEntryName (name : List ℕ) : Type 0 where
+  pub filled : name ≢ []
+  pub one_name : IsFree slash name
+
+-- R holds of each element and each later one
+abbrev pub EachLater : {X : Type 0} → (X → X → Type 0) → List X → Type 0
+EachLater R [] = Unit {0}
+EachLater R (x ∷ xs) = AllByRecursion (R x) xs × EachLater R xs
+
+-- each name is one, no two are the same, and the keys ascend
+pub record IsWellFormed (entries : List EntryView) : Type 0 where
+  pub names : AllByRecursion (λ e. IsEntryName e.name) entries
+  pub apart : EachLater (λ x y. x.name ≢ y.name) entries
+  pub ascending : EachLater ComesBefore entries

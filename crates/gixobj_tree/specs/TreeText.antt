@@ -1,0 +1,36 @@
+-- Trees as they are written (gitdatamodel, "trees"; git-mktree reads the same entries as lines).
+use Rattle.std.specs.Prelude.{◌≡◌, ℕ, List, [], ◌∷◌, ◌++◌, All, Contains}
+use Rattle.std.specs.List.{flat_map}
+use Rattle.gixobj_tree.specs.Entries.{EntryView}
+use Rattle.gixobj_hash.specs.Hash.{id_bytes}
+use Rattle.gixobj_tree.specs.Mode.{mode_text}
+use Rattle.gixobj_hash.specs.Texts.{IsFree}
+use Rattle.gixobj_fields.specs.Writing.{Refused, name_with_zero_byte}
+use Rattle.gixobj_hash.specs.Bytes.{space}
+
+-- the mode and a space
+abbrev pub before_name : EntryView → List ℕ
+before_name e = mode_text e.mode ++ space ∷ []
+
+-- an entry: mode, space, name, zero byte, id
+abbrev pub entry_text : EntryView → List ℕ
+entry_text e = before_name e ++ e.name ++ 0 ∷ id_bytes e.id
+
+-- the entries, one after the other
+abbrev pub tree_text : List EntryView → List ℕ
+tree_text entries = flat_map entry_text entries
+
+-- an entry is refused for a name with a zero byte, after its mode and space
+abbrev pub RefusesEntry : EntryView → Refused → List ℕ → Type 0
+RefusesEntry e value parts = Contains e.name 0 × (value ≡ name_with_zero_byte e.name) × (parts ≡ before_name e)
+
+-- the first entry with such a name is refused, after the entries before it
+pub record RefusesTree (entries : List EntryView) (value : Refused) (parts : List ℕ) : Type 0 where
+  pub front : List EntryView
+  pub entry : EntryView
+  pub back : List EntryView
+  pub begun : List ℕ
+  pub joined : entries ≡ front ++ entry ∷ back
+  pub free : All (λ e. IsFree 0 e.name) front
+  pub refused : RefusesEntry entry value begun
+  pub written : parts ≡ tree_text front ++ begun

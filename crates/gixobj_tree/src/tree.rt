@@ -1,0 +1,46 @@
+//! Trees (gitdatamodel, "trees").
+ghost use Rattle.std.specs.Prelude.{◌≡◌, []};
+
+mod compared;
+mod entry;
+mod entry_kind;
+mod entry_mode;
+pub mod order;
+mod well_formed;
+pub mod write;
+mod borrowed;
+
+pub use borrowed::{EntryRef, TreeRef, decode};
+pub use entry::Entry;
+pub use entry_kind::EntryKind;
+pub use entry_mode::EntryMode;
+pub use order::name_order;
+use std::alloc::Global;
+use std::marker::Model;
+
+/// A tree: the entries of a directory.
+#[derive(Clone, Debug, Drop)]
+pub struct Tree {
+    /// The entries. A tree of git's has them in the order of [`name_order`], and each name once.
+    pub entries: Vec<Entry>,
+}
+
+impl Model for Tree {
+    ghost use Rattle.std.specs.Prelude.{List};
+    ghost use Rattle.gixobj_tree.specs.Entries.{EntryView};
+
+    ghost Value = { List EntryView };
+
+    ghost view = { λ tree. tree.entries.items };
+}
+
+impl Tree {
+    /// A tree without entries. It takes no memory: `alloc` is only kept with the entries.
+    pub fn empty(alloc: Global) -> Tree
+        ensures { result ≡ [] }
+    {
+        Tree {
+            entries: Vec::new(alloc),
+        }
+    }
+}

@@ -1,0 +1,67 @@
+//! Trees, borrowed (gitdatamodel, "trees").
+ghost use Rattle.std.specs.Prelude.{◌≡◌, ◌≢◌, [], Contains, IfErr, IfOk, IfSome, MatchOption};
+ghost use Rattle.std.specs.declared.cmp.Ordering.TheVariants.{Equal};
+ghost use Rattle.gixobj_hash.specs.Bytes.{slash};
+ghost use Rattle.gixobj_hash.specs.Texts.{IsFree};
+ghost use Rattle.gixobj_tree.specs.Entries.{IsWellFormed, entry_key, key_of, name_cmp};
+ghost use Rattle.gixobj_tree.specs.Mode.{is_tree_mode};
+ghost use Rattle.gixobj_tree.specs.WellFormed.{HasKey};
+ghost use Rattle.gixobj_tree.specs.TreeViews.{entry_view, tree_entries};
+ghost use Rattle.bstr.specs.BStr.{bstr_bytes};
+
+mod compared;
+pub mod decode;
+mod entry_ref;
+mod owned;
+mod write;
+
+use bstr::BStr;
+pub use entry_ref::EntryRef;
+use crate::tree::name_order;
+use std::alloc::Global;
+
+/// A tree, borrowed: the entries of a directory as they stand in its text.
+#[derive(Clone, Debug, Drop)]
+pub struct TreeRef<'a> {
+    /// The entries. A tree of git's has them in the order of [`name_order`], and each name once.
+    pub entries: Vec<EntryRef<'a>>,
+}
+
+/// Initialization
+impl TreeRef<'_> {
+    /// A tree without entries. It takes no memory: `alloc` is only kept with the entries.
+    pub fn empty(alloc: Global) -> TreeRef<'static>
+        ensures { tree_entries result ≡ [] }
+    {
+        TreeRef {
+            entries: Vec::new(alloc),
+        }
+    }
+}
+
+/// Access
+impl<'a> TreeRef<'a> {
+    /// The entry of this name, which is a directory's or not, sought by halves, or none.
+    ///
+    /// In a well-formed tree and for a name without `/` it is the entry with that name and a `/` behind a
+    /// directory's. Else it is some entry that [`name_order`] finds equal, or none. It takes no memory.
+    pub fn bisect_entry(&self, name: BStr<'_>, is_dir: bool) -> Option<EntryRef<'a>>
+        ensures found { IfSome result (λ e. Contains (tree_entries self.now) (entry_view e) × (name_cmp (entry_view e).name (is_tree_mode (entry_view e).mode) (bstr_bytes name.entry) is_dir ≡ Equal)) }
+        ensures by_key { IsWellFormed (tree_entries self.now) → IsFree slash (bstr_bytes name.entry) →
+            MatchOption result (¬ HasKey (tree_entries self.now) (key_of (bstr_bytes name.entry) is_dir)) (λ e. entry_key (entry_view e) ≡ key_of (bstr_bytes name.entry) is_dir) }
+    {
+        let name = name.as_bytes();
+        let sought = self.entries.binary_search_by(|entry| {
+            name_order(
+                entry.filename.as_bytes(),
+                entry.mode.is_tree(),
+                name,
+                is_dir,
+            )
+        });
+        match sought {
+            Ok(at) => Some(self.entries[at]),
+            Err(_) => None,
+        }
+    }
+}

@@ -1,0 +1,98 @@
+//! Entries of trees, borrowed (gitdatamodel, "trees").
+ghost use Rattle.gixobj_tree.specs.EntryOrder.{entry_cmp, entry_feed, same_entry};
+ghost use Rattle.gixobj_tree.specs.EntryOrderLaws.{entry_cmp_total, entry_equiv, entry_ties};
+ghost use Rattle.gixobj_tree.specs.TreeViews.{entry_view};
+
+use bstr::BStr;
+use gixobj_hash::hash::oid;
+use crate::tree::EntryMode;
+use crate::tree::order::key_order;
+use std::cmp::Ordering;
+use std::hash::{Hash, Hasher};
+
+/// An entry of a tree, borrowed: the file or the directory of a name.
+#[derive(Clone, Copy, Debug)]
+pub struct EntryRef<'a> {
+    /// What kind of object the entry names, and a file's permissions.
+    pub mode: EntryMode,
+    /// The name, one part of a path.
+    pub filename: BStr<'a>,
+    /// The id of the object.
+    pub oid: oid<'a>,
+}
+
+/// The same mode, name and id.
+impl PartialEq for EntryRef<'_> {
+    ghost use Rattle.std.specs.Cmp.{on_equiv, partial_equiv_from_equiv};
+
+    ghost eq = { λ x y. same_entry (entry_view x) (entry_view y) };
+
+    ghost laws = { partial_equiv_from_equiv (on_equiv entry_view entry_equiv) };
+
+    fn eq(&self, other: &Self) -> bool {
+        self.mode == other.mode
+            && self.filename == other.filename
+            && self.oid.to_owned().cmp(&other.oid.to_owned()).is_eq()
+    }
+}
+
+impl Eq for EntryRef<'_> {
+    ghost use Rattle.std.specs.Cmp.{on_equiv};
+
+    ghost laws = { on_equiv entry_view entry_equiv };
+}
+
+/// By the name, with a `/` behind a tree's, as in a tree. Where two of these tie, the mode, the name
+/// and the id decide.
+impl Ord for EntryRef<'_> {
+    ghost use Rattle.std.specs.Prelude.{refl};
+    ghost use Rattle.std.specs.Cmp.{on_total};
+    ghost use Rattle.std.specs.Ordering.{on};
+
+    ghost cmp = { on entry_view entry_cmp };
+
+    ghost total = { on_total entry_view entry_cmp_total };
+
+    ghost matches_partial_cmp = { λ x y. refl };
+
+    ghost matches_eq = { λ x y. entry_ties (entry_view x) (entry_view y) };
+
+    fn cmp(&self, other: &Self) -> Ordering {
+        let name = self.filename.as_bytes();
+        let other_name = other.filename.as_bytes();
+        let keys = key_order(name, self.mode.is_tree(), other_name, other.mode.is_tree());
+        let modes = self.mode.cmp(&other.mode);
+        let names = self.filename.cmp(&other.filename);
+        let ids = self.oid.to_owned().cmp(&other.oid.to_owned());
+        keys.then(modes.then(names.then(ids)))
+    }
+}
+
+impl PartialOrd for EntryRef<'_> {
+    ghost use Rattle.std.specs.Prelude.{refl};
+    ghost use Rattle.std.specs.Cmp.{on_total, partial_order_from_agreeing_total};
+    ghost use Rattle.std.specs.Ordering.{as_partial_cmp, on};
+
+    ghost partial_cmp = { as_partial_cmp (on entry_view entry_cmp) };
+
+    ghost laws = { partial_order_from_agreeing_total (on entry_view entry_cmp) (on_total entry_view entry_cmp_total) (λ x y. refl) (λ x y. entry_ties (entry_view x) (entry_view y)) };
+
+    fn partial_cmp(&self, other: &Self) -> Option<Ordering> {
+        Some(self.cmp(other))
+    }
+}
+
+/// Hashes the mode, the name and the id, as an owned entry does.
+impl Hash for EntryRef<'_> {
+    ghost use Rattle.gixobj_tree.specs.EntryOrderLaws.{entries_alike};
+
+    ghost hash_input = { λ entry. entry_feed (entry_view entry) };
+
+    ghost respects_eq = { λ x y. entries_alike (entry_view x) (entry_view y) };
+
+    fn hash<H: Hasher>(&self, state: &mut H) {
+        self.mode.hash(state);
+        self.filename.hash(state);
+        self.oid.hash(state);
+    }
+}

@@ -1,0 +1,122 @@
+//! Entries of trees (gitdatamodel, "trees").
+ghost use Rattle.std.specs.Prelude.{◌≡◌};
+ghost use Rattle.std.specs.Cmp.Lexicographic.{slice_cmp};
+ghost use Rattle.std.specs.Ordering.{nat_cmp};
+ghost use Rattle.bstr.specs.Owned.{bstring_bytes};
+ghost use Rattle.gixobj_tree.specs.Entries.{entry_key, key_of};
+ghost use Rattle.gixobj_tree.specs.EntryOrder.{entry_cmp, entry_feed, same_entry};
+ghost use Rattle.gixobj_tree.specs.EntryOrderLaws.{entry_cmp_total, entry_equiv, entry_ties};
+
+use super::EntryMode;
+use super::order::key_order;
+use bstr::BString;
+use gixobj_hash::hash::ObjectId;
+use std::cmp::Ordering;
+use std::hash::{Hash, Hasher};
+use std::marker::Model;
+
+/// An entry of a tree: the file or the directory of a name.
+#[derive(Clone, Debug, Drop)]
+pub struct Entry {
+    /// What kind of object the entry names, and a file's permissions.
+    pub mode: EntryMode,
+    /// The name, one part of a path.
+    pub filename: BString,
+    /// The id of the object.
+    pub oid: ObjectId,
+}
+
+impl Model for Entry {
+    ghost use Rattle.bstr.specs.Owned.{bstring_bytes};
+    ghost use Rattle.gixobj_tree.specs.Entries.{EntryView};
+    ghost use Rattle.gixobj_tree.specs.Mode.{mode_bits};
+
+    ghost Value = { EntryView };
+
+    ghost view = { λ e. record { mode = mode_bits e.mode; name = bstring_bytes e.filename; id = e.oid } };
+}
+
+impl Entry {
+    /// The order of the keys alone.
+    pub(super) fn key_order(&self, other: &Entry) -> Ordering
+        ensures { result ≡ slice_cmp nat_cmp (entry_key self.now) (entry_key other.now) }
+    {
+        self.key_order_with(other.filename.as_bytes(), other.mode.is_tree())
+    }
+
+    /// The order of the key and the key of such a name.
+    pub(super) fn key_order_with(&self, name: &[u8], is_tree: bool) -> Ordering
+        ensures { result ≡ slice_cmp nat_cmp (entry_key self.now) (key_of name.now is_tree) }
+    {
+        key_order(self.filename.as_bytes(), self.mode.is_tree(), name, is_tree)
+    }
+}
+
+/// The same mode, name and id.
+impl PartialEq for Entry {
+    ghost use Rattle.std.specs.Cmp.{partial_equiv_from_equiv};
+
+    ghost eq = { same_entry };
+
+    ghost laws = { partial_equiv_from_equiv entry_equiv };
+
+    fn eq(&self, other: &Entry) -> bool {
+        self.mode == other.mode
+            && self.filename == other.filename
+            && self.oid.cmp(&other.oid).is_eq()
+    }
+}
+
+impl Eq for Entry {
+    ghost laws = { entry_equiv };
+}
+
+/// By the name, with a `/` behind a tree's, as in a tree. Where two of these tie, the mode, the name
+/// and the id decide.
+impl Ord for Entry {
+    ghost use Rattle.std.specs.Prelude.{refl};
+
+    ghost cmp = { entry_cmp };
+
+    ghost total = { entry_cmp_total };
+
+    ghost matches_partial_cmp = { λ x y. refl };
+
+    ghost matches_eq = { entry_ties };
+
+    fn cmp(&self, other: &Entry) -> Ordering {
+        let modes = self.mode.cmp(&other.mode);
+        let names = self.filename.cmp(&other.filename);
+        let ids = self.oid.cmp(&other.oid);
+        self.key_order(other).then(modes.then(names.then(ids)))
+    }
+}
+
+impl PartialOrd for Entry {
+    ghost use Rattle.std.specs.Prelude.{refl};
+    ghost use Rattle.std.specs.Cmp.{partial_order_from_agreeing_total};
+    ghost use Rattle.std.specs.Ordering.{as_partial_cmp};
+
+    ghost partial_cmp = { as_partial_cmp entry_cmp };
+
+    ghost laws = { partial_order_from_agreeing_total entry_cmp entry_cmp_total (λ x y. refl) entry_ties };
+
+    fn partial_cmp(&self, other: &Entry) -> Option<Ordering> {
+        Some(self.cmp(other))
+    }
+}
+
+/// Hashes the mode, the name and the id.
+impl Hash for Entry {
+    ghost use Rattle.gixobj_tree.specs.EntryOrderLaws.{entries_alike};
+
+    ghost hash_input = { entry_feed };
+
+    ghost respects_eq = { entries_alike };
+
+    fn hash<H: Hasher>(&self, state: &mut H) {
+        self.mode.hash(state);
+        self.filename.hash(state);
+        self.oid.hash(state);
+    }
+}

@@ -1,0 +1,93 @@
+//! The order of names in a tree (gitdatamodel, "trees").
+ghost use Rattle.std.specs.Prelude.{◌≡◌, ◌≤◌, length, take};
+ghost use Rattle.std.specs.Int.{from_be_bytes, w64};
+ghost use Rattle.std.specs.Cmp.Lexicographic.{slice_cmp};
+ghost use Rattle.std.specs.Ordering.{nat_cmp};
+ghost use Rattle.gixobj_tree.specs.Entries.{key_of, name_cmp, next_byte};
+ghost use Rattle.gixobj_hash.specs.Texts.{IsFree};
+ghost use Rattle.gixobj_hash.specs.Bytes.{slash};
+
+use std::cmp::Ordering;
+
+/// The order of two names in a tree: the common length bytewise, and then the next byte, where a
+/// tree's end counts as `/`, and any other end comes before every byte.
+///
+/// For names without `/` that is the order of the names with a `/` behind a tree's. It takes no
+/// memory.
+pub fn name_order(left: &[u8], left_is_tree: bool, right: &[u8], right_is_tree: bool) -> Ordering
+    ensures rule { result ≡ name_cmp left.now left_is_tree right.now right_is_tree }
+    ensures by_keys { IsFree slash left.now → IsFree slash right.now → result ≡ slice_cmp nat_cmp (key_of left.now left_is_tree) (key_of right.now right_is_tree) }
+{
+    let mut rest = left;
+    let mut other_rest = right;
+    while rest.len() >= 8 && other_rest.len() >= 8 {
+        let front = eight_order(rest, other_rest);
+        if front.is_ne() {
+            return front;
+        }
+        rest = rest.split_at(8).1;
+        other_rest = other_rest.split_at(8).1;
+    }
+    short_order(rest, left_is_tree, other_rest, right_is_tree)
+}
+
+/// The order of the first eight bytes, which is that of the numbers that they spell.
+fn eight_order(left: &[u8], right: &[u8]) -> Ordering
+    requires left { 8 ≤ length left.now }
+    requires right { 8 ≤ length right.now }
+    ensures { result ≡ slice_cmp nat_cmp (take 8 left.now) (take 8 right.now) }
+{
+    first_eight(left).cmp(&first_eight(right))
+}
+
+/// The first eight bytes as a number, whose first digit in base 256 is the first byte.
+fn first_eight(name: &[u8]) -> u64
+    requires { 8 ≤ length name.now }
+    ensures { result ≡ from_be_bytes w64 (take 8 name.now) }
+{
+    u64::from_be_bytes([
+        name[0], name[1], name[2], name[3], name[4], name[5], name[6], name[7],
+    ])
+}
+
+/// As [`name_order`], byte by byte.
+fn short_order(left: &[u8], left_is_tree: bool, right: &[u8], right_is_tree: bool) -> Ordering
+    ensures { result ≡ name_cmp left.now left_is_tree right.now right_is_tree }
+{
+    let common = left.len().min(right.len());
+    let mut same = 0;
+    while same < common && left[same] == right[same] {
+        same += 1;
+    }
+    let rest = left.split_at(same).1;
+    let other_rest = right.split_at(same).1;
+    next_byte(rest, left_is_tree).cmp(&next_byte(other_rest, right_is_tree))
+}
+
+/// The order of the keys of two names, which have a `/` behind a tree's.
+///
+/// It differs from [`name_order`] only where a name has a `/`. It takes no memory.
+pub fn key_order(left: &[u8], left_is_tree: bool, right: &[u8], right_is_tree: bool) -> Ordering
+    ensures { result ≡ slice_cmp nat_cmp (key_of left.now left_is_tree) (key_of right.now right_is_tree) }
+{
+    let names = name_order(left, left_is_tree, right, right_is_tree);
+    let lengths = key_len(left, left_is_tree).cmp(&key_len(right, right_is_tree));
+    names.then(lengths)
+}
+
+/// The length of the key: of the name, and one more for a tree.
+fn key_len(name: &[u8], is_tree: bool) -> usize
+    ensures { result ≡ length (key_of name.now is_tree) }
+{
+    name.len() + usize::from(is_tree)
+}
+
+/// The first byte of the rest of a name, where a tree's end counts as `/`.
+fn next_byte(rest: &[u8], is_tree: bool) -> Option<u8>
+    ensures { result ≡ next_byte rest.now is_tree }
+{
+    match rest.first() {
+        Some(byte) => Some(*byte),
+        None => is_tree.then_some(b'/'),
+    }
+}

@@ -1,0 +1,111 @@
+//! Trees, written (gitdatamodel, "trees").
+ghost use Rattle.std.specs.Prelude.{◌≡◌, ◌<◌, ◌+◌, ◌^◌, length, IfErr, OnOk};
+ghost use Rattle.std.specs.Option.{SomeIff};
+ghost use Rattle.gixobj_hash.specs.Hash.Borrowed.{borrowed_id};
+ghost use Rattle.gixobj_hash.specs.Texts.{IsFree};
+ghost use Rattle.gixobj_tree.specs.Entries.{entry_of};
+ghost use Rattle.gixobj_tree.specs.Mode.{mode_bits};
+ghost use Rattle.gixobj_tree.specs.TreeText.{RefusesEntry, entry_text};
+ghost use Rattle.gixobj_fields.specs.Streams.{Puts};
+ghost use Rattle.gixobj_fields.specs.Writing.{AddsSize, SaysWhy};
+
+use super::{Entry, EntryMode, Tree};
+use bstr::BString;
+use gixobj_fields::WriteTo;
+use gixobj_fields::encode::Error;
+use gixobj_fields::streams::{Sink, put_parts};
+use gixobj_hash::Kind;
+use gixobj_hash::hash::oid;
+use gixobj_hash::texts::has_byte;
+use std::alloc::Global;
+
+/// A tree is written as its entries in the order in which they stand, whatever that is.
+///
+/// A name with a zero byte is refused as `NullbyteInFilename`, after its entry's mode and space.
+impl WriteTo for Tree {
+    ghost use Rattle.gixobj_tree.specs.TreeText.{RefusesTree, tree_text};
+    ghost use Rattle.gixobj_hash.specs.declared.kind.Kind.TheVariants as kind;
+
+    ghost object_kind = { λ _. kind.Tree };
+
+    ghost text = { tree_text };
+
+    ghost refuses = { RefusesTree };
+
+    fn write_into<S: Sink>(&self, alloc: Global, sink: &mut S) -> Result<(), Error> {
+        for entry in &self.entries {
+            put_owned(alloc, entry, sink)?;
+        }
+        Ok(())
+    }
+
+    fn kind(&self) -> Kind {
+        Kind::Tree
+    }
+
+    fn size(&self) -> Option<u64> {
+        let mut size = 0u64;
+        for entry in &self.entries {
+            size = size_with_owned(size, entry)?;
+        }
+        Some(size)
+    }
+}
+
+/// Puts one entry.
+fn put_owned<S: Sink>(alloc: Global, entry: &Entry, sink: &mut S) -> Result<(), Error>
+    ensures written { OnOk result (Puts (S.view sink.old) (S.view sink.new) (entry_text entry.now)) }
+    ensures free { OnOk result (IsFree 0 entry.now.name) }
+    ensures refusal { IfErr result (SaysWhy (RefusesEntry entry.now) (S.view sink.old) (S.view sink.new) (entry_text entry.now)) }
+    ensures same_loan { S.loan sink.new ≡ S.loan sink.old }
+{
+    let name = entry.filename.as_bytes();
+    put_entry(alloc, entry.mode, name, entry.oid.as_oid(), sink)
+}
+
+/// Puts the entry of this mode, name and id.
+///
+/// A name with a zero byte is refused as `NullbyteInFilename`, after the mode and a space.
+#[inline(always)]
+#[tactic(auto, using(crate::proofs::TreeWrites::mode_front, crate::proofs::TreeWrites::mode_put, crate::proofs::TreeWrites::name_front, crate::proofs::TreeWrites::no_copy))]
+pub fn put_entry<S: Sink>(
+    alloc: Global,
+    mode: EntryMode,
+    name: &[u8],
+    id: oid<'_>,
+    sink: &mut S,
+) -> Result<(), Error>
+    ensures written { OnOk result (Puts (S.view sink.old) (S.view sink.new) (entry_text (entry_of (mode_bits mode) name.now (borrowed_id id.entry)))) }
+    ensures free { OnOk result (IsFree 0 name.now) }
+    ensures refusal { IfErr result (SaysWhy (RefusesEntry (entry_of (mode_bits mode) name.now (borrowed_id id.entry))) (S.view sink.old) (S.view sink.new) (entry_text (entry_of (mode_bits mode) name.now (borrowed_id id.entry)))) }
+    ensures same_loan { S.loan sink.new ≡ S.loan sink.old }
+{
+    let mut backing = [0; 6];
+    let digits = mode.as_bytes(&mut backing);
+    put_parts(&[digits.as_bytes(), b" "], sink)?;
+    if has_byte(name, 0) {
+        let name = BString::from_slice(alloc, name)?;
+        return Err(Error::NullbyteInFilename { name });
+    }
+    put_parts(&[name, b"\0", id.as_bytes()], sink)?;
+    Ok(())
+}
+
+/// The size and that of the entry, or none past 64 bits.
+fn size_with_owned(size: u64, entry: &Entry) -> Option<u64>
+    ensures { AddsSize result size (entry_text entry.now) }
+{
+    let name = entry.filename.as_bytes();
+    size_with(size, entry.mode, name, entry.oid.as_oid())
+}
+
+/// The size and that of the entry of this mode, name and id, or none past 64 bits.
+pub fn size_with(size: u64, mode: EntryMode, name: &[u8], id: oid<'_>) -> Option<u64>
+    ensures { AddsSize result size (entry_text (entry_of (mode_bits mode) name.now (borrowed_id id.entry))) }
+{
+    let mut backing = [0; 6];
+    let digits = mode.as_bytes(&mut backing).as_bytes().len() as u64;
+    let with_mode = size.checked_add(digits)?.checked_add(2)?;
+    let with_name = with_mode.checked_add(name.len() as u64)?;
+    with_name.checked_add(id.as_bytes().len() as u64)
+}

@@ -1,5 +1,0 @@
-use Rattle.gixobj_tree_readers.proofs.WrittenTrees as law
-use Rattle.gixobj_tree_readers.proofs.laws.tree_reads_back.Goals as goal
-
-pub returns : goal.returns
-returns c = law.read_back

@@ -1,5 +1,0 @@
-use Rattle.std.proofs.Common.{rules}
-use Rattle.gixobj_tree_readers.proofs.tree.TreeRef.into_owned.Goals as goal
-
-pub returns-clause-owned : goal.returns-clause-owned
-returns-clause-owned c = search rules

@@ -1,8 +1,0 @@
-use Rattle.std.proofs.lemmas.List.{length-map}
-use Rattle.std.proofs.lemmas.List.Folds.{flat_map-map}
-use Rattle.gixobj_trees.specs.EntryOrder.{entry_feed}
-use Rattle.gixobj_tree_readers.proofs.tree.compared.TreeRefHash.hash.Goals as goal
-use Rattle.gixobj_tree_readers.specs.TreeViews.{entry_view}
-
-pub returns : goal.returns
-returns g c = rw (length-map c.args.self.now.entries.items entry_view, flat_map-map entry_feed entry_view c.args.self.now.entries.items) c.hash.ensures

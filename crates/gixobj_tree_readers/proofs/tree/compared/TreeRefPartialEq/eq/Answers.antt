@@ -1,7 +1,0 @@
-use Rattle.std.proofs.Common.{arith}
-use Rattle.std.proofs.lemmas.Grind.{common_steps}
-use Rattle.gixobj_tree_readers.proofs.Viewed.{equal_as_seen}
-use Rattle.gixobj_tree_readers.proofs.tree.compared.TreeRefPartialEq.eq.Goals as goal
-
-pub returns : goal.returns
-returns c = grind (arith, common_steps, equal_as_seen)

@@ -1,5 +1,0 @@
-use Rattle.std.proofs.Common.{rules}
-use Rattle.gixobj_trees.proofs.tree.compared.TreeOrd.cmp.Goals as goal
-
-pub returns : goal.returns
-returns c = search rules
