@@ -9,10 +9,10 @@ use Rattle.gixobj_codec.specs.TagReaders.{AreTokensOf, MayMiss, NameCame, misses
 use Rattle.gixobj_codec.specs.TagText.{IsTagText, TagLines}
 use Rattle.gixobj_codec.specs.TagTokenGiving.{GivesToken, IsAtStart, Tells, standing, token_id}
 use Rattle.gixobj_codec.specs.TagTokens.{HasToken, TokenView, kind_token, name_token, target_token, token_view}
-use Rattle.gixobj_codec.specs.tag_tokens.ref_iter.State.{State}
-use Rattle.gixobj_codec.specs.tag_tokens.ref_iter.State.TheVariants as state
-use Rattle.gixobj_codec.specs.tag_tokens.ref_iter.TagRefIter.{TagRefIter}
-use Rattle.gixobj_codec.specs.tag_tokens.ref_iter.Token.{Token}
+use Rattle.gixobj_codec.specs.tag.ref_iter.State.{State}
+use Rattle.gixobj_codec.specs.tag.ref_iter.State.TheVariants as state
+use Rattle.gixobj_codec.specs.tag.ref_iter.TagRefIter.{TagRefIter}
+use Rattle.gixobj_codec.specs.tag.ref_iter.Token.{Token}
 
 -- ---- the laws, as their functions state them
 

@@ -31,7 +31,7 @@ use Rattle.gixobj_signature.specs.declared.signature.sign.Options.{Options}
 use Rattle.gixobj_text.specs.Markers.{HasNoMarker}
 use Rattle.gixobj_text.specs.declared.signature.Format.{Format}
 use Rattle.gixobj_text.specs.declared.signature.Format.TheVariants as format
-use Rattle.gixobj_tag_tokens.specs.TagExtracting as tags
+use Rattle.gixobj_tag.specs.TagExtracting as tags
 use Rattle.gixobj_tokens.specs.Extracting as commits
 use Rattle.gixobj_signature.specs.SignedBytes.{signed_bytes}
 use Rattle.gixobj_signature.specs.Verifiers.{OptionsView, ProgramView, SshView, by_open_pgp, by_ssh, by_x509}

@@ -3,7 +3,7 @@ use Rattle.std.specs.Prelude.{List}
 use Rattle.gixobj_codec.specs.Runs.{complete}
 use Rattle.gixobj_codec.specs.TagTokenGiving.{Tells, standing}
 use Rattle.gixobj_codec.specs.TagTokens.{TokenView}
-use Rattle.gixobj_codec.specs.tag_tokens.ref_iter.TagRefIter.{TagRefIter}
+use Rattle.gixobj_codec.specs.tag.ref_iter.TagRefIter.{TagRefIter}
 
 -- these tokens come, to the end of the reader's bytes
 abbrev pub IsToTell : TagRefIter → List TokenView → Type 0

@@ -16,7 +16,7 @@ use gixobj_commits::Commit;
 use gixobj_fields::{WriteTo, encode};
 use gixobj_hash::{Kind, decode, hash};
 use gixobj_signature::signature::{Runner, SignedData, sign};
-use gixobj_tag_tokens::TagRefIter;
+use gixobj_tag::TagRefIter;
 use gixobj_tokens::CommitRefIter;
 use gixobj_signature::signature::verify::{self, Options, Outcome};
 use std::alloc::Global;

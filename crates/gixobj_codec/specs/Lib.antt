@@ -42,20 +42,18 @@ pub use Rattle.gixobj_object_readers.specs.ObjectReading
 pub use Rattle.gixobj_object_readers.specs.declared as object_readers
 pub use Rattle.gixobj_objects.specs.Objects
 pub use Rattle.gixobj_objects.specs.declared as objects
-pub use Rattle.gixobj_tag_names.specs.NameRule
-pub use Rattle.gixobj_tag_names.specs.declared as tag_names
-pub use Rattle.gixobj_tag_tokens.specs.Readers as TagReaders
-pub use Rattle.gixobj_tag_tokens.specs.TagTokens
-pub use Rattle.gixobj_tag_tokens.specs.TokenGiving as TagTokenGiving
-pub use Rattle.gixobj_tag_tokens.specs.declared as tag_tokens
-pub use Rattle.gixobj_tags.specs.LineReading
-pub use Rattle.gixobj_tags.specs.Rewriting as TagRewriting
-pub use Rattle.gixobj_tags.specs.Signed
-pub use Rattle.gixobj_tags.specs.TagOwned
-pub use Rattle.gixobj_tags.specs.TagText
-pub use Rattle.gixobj_tags.specs.TagViews
-pub use Rattle.gixobj_tags.specs.TagWriting
-pub use Rattle.gixobj_tags.specs.declared as tags
+pub use Rattle.gixobj_tag.specs.LineReading
+pub use Rattle.gixobj_tag.specs.NameRule
+pub use Rattle.gixobj_tag.specs.Readers as TagReaders
+pub use Rattle.gixobj_tag.specs.Rewriting as TagRewriting
+pub use Rattle.gixobj_tag.specs.Signed
+pub use Rattle.gixobj_tag.specs.TagOwned
+pub use Rattle.gixobj_tag.specs.TagText
+pub use Rattle.gixobj_tag.specs.TagTokens
+pub use Rattle.gixobj_tag.specs.TagViews
+pub use Rattle.gixobj_tag.specs.TagWriting
+pub use Rattle.gixobj_tag.specs.TokenGiving as TagTokenGiving
+pub use Rattle.gixobj_tag.specs.declared as tag
 pub use Rattle.gixobj_text.specs.Blocks
 pub use Rattle.gixobj_text.specs.Bodies
 pub use Rattle.gixobj_text.specs.BodyLines

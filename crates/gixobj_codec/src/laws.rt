@@ -13,13 +13,7 @@ pub use gixobj_extra_headers::laws::{
 };
 pub use gixobj_fields::laws::header_reads_back;
 pub use gixobj_hash::laws::hex_spells_one_id;
-pub use gixobj_tag_tokens::laws::{
-    parts_of_tags_are_found, tag_readers_read_one_language, tag_tokens_are_passed,
-    tag_tokens_have_one_reading,
-};
-pub use gixobj_tags::laws::{
-    owned_tags_have_the_parts, tag_has_one_reading, tag_reads_and_writes, tag_writes_back,
-};
+pub use gixobj_tag::laws::{owned_tags_have_the_parts, parts_of_tags_are_found, tag_has_one_reading, tag_readers_read_one_language, tag_reads_and_writes, tag_tokens_are_passed, tag_tokens_have_one_reading, tag_writes_back};
 pub use gixobj_text::laws::{
     bodies_have_one_block_start, bodies_have_one_list_of_blocks, messages_are_split_once,
     messages_have_one_list_of_trailers, parts_are_the_body, readers_give_all,

@@ -15,7 +15,6 @@ pub use gixobj_data::{
 };
 pub use gixobj_object_readers::{LooseDecodeError, ObjectRef};
 pub use gixobj_objects::Object;
-pub use gixobj_tag_tokens::TagRefIter;
-pub use gixobj_tags::{Tag, TagRef};
+pub use gixobj_tag::{Tag, TagRef, TagRefIter};
 pub use gixobj_tokens::CommitRefIter;
 pub use gixobj_tree::TreeRef;

@@ -9,7 +9,7 @@ pub use Rattle.gixobj_hash.specs.Hash
 pub use Rattle.gixobj_hash.specs.Kind
 pub use Rattle.gixobj_object_readers.specs.BorrowedObjects
 pub use Rattle.gixobj_object_readers.specs.ObjectReading
-pub use Rattle.gixobj_tag_tokens.specs.TokenGiving as TagTokenGiving
+pub use Rattle.gixobj_tag.specs.TokenGiving as TagTokenGiving
 pub use Rattle.gixobj_tokens.specs.TokenGiving
 pub use Rattle.gixobj_tree.specs.TreeReading
 pub use Rattle.gixobj_tree.specs.TreeViews

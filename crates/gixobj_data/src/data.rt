@@ -4,7 +4,7 @@ ghost use Rattle.gixobj_hash.specs.declared.kind.Kind.TheVariants as object;
 ghost use Rattle.gixobj_data.specs.EntryGiving.{IsAtEntry};
 ghost use Rattle.gixobj_object_readers.specs.BorrowedObjects.{HasObjectIds, IsReadyToWrite};
 ghost use Rattle.gixobj_object_readers.specs.ObjectReading.{IsObjectText, RefusesObjectText};
-ghost use Rattle.gixobj_tag_tokens.specs.TokenGiving.{IsAtStart as IsAtStartOfTag};
+ghost use Rattle.gixobj_tag.specs.TokenGiving.{IsAtStart as IsAtStartOfTag};
 ghost use Rattle.gixobj_tokens.specs.TokenGiving.{IsAtStart};
 
 pub mod verify;
@@ -13,7 +13,7 @@ use crate::tree::TreeRefIter;
 use gixobj_hash::decode::Error;
 use gixobj_hash::{Kind, hash};
 use gixobj_object_readers::ObjectRef;
-use gixobj_tag_tokens::TagRefIter;
+use gixobj_tag::TagRefIter;
 use gixobj_tokens::CommitRefIter;
 use std::alloc::Global;
 

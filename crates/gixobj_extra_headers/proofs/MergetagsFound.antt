@@ -12,10 +12,10 @@ use Rattle.gixobj_extra_headers.specs.declared.extra_headers.Mergetags.{Mergetag
 use Rattle.gixobj_fields.specs.HeaderText.{Header}
 use Rattle.gixobj_hash.specs.declared.decode.Error.{Error}
 use Rattle.gixobj_hash.specs.declared.hash.kind.Kind.{Kind}
-use Rattle.gixobj_tags.proofs.WholeTags.{one_tag}
-use Rattle.gixobj_tags.specs.TagText.{TagLines}
-use Rattle.gixobj_tags.specs.TagViews.{tag_lines}
-use Rattle.gixobj_tags.specs.declared.tag.TagRef.{TagRef}
+use Rattle.gixobj_tag.proofs.WholeTags.{one_tag}
+use Rattle.gixobj_tag.specs.TagText.{TagLines}
+use Rattle.gixobj_tag.specs.TagViews.{tag_lines}
+use Rattle.gixobj_tag.specs.declared.tag.TagRef.{TagRef}
 
 -- a text is read in one way
 one_reading : (kind : Kind) (text : List ℕ) (item : Result TagRef Error) (read : Option TagLines) → IsTagOf kind text item → IsTagOrNone kind text read → tag_if_ok item ≡ read

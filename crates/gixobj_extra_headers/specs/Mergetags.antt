@@ -9,9 +9,9 @@ use Rattle.gixobj_extra_headers.specs.declared.extra_headers.Mergetags.{Mergetag
 use Rattle.gixobj_hash.specs.declared.decode.Error.{Error}
 use Rattle.gixobj_hash.specs.declared.decode.Error.TheVariants.{Malformed}
 use Rattle.gixobj_hash.specs.declared.hash.kind.Kind.{Kind}
-use Rattle.gixobj_tags.specs.TagText.{IsNoTagText, IsTagText, TagLines}
-use Rattle.gixobj_tags.specs.TagViews.{tag_lines}
-use Rattle.gixobj_tags.specs.declared.tag.TagRef.{TagRef}
+use Rattle.gixobj_tag.specs.TagText.{IsNoTagText, IsTagText, TagLines}
+use Rattle.gixobj_tag.specs.TagViews.{tag_lines}
+use Rattle.gixobj_tag.specs.declared.tag.TagRef.{TagRef}
 
 -- the values that are read as tags
 abbrev pub mergetag_values : {I : Type 0} → Mergetags I → FindAll I

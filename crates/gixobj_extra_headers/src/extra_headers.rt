@@ -10,7 +10,7 @@ ghost use Rattle.gixobj_extra_headers.specs.Mergetags.{IsTagOf, mergetag_kind, m
 use bstr::{BStr, BString};
 use gixobj_hash::decode::Error;
 use gixobj_hash::hash::Kind;
-use gixobj_tags::TagRef;
+use gixobj_tag::TagRef;
 use std::borrow::CowSlice;
 
 /// The name of the header with the signature of a commit whose ids are of SHA-1.

@@ -13,8 +13,8 @@ ghost use Rattle.gixobj_extra_headers.specs.declared.extra_headers.FindAll.{Find
 ghost use Rattle.gixobj_extra_headers.specs.declared.extra_headers.Mergetags.{Mergetags};
 ghost use Rattle.gixobj_extra_headers.specs.declared.extra_headers.OwnedHeaders.{OwnedHeaders};
 ghost use Rattle.gixobj_hash.specs.declared.decode.Error.{Error};
-ghost use Rattle.gixobj_tags.specs.TagText.{TagLines};
-ghost use Rattle.gixobj_tags.specs.declared.tag.TagRef.{TagRef};
+ghost use Rattle.gixobj_tag.specs.TagText.{TagLines};
+ghost use Rattle.gixobj_tag.specs.declared.tag.TagRef.{TagRef};
 
 /// Of the headers of a borrowed commit `find` answers the value of the first of the name, `find_pos` its
 /// place, and `find_all` the values of all of the name, in order.

@@ -10,9 +10,9 @@ use Rattle.gixobj_hash.specs.declared.kind.Kind.TheVariants as kind
 use Rattle.gixobj_lines.specs.Commit.{IsCommitText}
 use Rattle.gixobj_object_readers.specs.ObjectReading.{IsObjectText}
 use Rattle.gixobj_object_readers.specs.declared.object.ObjectRef.TheVariants as ref
-use Rattle.gixobj_tags.specs.TagText.{IsTagText}
-use Rattle.gixobj_tags.specs.TagViews.{tag_lines}
-use Rattle.gixobj_tags.specs.declared.tag.TagRef.{TagRef}
+use Rattle.gixobj_tag.specs.TagText.{IsTagText}
+use Rattle.gixobj_tag.specs.TagViews.{tag_lines}
+use Rattle.gixobj_tag.specs.declared.tag.TagRef.{TagRef}
 use Rattle.gixobj_tree.specs.TreeReading.{IsTreeText}
 use Rattle.gixobj_tree.specs.TreeViews.{tree_entries}
 use Rattle.gixobj_tree.specs.declared.tree.borrowed.TreeRef.{TreeRef}

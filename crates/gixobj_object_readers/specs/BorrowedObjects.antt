@@ -11,9 +11,9 @@ use Rattle.gixobj_hash.specs.declared.kind.Kind.{Kind}
 use Rattle.gixobj_hash.specs.declared.kind.Kind.TheVariants as kind
 use Rattle.gixobj_objects.specs.declared.object.Object.{Object}
 use Rattle.gixobj_objects.specs.declared.object.Object.TheVariants as own
-use Rattle.gixobj_tags.specs.TagOwned.{IsOwnedForm as IsOwnedTag, RefusesOwning as RefusesOwningTag}
-use Rattle.gixobj_tags.specs.TagViews.{tag_lines}
-use Rattle.gixobj_tags.specs.TagWriting.{RefusesLines as RefusesTagLines, tag_text}
+use Rattle.gixobj_tag.specs.TagOwned.{IsOwnedForm as IsOwnedTag, RefusesOwning as RefusesOwningTag}
+use Rattle.gixobj_tag.specs.TagViews.{tag_lines}
+use Rattle.gixobj_tag.specs.TagWriting.{RefusesLines as RefusesTagLines, tag_text}
 use Rattle.gixobj_tree.specs.TreeViews.{tree_entries}
 use Rattle.gixobj_tree.specs.TreeText.{RefusesTree, tree_text}
 use Rattle.gixobj_object_readers.specs.declared.object.ObjectRef.{ObjectRef}

@@ -10,10 +10,10 @@ pub use Rattle.gixobj_hash.specs.Decode
 pub use Rattle.gixobj_hash.specs.Encode
 pub use Rattle.gixobj_lines.specs.Commit
 pub use Rattle.gixobj_objects.specs.Objects
-pub use Rattle.gixobj_tags.specs.TagOwned
-pub use Rattle.gixobj_tags.specs.TagText
-pub use Rattle.gixobj_tags.specs.TagViews
-pub use Rattle.gixobj_tags.specs.TagWriting
+pub use Rattle.gixobj_tag.specs.TagOwned
+pub use Rattle.gixobj_tag.specs.TagText
+pub use Rattle.gixobj_tag.specs.TagViews
+pub use Rattle.gixobj_tag.specs.TagWriting
 pub use Rattle.gixobj_tree.specs.TreeReading
 pub use Rattle.gixobj_tree.specs.TreeText
 pub use Rattle.gixobj_tree.specs.TreeViews

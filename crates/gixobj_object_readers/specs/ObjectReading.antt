@@ -7,8 +7,8 @@ use Rattle.gixobj_hash.specs.declared.hash.kind.Kind as hash
 use Rattle.gixobj_hash.specs.declared.kind.Kind.{Kind}
 use Rattle.gixobj_hash.specs.declared.kind.Kind.TheVariants as kind
 use Rattle.gixobj_lines.specs.Commit.{IsCommitText, RefusesCommit}
-use Rattle.gixobj_tags.specs.TagText.{IsNoTagText, IsTagText}
-use Rattle.gixobj_tags.specs.TagViews.{tag_lines}
+use Rattle.gixobj_tag.specs.TagText.{IsNoTagText, IsTagText}
+use Rattle.gixobj_tag.specs.TagViews.{tag_lines}
 use Rattle.gixobj_tree.specs.TreeReading.{IsTreeText, RefusesTreeText}
 use Rattle.gixobj_tree.specs.TreeViews.{tree_entries}
 use Rattle.gixobj_object_readers.specs.declared.object.ObjectRef.{ObjectRef}

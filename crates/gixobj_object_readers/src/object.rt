@@ -9,7 +9,7 @@ mod write;
 pub use decode::LooseDecodeError;
 use gixobj_commits::CommitRef;
 use gixobj_hash::Kind;
-use gixobj_tags::TagRef;
+use gixobj_tag::TagRef;
 use gixobj_tree::{BlobRef, TreeRef};
 
 /// An object of any kind, borrowed.

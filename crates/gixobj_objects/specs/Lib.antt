@@ -4,6 +4,6 @@ pub use Rattle.gixobj_commits.specs.CommitWriting
 pub use Rattle.gixobj_fields.specs.Streams
 pub use Rattle.gixobj_fields.specs.Writing
 pub use Rattle.gixobj_hash.specs.Encode
-pub use Rattle.gixobj_tags.specs.TagViews
-pub use Rattle.gixobj_tags.specs.TagWriting
+pub use Rattle.gixobj_tag.specs.TagViews
+pub use Rattle.gixobj_tag.specs.TagWriting
 pub use Rattle.gixobj_tree.specs.TreeText

@@ -5,8 +5,8 @@ use Rattle.gixobj_commits.specs.CommitWriting.{RefusesOwned as RefusesOwnedCommi
 use Rattle.gixobj_fields.specs.Writing.{Refused}
 use Rattle.gixobj_hash.specs.declared.kind.Kind.{Kind}
 use Rattle.gixobj_hash.specs.declared.kind.Kind.TheVariants as kind
-use Rattle.gixobj_tags.specs.TagViews.{owned_lines as owned_tag_lines}
-use Rattle.gixobj_tags.specs.TagWriting.{RefusesOwned as RefusesOwnedTag, tag_text}
+use Rattle.gixobj_tag.specs.TagViews.{owned_lines as owned_tag_lines}
+use Rattle.gixobj_tag.specs.TagWriting.{RefusesOwned as RefusesOwnedTag, tag_text}
 use Rattle.gixobj_tree.specs.TreeText.{RefusesTree, tree_text}
 use Rattle.gixobj_objects.specs.declared.object.Object.{Object}
 use Rattle.gixobj_objects.specs.declared.object.Object.TheVariants as object

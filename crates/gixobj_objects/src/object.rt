@@ -7,7 +7,7 @@ mod write;
 
 use gixobj_commits::Commit;
 use gixobj_hash::Kind;
-use gixobj_tags::Tag;
+use gixobj_tag::Tag;
 use gixobj_tree::{Blob, Tree};
 
 /// An object of any kind, owned.

@@ -11,11 +11,11 @@ use Rattle.gixobj_text.proofs.MarkerPlaces.{not_both, one_format, one_marker_pla
 use Rattle.gixobj_text.specs.Markers.{BeginsWithMarker, HasNoMarker, IsMarkerOf, IsMarkerPlace, MarksPlace, StartsLine, pgp_message, pgp_signature, signed_message, ssh_signature}
 use Rattle.gixobj_text.specs.declared.signature.Format.{Format}
 use Rattle.gixobj_text.specs.declared.signature.SignatureRef.{SignatureRef}
-use Rattle.gixobj_tag_tokens.specs.TagExtracting.{GivesSignature, HasSignature}
-use Rattle.gixobj_tags.proofs.WholeTags.{Reads, take_apart}
-use Rattle.gixobj_tags.specs.LineReading.{HasTagger}
-use Rattle.gixobj_tags.specs.Signed.{IsSignature}
-use Rattle.gixobj_tags.specs.TagText.{IsBody, IsParted, IsTagText, TagLines, are_newlines, behind_newline, lines_text, newlines_alone, signed, signed_at_once, tagger_text, unsigned}
+use Rattle.gixobj_tag.specs.TagExtracting.{GivesSignature, HasSignature}
+use Rattle.gixobj_tag.proofs.WholeTags.{Reads, take_apart}
+use Rattle.gixobj_tag.specs.LineReading.{HasTagger}
+use Rattle.gixobj_tag.specs.Signed.{IsSignature}
+use Rattle.gixobj_tag.specs.TagText.{IsBody, IsParted, IsTagText, TagLines, are_newlines, behind_newline, lines_text, newlines_alone, signed, signed_at_once, tagger_text, unsigned}
 use Rattle.gixobj_hash.proofs.Splits.{free_by_test}
 use Rattle.gixobj_hash.specs.Texts.{IsFree}
 use Rattle.gixobj_signature.specs.SignedBytes.{signed_bytes}

@@ -3,10 +3,10 @@ use Rattle.std.proofs.Common.{◌≡◌, inl, inr, ◌≤◌, ◌-◌, ◌∙◌
 use Rattle.std.proofs.lemmas.List.{length-append}
 use Rattle.gixobj_text.specs.Markers.{BeginsWithMarker, IsMarkerPlace, MarksPlace, StartsLine}
 use Rattle.gixobj_text.specs.declared.signature.Format.{Format}
-use Rattle.gixobj_tags.specs.TagText.{TagLines, lines_text}
-use Rattle.gixobj_tags.specs.TagWriting.{message_text, tag_text}
-use Rattle.gixobj_tag_tokens.specs.TagExtracting.{HasSignature}
-use Rattle.gixobj_tags.specs.TagSigning.{payload_of, signed_as}
+use Rattle.gixobj_tag.specs.TagText.{TagLines, lines_text}
+use Rattle.gixobj_tag.specs.TagWriting.{message_text, tag_text}
+use Rattle.gixobj_tag.specs.TagExtracting.{HasSignature}
+use Rattle.gixobj_tag.specs.TagSigning.{payload_of, signed_as}
 use Rattle.gixobj_signed.specs.OneMarker.{HasOneMarker}
 
 -- of two cuts of one text, the longer front is the shorter one and more

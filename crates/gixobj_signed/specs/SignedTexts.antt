@@ -7,7 +7,7 @@ use Rattle.gixobj_signature.specs.Signing.{options_view, sign_plan, signature}
 use Rattle.gixobj_signature.specs.declared.signature.sign.Options.{Options}
 use Rattle.gixobj_signed.specs.OneMarker.{HasOneMarker}
 use Rattle.gixobj_text.specs.declared.signature.Format.{Format}
-use Rattle.gixobj_tag_tokens.specs.TagExtracting as tags
+use Rattle.gixobj_tag.specs.TagExtracting as tags
 use Rattle.gixobj_tokens.specs.Extracting as commits
 
 -- the calls that were made are those by which these bytes are signed

@@ -16,12 +16,12 @@ ghost use Rattle.gixobj_signed.specs.SignedTexts.{CommitGivesPayload, TagGivesPa
 ghost use Rattle.gixobj_text.specs.Markers.{HasNoMarker};
 ghost use Rattle.gixobj_text.specs.declared.signature.Format.{Format};
 ghost use Rattle.gixobj_text.specs.declared.signature.SignatureRef.{SignatureRef};
-ghost use Rattle.gixobj_tag_tokens.specs.TagExtracting as tags;
-ghost use Rattle.gixobj_tags.specs.Signed.{IsSignature};
-ghost use Rattle.gixobj_tags.specs.TagSigning as tag;
-ghost use Rattle.gixobj_tags.specs.TagText.{IsTagText, TagLines};
-ghost use Rattle.gixobj_tags.specs.TagViews as tag_views;
-ghost use Rattle.gixobj_tags.specs.TagWriting.{tag_text};
+ghost use Rattle.gixobj_tag.specs.TagExtracting as tags;
+ghost use Rattle.gixobj_tag.specs.Signed.{IsSignature};
+ghost use Rattle.gixobj_tag.specs.TagSigning as tag;
+ghost use Rattle.gixobj_tag.specs.TagText.{IsTagText, TagLines};
+ghost use Rattle.gixobj_tag.specs.TagViews as tag_views;
+ghost use Rattle.gixobj_tag.specs.TagWriting.{tag_text};
 ghost use Rattle.gixobj_tokens.specs.Extracting.{HasNoSignature, HasSignature, RefusesSignature};
 ghost use Rattle.gixobj_signature.specs.declared.signature.signed_data.SignedData.{SignedData};
 
@@ -29,7 +29,7 @@ use crate::one_line::{actor_has_one_line, id_has_one_line, ids_have_one_line};
 use gixobj_commits::Commit;
 use gixobj_signature::signature::Runner;
 use gixobj_signature::signature::sign::{Error, Options};
-use gixobj_tags::Tag;
+use gixobj_tag::Tag;
 use std::alloc::Global;
 
 /// What is found again in the text of a signed commit is what was signed, and a signature is found there. That needs

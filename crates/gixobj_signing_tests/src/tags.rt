@@ -9,8 +9,7 @@ use gixobj_hash::OutOfMemory;
 use gixobj_hash::hash::Kind::{Sha1, Sha256};
 use gixobj_signature::signature::sign::{Error, Options};
 use gixobj_text::signature::{Format, SignatureRef};
-use gixobj_tag_tokens::TagRefIter;
-use gixobj_tags::{Tag, TagRef};
+use gixobj_tag::{Tag, TagRef, TagRefIter};
 use std::alloc::Global;
 use std::test::Fail;
 

@@ -7,7 +7,7 @@ use gixobj_commits::CommitRef;
 use gixobj_commits::commit::owned_copy;
 use gixobj_hash::decode::Error;
 use gixobj_objects::Object;
-use gixobj_tags::TagRef;
+use gixobj_tag::TagRef;
 use gixobj_tree::{BlobRef, TreeRef};
 use std::alloc::Global;
 

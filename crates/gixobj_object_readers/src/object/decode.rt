@@ -8,7 +8,7 @@ use super::ObjectRef;
 use gixobj_commits::CommitRef;
 use gixobj_hash::decode::{Error, LooseHeaderDecodeError, loose_header};
 use gixobj_hash::{Kind, hash};
-use gixobj_tags::TagRef;
+use gixobj_tag::TagRef;
 use gixobj_tree::{BlobRef, TreeRef};
 use std::alloc::Global;
 

@@ -5,7 +5,7 @@ ghost use Rattle.gixobj_objects.specs.Objects.{owned_kind};
 use super::Object;
 use gixobj_commits::Commit;
 use gixobj_hash::Kind;
-use gixobj_tags::Tag;
+use gixobj_tag::Tag;
 use gixobj_tree::{Blob, BlobRef, Tree};
 
 /// Conversion

@@ -7,7 +7,7 @@ use Rattle.gixobj_codec.specs.CommitViews.{commit_lines}
 use Rattle.gixobj_codec.specs.ExtraHeaders.{hash_kind_of, searched, values_named}
 use Rattle.gixobj_codec.specs.HeadersLeft.{headers_left}
 use Rattle.gixobj_codec.specs.Mergetags.{IsTagOf, mergetag_kind, mergetag_values, mergetags_left}
-use Rattle.gixobj_codec.specs.tags.tag.TagRef.{TagRef}
+use Rattle.gixobj_codec.specs.tag.tag.TagRef.{TagRef}
 use Rattle.gixobj_callers.proofs.auditor.merged_tags_of.Goals as goal
 
 pub returns : goal.returns

@@ -1,0 +1,67 @@
+-- Tags that are signed, by what is signed of them.
+use Rattle.std.proofs.Common.{◌≡◌, ◌∙◌, ap, inl, inr, subst, sym, refl, IfErr, IfOk, List, [], ◌∷◌, ◌++◌, ℕ, Some, Result, Ok, Err}
+use Rattle.gixobj_fields.specs.Writing.{RefusesNothing}
+use Rattle.gixobj_signature.specs.Calls.{Answer, CallView}
+use Rattle.gixobj_signature.specs.Plans.{Begins, Carries, Goes, Plan, ask, done, no_more}
+use Rattle.gixobj_signature.specs.Signing.{options_view, sign_plan, signature, signer_refusal}
+use Rattle.gixobj_signature.specs.declared.signature.sign.Error.{Error}
+use Rattle.gixobj_signature.specs.declared.signature.sign.Options.{Options}
+use Rattle.gixobj_tag.specs.TagOwned.{IsOwnedForm}
+use Rattle.gixobj_tag.specs.TagSigning.{GetsSignature, HasNoPayload, IsSigned, IsSignedCopy, RefusesSigning, RefusesSigningCopy, RefusesWriting, payload_of, signed_as, unsigned}
+use Rattle.gixobj_tag.specs.TagText.{TagLines}
+use Rattle.gixobj_tag.specs.TagViews.{owned_lines}
+use Rattle.gixobj_tag.specs.TagWriting.{RefusesOwned, tag_text}
+use Rattle.gixobj_tag.specs.declared.tag.Tag.{Tag}
+use Rattle.gixobj_hash.specs.Bytes.{newline}
+
+-- any plan may be left before its first call
+begins_at_once : {S R : Type 0} (runs : S → CallView → Answer → S → Type 0) (plan : Plan R) (s : S) → Begins runs plan s s
+begins_at_once runs (done it) s = refl
+begins_at_once runs (ask call next) s = inl refl
+begins_at_once runs no_more s = refl
+
+-- a tag that has no payload is refused before any call
+pub refused_unwritten : {S : Type 0} (runs : S → CallView → Answer → S → Type 0) (options : Options) (tag without : Tag) → without ≡ unsigned tag → (old : S) (error : Error)
+    → HasNoPayload without error → RefusesSigning runs options tag old old error
+refused_unwritten runs options tag without same old error (inl (writable, wants)) =
+    inl (
+      subst (λ (of : Tag). RefusesNothing (RefusesOwned of)) same writable,
+      subst (λ (it : Error). Goes runs (sign_plan (options_view options) (payload_of (owned_lines tag))) old (signer_refusal it) old) (sym wants)
+          (begins_at_once runs (sign_plan (options_view options) (payload_of (owned_lines tag))) old),
+    )
+refused_unwritten runs options tag without same old error (inr (cause, is, why)) = inr (cause, is, subst (λ (it : Tag). RefusesWriting it cause) same why, refl)
+
+-- a tag gets the signature of its payload
+pub signed : {S : Type 0} (runs : S → CallView → Answer → S → Type 0) (options : Options) (tag without : Tag) → without ≡ unsigned tag → (payload : List ℕ)
+    → payload ≡ tag_text (owned_lines without) ++ newline ∷ [] → RefusesNothing (RefusesOwned without) → (old new : S) (result : Result Tag Error)
+    → IfOk result (GetsSignature runs options payload without old new) → IfOk result (IsSigned runs options tag old new)
+signed runs options tag without same payload text writable old new (Ok it) (bytes, went, lines) = record {
+  bytes = bytes;
+  went = subst (λ (signs : List ℕ). Carries runs (sign_plan (options_view options) signs) old (signature bytes) new)
+      (text ∙ ap (λ (of : Tag). tag_text (owned_lines of) ++ newline ∷ []) same) went;
+  lines = lines ∙ ap (λ (of : Tag). signed_as (Some bytes) (owned_lines of)) same;
+  writable = subst (λ (of : Tag). RefusesNothing (RefusesOwned of)) same writable;
+}
+signed runs options tag without same payload text writable old new (Err error) is = tt
+
+-- a tag that has a payload is refused for what came of the call
+pub refused_signing : {S : Type 0} (runs : S → CallView → Answer → S → Type 0) (options : Options) (tag without : Tag) → without ≡ unsigned tag → (payload : List ℕ)
+    → payload ≡ tag_text (owned_lines without) ++ newline ∷ [] → RefusesNothing (RefusesOwned without) → (old new : S) (result : Result Tag Error)
+    → IfErr result (λ error. Goes runs (sign_plan (options_view options) payload) old (signer_refusal error) new) → IfErr result (RefusesSigning runs options tag old new)
+refused_signing runs options tag without same payload text writable old new (Ok it) why = tt
+refused_signing runs options tag without same payload text writable old new (Err error) why =
+    inl (
+      subst (λ (of : Tag). RefusesNothing (RefusesOwned of)) same writable,
+      subst (λ (signs : List ℕ). Goes runs (sign_plan (options_view options) signs) old (signer_refusal error) new)
+          (text ∙ ap (λ (of : Tag). tag_text (owned_lines of) ++ newline ∷ []) same) why,
+    )
+
+-- what comes of signing a tag that was made owned
+module _ {S : Type 0} (runs : S → CallView → Answer → S → Type 0) (options : Options) (lines : TagLines) (tag : Tag) (owned : IsOwnedForm lines tag) (old new : S) where
+  pub signed_copy : (result : Result Tag Error) → IfOk result (IsSigned runs options tag old new) → IfOk result (IsSignedCopy runs options lines old new)
+  signed_copy (Ok it) is = (tag, owned, is)
+  signed_copy (Err error) is = tt
+
+  pub refused_copy : (result : Result Tag Error) → IfErr result (RefusesSigning runs options tag old new) → IfErr result (RefusesSigningCopy runs options lines old new)
+  refused_copy (Ok it) why = tt
+  refused_copy (Err error) why = inr (tag, owned, why)

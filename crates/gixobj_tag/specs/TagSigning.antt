@@ -1,0 +1,67 @@
+-- Tags that are signed (gitformat-signature, "Tag signatures").
+use Rattle.std.specs.Prelude.{◌≡◌, ◌⊎◌, ℕ, List, [], ◌∷◌, ◌++◌, Option, Some, None}
+use Rattle.gixobj_fields.specs.Streams.{SinkView}
+use Rattle.gixobj_fields.specs.Writing.{RefusesNothing, SaysWhy}
+use Rattle.gixobj_fields.specs.declared.encode.Error as encode
+use Rattle.gixobj_hash.specs.declared.decode.Error as decode
+use Rattle.gixobj_signature.specs.Calls.{Answer, CallView}
+use Rattle.gixobj_signature.specs.Plans.{Carries, Goes}
+use Rattle.gixobj_signature.specs.Signing.{options_view, sign_plan, signature, signer_refusal}
+use Rattle.gixobj_signature.specs.declared.signature.sign.Error.{Error}
+use Rattle.gixobj_signature.specs.declared.signature.sign.Error.TheVariants as sign
+use Rattle.gixobj_signature.specs.declared.signature.sign.Options.{Options}
+use Rattle.gixobj_tag.specs.TagOwned.{IsOwnedForm, RefusesOwning}
+use Rattle.gixobj_tag.specs.TagText.{TagLines}
+use Rattle.gixobj_tag.specs.TagViews.{owned_lines}
+use Rattle.gixobj_tag.specs.TagWriting.{RefusesOwned, tag_text}
+use Rattle.gixobj_tag.specs.declared.tag.Tag.{Tag}
+use Rattle.gixobj_hash.specs.Bytes.{newline}
+
+-- the tag without its signature
+abbrev pub unsigned : Tag → Tag
+unsigned tag = record tag { signature = None }
+
+-- the tag with these lines, and with this signature or without one
+abbrev pub signed_as : Option (List ℕ) → TagLines → TagLines
+signed_as bytes tag = record tag { signature = bytes }
+
+-- what is signed of a tag: its text without signature, and a newline
+abbrev pub payload_of : TagLines → List ℕ
+payload_of tag = tag_text (signed_as None tag) ++ newline ∷ []
+
+-- a signer gave a signature for these bytes, and the tag got it
+abbrev pub GetsSignature : {S : Type 0} → (S → CallView → Answer → S → Type 0) → Options → List ℕ → Tag → S → S → Tag → Type 0
+GetsSignature runs options payload tag old new signed =
+    (bytes : List ℕ) × Carries runs (sign_plan (options_view options) payload) old (signature bytes) new
+    × (owned_lines signed ≡ signed_as (Some bytes) (owned_lines tag))
+
+-- nothing of the tag is refused; a signer gave a signature for its payload, and the tag has it now
+pub record IsSigned {S : Type 0} (runs : S → CallView → Answer → S → Type 0) (options : Options) (tag : Tag) (old new : S) (signed : Tag) : Type 0 where
+  pub bytes : List ℕ
+  pub went : Carries runs (sign_plan (options_view options) (payload_of (owned_lines tag))) old (signature bytes) new
+  pub lines : owned_lines signed ≡ signed_as (Some bytes) (owned_lines tag)
+  pub writable : RefusesNothing (RefusesOwned tag)
+
+-- why a tag can't be written
+abbrev pub RefusesWriting : Tag → encode.Error → Type 0
+RefusesWriting tag cause = (before after : SinkView) × SaysWhy (RefusesOwned tag) before after (tag_text (owned_lines tag)) cause
+
+-- why a tag without signature has no payload: it can't be written, or memory is wanting for the newline behind it
+abbrev pub HasNoPayload : Tag → Error → Type 0
+HasNoPayload tag error = (RefusesNothing (RefusesOwned tag) × (error ≡ sign.OutOfMemory)) ⊎ ((cause : encode.Error) × (error ≡ sign.Encode cause) × RefusesWriting tag cause)
+
+-- why a tag isn't signed: nothing of it is refused, and this comes of the signer's answer, or of no key; or it can't be
+-- written without its signature, and no call was made
+abbrev pub RefusesSigning : {S : Type 0} → (S → CallView → Answer → S → Type 0) → Options → Tag → S → S → Error → Type 0
+RefusesSigning runs options tag old new error =
+    (RefusesNothing (RefusesOwned tag) × Goes runs (sign_plan (options_view options) (payload_of (owned_lines tag))) old (signer_refusal error) new)
+    ⊎ ((cause : encode.Error) × (error ≡ sign.Encode cause) × RefusesWriting (unsigned tag) cause × (new ≡ old))
+
+-- the same of a tag that is first made owned
+abbrev pub IsSignedCopy : {S : Type 0} → (S → CallView → Answer → S → Type 0) → Options → TagLines → S → S → Tag → Type 0
+IsSignedCopy runs options lines old new signed = (tag : Tag) × IsOwnedForm lines tag × IsSigned runs options tag old new signed
+
+abbrev pub RefusesSigningCopy : {S : Type 0} → (S → CallView → Answer → S → Type 0) → Options → TagLines → S → S → Error → Type 0
+RefusesSigningCopy runs options lines old new error =
+    ((cause : decode.Error) × (error ≡ sign.Decode cause) × RefusesOwning lines cause × (new ≡ old))
+    ⊎ ((tag : Tag) × IsOwnedForm lines tag × RefusesSigning runs options tag old new error)

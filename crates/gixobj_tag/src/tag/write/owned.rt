@@ -1,0 +1,53 @@
+//! Owned tags, written (gitdatamodel, "tag objects").
+
+use super::super::Tag;
+use super::{put_tag, tag_size};
+use gixobj_fields::streams::Sink;
+use gixobj_fields::{WriteTo, encode};
+use gixobj_hash::Kind;
+use gixobj_hash::optional::borrowed;
+use std::alloc::Global;
+
+/// A tag is written with its tagger and the time as these are written.
+///
+/// A name that [`super::validated_name`] refuses is refused as `InvalidRefName` or `StartsWithDash`,
+/// before any byte of its line. A tagger whose name or email has a `<`, a `>` or a newline is refused as
+/// `IllegalActor` behind `tagger` and a space. It takes no memory.
+impl WriteTo for Tag {
+    ghost use Rattle.gixobj_hash.specs.declared.kind.Kind.TheVariants as kind;
+    ghost use Rattle.gixobj_tag.specs.TagViews.{owned_lines};
+    ghost use Rattle.gixobj_tag.specs.TagWriting.{RefusesOwned, tag_text};
+
+    ghost object_kind = { λ _. kind.Tag };
+
+    ghost text = { λ tag. tag_text (owned_lines tag) };
+
+    ghost refuses = { RefusesOwned };
+
+    fn write_into<S: Sink>(&self, _alloc: Global, sink: &mut S) -> Result<(), encode::Error> {
+        put_tag(
+            &self.target,
+            self.target_kind,
+            self.name.as_bstr(),
+            &self.tagger,
+            self.message.as_bstr(),
+            borrowed(&self.signature),
+            sink,
+        )
+    }
+
+    fn kind(&self) -> Kind {
+        Kind::Tag
+    }
+
+    fn size(&self) -> Option<u64> {
+        tag_size(
+            &self.target,
+            self.target_kind,
+            self.name.as_bstr(),
+            &self.tagger,
+            self.message.as_bstr(),
+            borrowed(&self.signature),
+        )
+    }
+}

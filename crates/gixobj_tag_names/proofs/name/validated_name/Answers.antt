@@ -1,5 +1,0 @@
-use Rattle.std.proofs.Common.{rules}
-use Rattle.gixobj_tag_names.proofs.name.validated_name.Goals as goal
-
-pub returns-then-starts_with-clause-refusal : goal.returns-then-starts_with-clause-refusal
-returns-then-starts_with-clause-refusal c = search rules

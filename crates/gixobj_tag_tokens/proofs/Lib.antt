@@ -1,5 +1,0 @@
-mod OneLanguage
-mod TagsFound
-mod TokenRuns
-mod Tokens
-mod Walks

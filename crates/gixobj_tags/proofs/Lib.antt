@@ -1,6 +1,0 @@
-pub mod Bodies
-pub mod Lines
-mod TagSigned
-mod TagWrites
-pub mod WholeTags
-mod WrittenBack

@@ -1,9 +1,0 @@
-use Rattle.std.proofs.Common.{arith}
-use Rattle.std.proofs.lemmas.Grind.{common_steps}
-use Rattle.gixobj_tags.proofs.Bodies.{is_newlines}
-use Rattle.gixobj_tags.proofs.Bodies.{is_behind_newline}
-use Rattle.gixobj_tags.proofs.Bodies.{no_body}
-use Rattle.gixobj_tags.proofs.tag.decode.body.Goals as goal
-
-pub returns-clause-found : goal.returns-clause-found
-returns-clause-found c = grind (arith, common_steps, is_newlines, is_behind_newline, no_body)

@@ -1,9 +1,0 @@
-pub mod LineReading
-pub mod LineViews
-pub mod Rewriting
-pub mod Signed
-pub mod TagOwned
-pub mod TagSigning
-pub mod TagText
-pub mod TagViews
-pub mod TagWriting
