@@ -15,7 +15,7 @@ use Rattle.gixobj_codec.specs.Commit.{CommitLines, IsCommitText, IsNoCommitText,
 use Rattle.gixobj_codec.specs.Rewriting.{RefusesOwnForm}
 use Rattle.gixobj_codec.specs.TreeReading.{IsTreeText, RefusesTreeText}
 use Rattle.gixobj_codec.specs.TokenPassing.{FindsFault, IsMessageToken}
-use Rattle.gixobj_codec.specs.tokens.ref_iter.CommitRefIter.{CommitRefIter}
+use Rattle.gixobj_codec.specs.commit.ref_iter.CommitRefIter.{CommitRefIter}
 use Rattle.gixobj_callers.specs.Copies.{FailsForPart, FailsForRoom}
 use Rattle.gixobj_callers.specs.declared.store.CopyError.TheVariants.{Read, Write}
 

@@ -5,10 +5,10 @@ use Rattle.std.specs.List.{filter_map, starts_with}
 use Rattle.std.specs.Cow.{cow_slice_items}
 use Rattle.std.specs.declared.alloc.Global.{Global}
 use Rattle.std.specs.declared.borrow.CowSlice.{CowSlice}
-use Rattle.gixobj_commits.specs.CommitSigning.{IsSigned, RefusesSigning, RefusesWriting, payload_of, with_signature}
-use Rattle.gixobj_commits.specs.CommitViews.{owned_lines}
-use Rattle.gixobj_commits.specs.CommitWriting.{commit_text}
-use Rattle.gixobj_commits.specs.declared.commit.Commit.{Commit}
+use Rattle.gixobj_commit.specs.CommitSigning.{IsSigned, RefusesSigning, RefusesWriting, payload_of, with_signature}
+use Rattle.gixobj_commit.specs.CommitViews.{owned_lines}
+use Rattle.gixobj_commit.specs.CommitWriting.{commit_text}
+use Rattle.gixobj_commit.specs.declared.commit.Commit.{Commit}
 use Rattle.gixobj_fields.specs.declared.encode.Error as encode
 use Rattle.gixobj_hash.specs.Hash.{id_kind}
 use Rattle.gixobj_hash.specs.declared.decode.Error as decode
@@ -32,7 +32,7 @@ use Rattle.gixobj_text.specs.Markers.{HasNoMarker}
 use Rattle.gixobj_text.specs.declared.signature.Format.{Format}
 use Rattle.gixobj_text.specs.declared.signature.Format.TheVariants as format
 use Rattle.gixobj_tag.specs.TagExtracting as tags
-use Rattle.gixobj_tokens.specs.Extracting as commits
+use Rattle.gixobj_commit.specs.Extracting as commits
 use Rattle.gixobj_signature.specs.SignedBytes.{signed_bytes}
 use Rattle.gixobj_signature.specs.Verifiers.{OptionsView, ProgramView, SshView, by_open_pgp, by_ssh, by_x509}
 use Rattle.gixobj_signature.specs.Verifying.{ComesOf, IsFormatOf, accepts, human, principals_in, verify_plan}

@@ -2,9 +2,9 @@
 //! a runner runs.
 ghost use Rattle.std.specs.Prelude.{◌≡◌, IfErr, IfOk, IfSome, true};
 ghost use Rattle.std.specs.Cow.{cow_slice_items};
-ghost use Rattle.gixobj_commits.specs.CommitSigning.{RefusesWriting};
-ghost use Rattle.gixobj_commits.specs.CommitViews.{owned_lines};
-ghost use Rattle.gixobj_commits.specs.CommitWriting.{commit_text};
+ghost use Rattle.gixobj_commit.specs.CommitSigning.{RefusesWriting};
+ghost use Rattle.gixobj_commit.specs.CommitViews.{owned_lines};
+ghost use Rattle.gixobj_commit.specs.CommitWriting.{commit_text};
 ghost use Rattle.gixobj_signature.specs.Outcomes.{outcome_view};
 ghost use Rattle.gixobj_signature.specs.Signing as signing;
 ghost use Rattle.gixobj_signature.specs.SignedBytes.{signed_bytes};
@@ -12,12 +12,11 @@ ghost use Rattle.gixobj_signature.specs.Verifiers.{options_view};
 ghost use Rattle.gixobj_callers.specs.Releases.{ComesOfVerifying, GivesSignature, IsAccepted, IsAudit, IsSignedText, RefusesAudit, RefusesSignature, RefusesSignedText, Vouches};
 
 use bstr::BStr;
-use gixobj_commits::Commit;
+use gixobj_commit::{Commit, CommitRefIter};
 use gixobj_fields::{WriteTo, encode};
 use gixobj_hash::{Kind, decode, hash};
 use gixobj_signature::signature::{Runner, SignedData, sign};
 use gixobj_tag::TagRefIter;
-use gixobj_tokens::CommitRefIter;
 use gixobj_signature::signature::verify::{self, Options, Outcome};
 use std::alloc::Global;
 use std::borrow::CowSlice;

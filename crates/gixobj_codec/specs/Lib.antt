@@ -2,22 +2,29 @@ pub use Rattle.gixobj_actor.specs.Actor
 pub use Rattle.gixobj_actor.specs.ActorWriting
 pub use Rattle.gixobj_actor.specs.Date
 pub use Rattle.gixobj_actor.specs.declared as actor
-pub use Rattle.gixobj_commits.specs.CommitOwned
-pub use Rattle.gixobj_commits.specs.CommitViews
-pub use Rattle.gixobj_commits.specs.CommitWriting
-pub use Rattle.gixobj_commits.specs.Rewriting
-pub use Rattle.gixobj_commits.specs.declared as commits
+pub use Rattle.gixobj_commit.specs.Commit
+pub use Rattle.gixobj_commit.specs.CommitOwned
+pub use Rattle.gixobj_commit.specs.CommitRuns
+pub use Rattle.gixobj_commit.specs.CommitTokens
+pub use Rattle.gixobj_commit.specs.CommitViews
+pub use Rattle.gixobj_commit.specs.CommitWriting
+pub use Rattle.gixobj_commit.specs.ExtraHeaders
+pub use Rattle.gixobj_commit.specs.HeadersLeft
+pub use Rattle.gixobj_commit.specs.Lines
+pub use Rattle.gixobj_commit.specs.Mergetags
+pub use Rattle.gixobj_commit.specs.ParentsLeft
+pub use Rattle.gixobj_commit.specs.Readers
+pub use Rattle.gixobj_commit.specs.Rewriting
+pub use Rattle.gixobj_commit.specs.TokenFilters
+pub use Rattle.gixobj_commit.specs.TokenGiving
+pub use Rattle.gixobj_commit.specs.TokenPassing
+pub use Rattle.gixobj_commit.specs.declared as commit
 pub use Rattle.gixobj_data.specs.Checksums
 pub use Rattle.gixobj_data.specs.EntryGiving
 pub use Rattle.gixobj_data.specs.Lookups
 pub use Rattle.gixobj_data.specs.Stores
 pub use Rattle.gixobj_data.specs.TreeReaders
 pub use Rattle.gixobj_data.specs.declared as unread
-pub use Rattle.gixobj_extra_headers.specs.ExtraHeaders
-pub use Rattle.gixobj_extra_headers.specs.HeadersLeft
-pub use Rattle.gixobj_extra_headers.specs.Mergetags
-pub use Rattle.gixobj_extra_headers.specs.ParentsLeft
-pub use Rattle.gixobj_extra_headers.specs.declared as extra_headers
 pub use Rattle.gixobj_fields.specs.FieldWriting
 pub use Rattle.gixobj_fields.specs.HeaderReading
 pub use Rattle.gixobj_fields.specs.HeaderText
@@ -33,9 +40,6 @@ pub use Rattle.gixobj_hash.specs.Kind
 pub use Rattle.gixobj_hash.specs.Optional
 pub use Rattle.gixobj_hash.specs.Texts
 pub use Rattle.gixobj_hash.specs.declared as hash
-pub use Rattle.gixobj_lines.specs.Commit
-pub use Rattle.gixobj_lines.specs.Lines
-pub use Rattle.gixobj_lines.specs.declared as lines
 pub use Rattle.gixobj_object_readers.specs.BorrowedObjects
 pub use Rattle.gixobj_object_readers.specs.LooseObjects
 pub use Rattle.gixobj_object_readers.specs.ObjectReading
@@ -69,13 +73,6 @@ pub use Rattle.gixobj_text.specs.TrailerNames
 pub use Rattle.gixobj_text.specs.Trailers
 pub use Rattle.gixobj_text.specs.Unfolding
 pub use Rattle.gixobj_text.specs.declared as text
-pub use Rattle.gixobj_tokens.specs.CommitRuns
-pub use Rattle.gixobj_tokens.specs.CommitTokens
-pub use Rattle.gixobj_tokens.specs.Readers
-pub use Rattle.gixobj_tokens.specs.TokenFilters
-pub use Rattle.gixobj_tokens.specs.TokenGiving
-pub use Rattle.gixobj_tokens.specs.TokenPassing
-pub use Rattle.gixobj_tokens.specs.declared as tokens
 pub use Rattle.gixobj_tree.specs.Rewriting as TreeRewriting
 pub use Rattle.gixobj_tree.specs.TreeReading
 pub use Rattle.gixobj_tree.specs.TreeViews

@@ -1,15 +1,9 @@
 //! Laws of trees, commits, tags and stores: most functions here do nothing, and their contract is the law.
 
-pub use gixobj_commits::laws::{
-    commit_has_one_reading, commit_reads_and_writes, commit_writes_back, owned_forms_have_the_parts,
-};
+pub use gixobj_commit::laws::{borrowed_headers_are_found, borrowed_mergetags_are_found, commit_has_one_reading, commit_reads_and_writes, commit_writes_back, owned_forms_have_the_parts, owned_headers_are_found, owned_mergetags_are_found, readers, tokens};
 pub use gixobj_data::laws::{
     an_object_is_put_in, bytes_left_end_the_text, entries_are_passed, ids_are_the_same_or_not,
     tree_readers_read_one_language,
-};
-pub use gixobj_extra_headers::laws::{
-    borrowed_headers_are_found, borrowed_mergetags_are_found, owned_headers_are_found,
-    owned_mergetags_are_found,
 };
 pub use gixobj_fields::laws::header_reads_back;
 pub use gixobj_hash::laws::hex_spells_one_id;
@@ -19,5 +13,4 @@ pub use gixobj_text::laws::{
     messages_have_one_list_of_trailers, parts_are_the_body, readers_give_all,
     trailer_lines_are_read,
 };
-pub use gixobj_tokens::laws::{readers, tokens};
 pub use gixobj_tree::laws::{tree_has_one_reading, tree_reads_back, tree_writes_back};

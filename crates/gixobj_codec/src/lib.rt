@@ -9,12 +9,11 @@ pub mod laws;
 pub mod tag;
 pub mod tree;
 
-pub use gixobj_commits::{Commit, CommitRef};
+pub use gixobj_commit::{Commit, CommitRef, CommitRefIter};
 pub use gixobj_data::{
     Data, Exists, Find, FindHeader, FindObjectOrHeader, Store, TreeRefIter, data, find,
 };
 pub use gixobj_object_readers::{LooseDecodeError, ObjectRef};
 pub use gixobj_objects::Object;
 pub use gixobj_tag::{Tag, TagRef, TagRefIter};
-pub use gixobj_tokens::CommitRefIter;
 pub use gixobj_tree::TreeRef;

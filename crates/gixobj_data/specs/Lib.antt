@@ -3,6 +3,7 @@ pub mod EntryGiving
 pub mod Lookups
 pub mod Stores
 pub mod TreeReaders
+pub use Rattle.gixobj_commit.specs.TokenGiving
 pub use Rattle.gixobj_hash.specs.Decode
 pub use Rattle.gixobj_hash.specs.Encode
 pub use Rattle.gixobj_hash.specs.Hash
@@ -10,6 +11,5 @@ pub use Rattle.gixobj_hash.specs.Kind
 pub use Rattle.gixobj_object_readers.specs.BorrowedObjects
 pub use Rattle.gixobj_object_readers.specs.ObjectReading
 pub use Rattle.gixobj_tag.specs.TokenGiving as TagTokenGiving
-pub use Rattle.gixobj_tokens.specs.TokenGiving
 pub use Rattle.gixobj_tree.specs.TreeReading
 pub use Rattle.gixobj_tree.specs.TreeViews

@@ -5,7 +5,7 @@ ghost use Rattle.gixobj_data.specs.EntryGiving.{IsAtEntry};
 ghost use Rattle.gixobj_object_readers.specs.BorrowedObjects.{HasObjectIds, IsReadyToWrite};
 ghost use Rattle.gixobj_object_readers.specs.ObjectReading.{IsObjectText, RefusesObjectText};
 ghost use Rattle.gixobj_tag.specs.TokenGiving.{IsAtStart as IsAtStartOfTag};
-ghost use Rattle.gixobj_tokens.specs.TokenGiving.{IsAtStart};
+ghost use Rattle.gixobj_commit.specs.TokenGiving.{IsAtStart};
 
 pub mod verify;
 
@@ -14,7 +14,7 @@ use gixobj_hash::decode::Error;
 use gixobj_hash::{Kind, hash};
 use gixobj_object_readers::ObjectRef;
 use gixobj_tag::TagRefIter;
-use gixobj_tokens::CommitRefIter;
+use gixobj_commit::CommitRefIter;
 use std::alloc::Global;
 
 /// The content of an object, borrowed, with its kind and the kind of its ids.

@@ -7,15 +7,15 @@ use Rattle.bstr.specs.Owned.{bstring_bytes}
 use Rattle.gixobj_actor.specs.Actor.{IsWritable}
 use Rattle.gixobj_actor.specs.ActorWriting.{IsLegal, owned_text}
 use Rattle.gixobj_actor.specs.declared.actor.Signature.{Signature}
-use Rattle.gixobj_commits.specs.CommitViews.{owned_lines}
-use Rattle.gixobj_commits.specs.CommitWriting.{RefusesEncoding, RefusesOwned, before_author, before_committer}
-use Rattle.gixobj_commits.specs.declared.commit.Commit.{Commit}
+use Rattle.gixobj_commit.specs.CommitViews.{owned_lines}
+use Rattle.gixobj_commit.specs.CommitWriting.{RefusesEncoding, RefusesOwned, before_author, before_committer}
+use Rattle.gixobj_commit.specs.declared.commit.Commit.{Commit}
 use Rattle.gixobj_fields.specs.Writing.{RefusesNothing, illegal_actor}
 use Rattle.gixobj_hash.specs.Hash.{hex_text}
 use Rattle.gixobj_hash.specs.Hash.Hex.{IsHexOf}
 use Rattle.gixobj_hash.specs.declared.hash.kind.Kind as hash
 use Rattle.gixobj_hash.specs.declared.hash.object_id.ObjectId.{ObjectId}
-use Rattle.gixobj_lines.specs.Commit.{CommitLines, IsCommitText}
+use Rattle.gixobj_commit.specs.Commit.{CommitLines, IsCommitText}
 use Rattle.gixobj_hash.specs.Texts.{IsFree}
 use Rattle.gixobj_import.specs.Commits.{NamesSignature, SameActor, only_parent, step_commit, step_text}
 use Rattle.gixobj_import.specs.Steps.{HaveHex}

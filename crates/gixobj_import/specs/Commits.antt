@@ -5,10 +5,10 @@ use Rattle.gixobj_actor.specs.Actor.{IsActor}
 use Rattle.gixobj_actor.specs.ActorWriting.{owned_text}
 use Rattle.gixobj_actor.specs.Date.{time_text}
 use Rattle.gixobj_actor.specs.declared.actor.Signature.{Signature}
-use Rattle.gixobj_commits.specs.CommitWriting.{commit_text}
+use Rattle.gixobj_commit.specs.CommitWriting.{commit_text}
 use Rattle.gixobj_hash.specs.Hash.{hex_text}
 use Rattle.gixobj_hash.specs.declared.hash.object_id.ObjectId.{ObjectId}
-use Rattle.gixobj_lines.specs.Commit.{CommitLines}
+use Rattle.gixobj_commit.specs.Commit.{CommitLines}
 use Rattle.gixobj_import.specs.declared.import.Step.{Step}
 
 -- the commit before it, or none

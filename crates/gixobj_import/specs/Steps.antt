@@ -13,7 +13,7 @@ use Rattle.gixobj_hash.specs.declared.hash.object_id.ObjectId.{ObjectId}
 use Rattle.gixobj_hash.specs.declared.kind.Kind.TheVariants.{Commit}
 use Rattle.gixobj_keeping.specs.Keeping.{RefusesKeepCommit, with_commit}
 use Rattle.gixobj_keeping.specs.declared.KeepError.{KeepError}
-use Rattle.gixobj_lines.specs.Commit.{IsCommitText}
+use Rattle.gixobj_commit.specs.Commit.{IsCommitText}
 use Rattle.gixobj_runs.specs.Replies.{Meaning}
 use Rattle.gixobj_runs.specs.declared.reply.EditReply.TheVariants as reply
 use Rattle.gixobj_import.specs.Commits.{NamesSignature, only_parent, step_commit, step_text}

@@ -1,7 +1,7 @@
 //! The commit of a step.
 ghost use Rattle.std.specs.Prelude.{◌≡◌, IfErr, IfOk, OnOk};
 ghost use Rattle.gixobj_actor.specs.ActorWriting.{IsLegal, owned_text};
-ghost use Rattle.gixobj_commits.specs.CommitViews.{owned_lines};
+ghost use Rattle.gixobj_commit.specs.CommitViews.{owned_lines};
 ghost use Rattle.gixobj_import.specs.Commits.{NamesSignature, SameActor, only_parent, step_commit, step_text};
 ghost use Rattle.gixobj_import.specs.Edited.{meaning};
 ghost use Rattle.gixobj_import.specs.Steps.{IsCommitKept, RefusesCommit, RefusesText};
@@ -11,7 +11,7 @@ use crate::written::is_an_id;
 use bstr::BString;
 use gixobj_actor::actor::Signature;
 use gixobj_actor::laws::actor_reads_back;
-use gixobj_commits::Commit;
+use gixobj_commit::Commit;
 use gixobj_editor::editor::Editor;
 use gixobj_fields::{WriteTo, encode};
 use gixobj_hash::hash::{self, ObjectId};

@@ -1,13 +1,13 @@
 -- An object that is read as one of a kind is of that kind.
 use Rattle.std.proofs.Common.{◌≡◌, ℕ, List, refl}
-use Rattle.gixobj_commits.specs.CommitViews.{commit_lines}
-use Rattle.gixobj_commits.specs.declared.commit.CommitRef.{CommitRef}
+use Rattle.gixobj_commit.specs.CommitViews.{commit_lines}
+use Rattle.gixobj_commit.specs.declared.commit.CommitRef.{CommitRef}
 use Rattle.gixobj_data.specs.Stores.{Objects}
 use Rattle.gixobj_hash.specs.declared.hash.kind.Kind as hash
 use Rattle.gixobj_hash.specs.declared.hash.object_id.ObjectId.{ObjectId}
 use Rattle.gixobj_hash.specs.declared.kind.Kind.{Kind}
 use Rattle.gixobj_hash.specs.declared.kind.Kind.TheVariants as kind
-use Rattle.gixobj_lines.specs.Commit.{IsCommitText}
+use Rattle.gixobj_commit.specs.Commit.{IsCommitText}
 use Rattle.gixobj_object_readers.specs.ObjectReading.{IsObjectText}
 use Rattle.gixobj_object_readers.specs.declared.object.ObjectRef.TheVariants as ref
 use Rattle.gixobj_tag.specs.TagText.{IsTagText}

@@ -1,8 +1,8 @@
 -- Objects of any kind, borrowed: their kind, their text as it is written, what is refused, and copies with parts of their own.
 use Rattle.std.specs.Prelude.{◌≡◌, ◌≢◌, ℕ, List, [], ⊤}
-use Rattle.gixobj_commits.specs.CommitOwned.{IsOwnedForm as IsOwnedCommit, RefusesOwning as RefusesOwningCommit}
-use Rattle.gixobj_commits.specs.CommitViews.{commit_lines}
-use Rattle.gixobj_commits.specs.CommitWriting.{HasIds, RefusesLines as RefusesCommitLines, commit_text, in_lower_case}
+use Rattle.gixobj_commit.specs.CommitOwned.{IsOwnedForm as IsOwnedCommit, RefusesOwning as RefusesOwningCommit}
+use Rattle.gixobj_commit.specs.CommitViews.{commit_lines}
+use Rattle.gixobj_commit.specs.CommitWriting.{HasIds, RefusesLines as RefusesCommitLines, commit_text, in_lower_case}
 use Rattle.gixobj_fields.specs.Writing.{Refused}
 use Rattle.gixobj_hash.specs.Hash.{IsHexOfAnId}
 use Rattle.gixobj_hash.specs.declared.decode.Error.{Error}

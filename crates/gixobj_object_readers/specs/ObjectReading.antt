@@ -1,12 +1,12 @@
 -- Objects of any kind as they are read.
 use Rattle.std.specs.Prelude.{◌≡◌, ℕ, List}
-use Rattle.gixobj_commits.specs.CommitViews.{commit_lines}
+use Rattle.gixobj_commit.specs.CommitViews.{commit_lines}
 use Rattle.gixobj_hash.specs.declared.decode.Error.{Error}
 use Rattle.gixobj_hash.specs.declared.decode.Error.TheVariants.{Malformed}
 use Rattle.gixobj_hash.specs.declared.hash.kind.Kind as hash
 use Rattle.gixobj_hash.specs.declared.kind.Kind.{Kind}
 use Rattle.gixobj_hash.specs.declared.kind.Kind.TheVariants as kind
-use Rattle.gixobj_lines.specs.Commit.{IsCommitText, RefusesCommit}
+use Rattle.gixobj_commit.specs.Commit.{IsCommitText, RefusesCommit}
 use Rattle.gixobj_tag.specs.TagText.{IsNoTagText, IsTagText}
 use Rattle.gixobj_tag.specs.TagViews.{tag_lines}
 use Rattle.gixobj_tree.specs.TreeReading.{IsTreeText, RefusesTreeText}

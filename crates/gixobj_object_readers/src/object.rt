@@ -7,7 +7,7 @@ mod decode;
 mod write;
 
 pub use decode::LooseDecodeError;
-use gixobj_commits::CommitRef;
+use gixobj_commit::CommitRef;
 use gixobj_hash::Kind;
 use gixobj_tag::TagRef;
 use gixobj_tree::{BlobRef, TreeRef};

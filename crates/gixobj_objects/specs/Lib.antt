@@ -1,6 +1,6 @@
 pub mod Objects
-pub use Rattle.gixobj_commits.specs.CommitViews
-pub use Rattle.gixobj_commits.specs.CommitWriting
+pub use Rattle.gixobj_commit.specs.CommitViews
+pub use Rattle.gixobj_commit.specs.CommitWriting
 pub use Rattle.gixobj_fields.specs.Streams
 pub use Rattle.gixobj_fields.specs.Writing
 pub use Rattle.gixobj_hash.specs.Encode

@@ -1,7 +1,7 @@
 -- Objects of any kind with parts of their own: their kind, their text as it is written, and what is refused.
 use Rattle.std.specs.Prelude.{ℕ, List}
-use Rattle.gixobj_commits.specs.CommitViews.{owned_lines as owned_commit_lines}
-use Rattle.gixobj_commits.specs.CommitWriting.{RefusesOwned as RefusesOwnedCommit, commit_text}
+use Rattle.gixobj_commit.specs.CommitViews.{owned_lines as owned_commit_lines}
+use Rattle.gixobj_commit.specs.CommitWriting.{RefusesOwned as RefusesOwnedCommit, commit_text}
 use Rattle.gixobj_fields.specs.Writing.{Refused}
 use Rattle.gixobj_hash.specs.declared.kind.Kind.{Kind}
 use Rattle.gixobj_hash.specs.declared.kind.Kind.TheVariants as kind

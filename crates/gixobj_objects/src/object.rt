@@ -5,7 +5,7 @@ ghost use Rattle.gixobj_objects.specs.Objects.{owned_kind};
 mod convert;
 mod write;
 
-use gixobj_commits::Commit;
+use gixobj_commit::Commit;
 use gixobj_hash::Kind;
 use gixobj_tag::Tag;
 use gixobj_tree::{Blob, Tree};

@@ -10,8 +10,8 @@ use Rattle.gixobj_hash.proofs.Splits.{free_by_test}
 use Rattle.std.specs.Cmp.Lexicographic.{bytes_decides, pointwise}
 use Rattle.std.proofs.lemmas.Grind.{flat_map-append}
 use Rattle.std.proofs.lemmas.List.Elements.{All-append, All-cons, All-head, All-nil, All-tail}
-use Rattle.gixobj_commits.specs.CommitWriting.{commit_text}
-use Rattle.gixobj_extra_headers.specs.ExtraHeaders.{signature_field}
+use Rattle.gixobj_commit.specs.CommitWriting.{commit_text}
+use Rattle.gixobj_commit.specs.ExtraHeaders.{signature_field}
 use Rattle.gixobj_fields.proofs.HeaderFields.{one_header}
 use Rattle.gixobj_fields.proofs.HeadersBack.{header_reads_back}
 use Rattle.gixobj_fields.specs.FieldWriting.{header_text, value_lines}
@@ -19,14 +19,14 @@ use Rattle.gixobj_fields.specs.HeaderText.{EndsHeader, HasField, HasHeader, Head
 use Rattle.gixobj_fields.specs.Runs.{Passes}
 use Rattle.gixobj_hash.specs.declared.hash.kind.Kind.{Kind}
 use Rattle.gixobj_hash.specs.declared.hash.kind.Kind.TheVariants as hash
-use Rattle.gixobj_lines.specs.Commit.{AreHeaderTexts, CommitLines, before_encoding, encoding_text, ids_text, parent_text}
-use Rattle.gixobj_lines.specs.Lines.{HasLine, LineView, author_comes, committer_comes, encoding_comes, first_header_comes, first_message_comes, header_comes, header_line, message_comes, parent_comes, tree_comes}
-use Rattle.gixobj_lines.specs.declared.lines.State.{State}
-use Rattle.gixobj_lines.specs.declared.lines.State.TheVariants as state
+use Rattle.gixobj_commit.specs.Commit.{AreHeaderTexts, CommitLines, before_encoding, encoding_text, ids_text, parent_text}
+use Rattle.gixobj_commit.specs.Lines.{HasLine, LineView, author_comes, committer_comes, encoding_comes, first_header_comes, first_message_comes, header_comes, header_line, message_comes, parent_comes, tree_comes}
+use Rattle.gixobj_commit.specs.declared.lines.State.{State}
+use Rattle.gixobj_commit.specs.declared.lines.State.TheVariants as state
 use Rattle.gixobj_hash.specs.Bytes.{newline, space}
 use Rattle.gixobj_hash.specs.Texts.{IsFree}
-use Rattle.gixobj_tokens.specs.Extracting.{HasSignature, IsNamedLine}
-use Rattle.gixobj_commits.specs.CommitSigning.{is_named, with_signature, without_headers}
+use Rattle.gixobj_commit.specs.Extracting.{HasSignature, IsNamedLine}
+use Rattle.gixobj_commit.specs.CommitSigning.{is_named, with_signature, without_headers}
 use Rattle.gixobj_signed.specs.LineFields.{HasHeaderNames, HasLineFields, IsOneLine}
 
 -- ---- headers one after the other

@@ -6,12 +6,12 @@ use Rattle.std.proofs.lemmas.List.Elements.{All-cons, All-head, All-map, All-nil
 use Rattle.std.specs.List.{AllPass}
 use Rattle.gixobj_actor.specs.ActorWriting.{IsLegal, owned_text}
 use Rattle.gixobj_actor.specs.declared.actor.Signature.{Signature}
-use Rattle.gixobj_commits.specs.CommitViews.{owned_lines}
-use Rattle.gixobj_commits.specs.CommitWriting.{RefusesEncoding, RefusesOwned, before_author, before_committer}
-use Rattle.gixobj_commits.specs.declared.commit.Commit.{Commit}
+use Rattle.gixobj_commit.specs.CommitViews.{owned_lines}
+use Rattle.gixobj_commit.specs.CommitWriting.{RefusesEncoding, RefusesOwned, before_author, before_committer}
+use Rattle.gixobj_commit.specs.declared.commit.Commit.{Commit}
 use Rattle.gixobj_fields.specs.Writing.{Refused, RefusesNothing, header_with_newline, illegal_actor}
 use Rattle.gixobj_hash.specs.Hash.{hex_text, is_lower_hex_digit}
-use Rattle.gixobj_lines.specs.Commit.{before_encoding}
+use Rattle.gixobj_commit.specs.Commit.{before_encoding}
 use Rattle.gixobj_hash.specs.Bytes.{greater_than, less_than, newline}
 use Rattle.gixobj_hash.specs.Optional.{owned_bytes_if_some}
 use Rattle.gixobj_hash.specs.Texts.{IsFree}

@@ -1,23 +1,23 @@
 -- A signature is found in the text of a signed commit, and no fault before it where the text is a commit's.
 use Rattle.std.proofs.Common.{◌≡◌, ◌≢◌, inl, inr, ◌<◌, arith, length, ℕ, List, [], ◌∷◌, ◌++◌, ◌∙◌, All, refl, sym, ap, subst, append_assoc}
 use Rattle.std.proofs.lemmas.List.Elements.{All-head, All-tail}
-use Rattle.gixobj_commits.specs.CommitWriting.{commit_text}
-use Rattle.gixobj_extra_headers.specs.ExtraHeaders.{signature_field}
+use Rattle.gixobj_commit.specs.CommitWriting.{commit_text}
+use Rattle.gixobj_commit.specs.ExtraHeaders.{signature_field}
 use Rattle.gixobj_fields.proofs.HeaderFields.{one_header}
 use Rattle.gixobj_fields.specs.FieldWriting.{header_text}
 use Rattle.gixobj_fields.specs.HeaderText.{EndsHeader, HasHeader, HasNoHeader, Header, IsHeaderName, IsHeaderText}
 use Rattle.gixobj_fields.specs.Runs.{Tells, broken, complete, tells_end, tells_error, tells_piece}
 use Rattle.gixobj_hash.specs.declared.decode.Error.TheVariants.{Malformed}
 use Rattle.gixobj_hash.specs.declared.hash.kind.Kind.{Kind}
-use Rattle.gixobj_lines.proofs.LinesTold.{text_told}
-use Rattle.gixobj_lines.proofs.OneLine.{longer_header, no_header, no_line_of_nothing, one_line}
-use Rattle.gixobj_lines.specs.Commit.{AreHeaderTexts, CommitLines, IsCommitText, lines_of}
-use Rattle.gixobj_lines.specs.Lines.{HasLine, LineView}
-use Rattle.gixobj_lines.specs.declared.lines.State.{State}
-use Rattle.gixobj_lines.specs.declared.lines.State.TheVariants as state
+use Rattle.gixobj_commit.proofs.LinesTold.{text_told}
+use Rattle.gixobj_commit.proofs.OneLine.{longer_header, no_header, no_line_of_nothing, one_line}
+use Rattle.gixobj_commit.specs.Commit.{AreHeaderTexts, CommitLines, IsCommitText, lines_of}
+use Rattle.gixobj_commit.specs.Lines.{HasLine, LineView}
+use Rattle.gixobj_commit.specs.declared.lines.State.{State}
+use Rattle.gixobj_commit.specs.declared.lines.State.TheVariants as state
 use Rattle.gixobj_signed.proofs.CommitsExtracted.{Blocks, IsBlockLine, block_line, comes_last, comes_more, ends_at_header, join, no_block, read_again, signature_name, signed_text, the_header, unsigned_front, written_blocks, written_header}
-use Rattle.gixobj_tokens.specs.Extracting.{HasNoSignature, IsNamedLine, RefusesSignature}
-use Rattle.gixobj_commits.specs.CommitSigning.{with_signature}
+use Rattle.gixobj_commit.specs.Extracting.{HasNoSignature, IsNamedLine, RefusesSignature}
+use Rattle.gixobj_commit.specs.CommitSigning.{with_signature}
 use Rattle.gixobj_signed.specs.LineFields.{HasHeaderNames, HasLineFields}
 
 ends_before_tail : (front tail : List ℕ) (headers : List Header) → AreHeaderTexts front headers → EndsHeader tail → EndsHeader (front ++ tail)

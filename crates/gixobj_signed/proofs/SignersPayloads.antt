@@ -1,12 +1,12 @@
 -- What is found again in the text of what was signed is what the signer got.
 use Rattle.std.proofs.Common.{◌≡◌, IfOk, subst, sym, ℕ, List, Result, Ok, Err}
-use Rattle.gixobj_commits.specs.CommitSigning as commit
-use Rattle.gixobj_commits.specs.CommitViews as commit_views
-use Rattle.gixobj_commits.specs.CommitWriting.{RefusesOwned, commit_text}
-use Rattle.gixobj_commits.specs.declared.commit.Commit.{Commit}
+use Rattle.gixobj_commit.specs.CommitSigning as commit
+use Rattle.gixobj_commit.specs.CommitViews as commit_views
+use Rattle.gixobj_commit.specs.CommitWriting.{RefusesOwned, commit_text}
+use Rattle.gixobj_commit.specs.declared.commit.Commit.{Commit}
 use Rattle.gixobj_fields.specs.Writing.{RefusesNothing}
 use Rattle.gixobj_hash.specs.Hash.{id_kind}
-use Rattle.gixobj_lines.specs.Commit.{CommitLines}
+use Rattle.gixobj_commit.specs.Commit.{CommitLines}
 use Rattle.gixobj_signature.specs.Calls.{Answer, CallView}
 use Rattle.gixobj_signature.specs.Plans.{Carries}
 use Rattle.gixobj_signature.specs.Signing.{options_view, sign_plan, signature}
@@ -18,7 +18,7 @@ use Rattle.gixobj_tag.specs.TagText.{TagLines}
 use Rattle.gixobj_tag.specs.TagViews as tag_views
 use Rattle.gixobj_tag.specs.TagWriting.{tag_text}
 use Rattle.gixobj_tag.specs.declared.tag.Tag.{Tag}
-use Rattle.gixobj_tokens.specs.Extracting as commits
+use Rattle.gixobj_commit.specs.Extracting as commits
 use Rattle.gixobj_signed.proofs.CommitsExtracted.{payload_extracted}
 use Rattle.gixobj_signed.proofs.SignaturesFound.{signature_is_there}
 use Rattle.gixobj_signed.proofs.TagsExtracted.{tag_payload_extracted}

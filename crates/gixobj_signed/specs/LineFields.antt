@@ -1,7 +1,7 @@
 -- Commits whose headers have names, and whose fields of one line have no newline.
 use Rattle.std.specs.Prelude.{ℕ, List, All, Option, Some, None, ⊤}
 use Rattle.gixobj_fields.specs.HeaderText.{IsHeaderName}
-use Rattle.gixobj_lines.specs.Commit.{CommitLines}
+use Rattle.gixobj_commit.specs.Commit.{CommitLines}
 use Rattle.gixobj_hash.specs.Bytes.{newline}
 use Rattle.gixobj_hash.specs.Texts.{IsFree}
 

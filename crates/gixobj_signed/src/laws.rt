@@ -1,14 +1,14 @@
 //! Laws of what is signed. Two functions sign, and their contracts say what comes of it; the others do nothing, and
 //! their contract is the law.
 ghost use Rattle.std.specs.Prelude.{◌≡◌, ℕ, IfNone, IfOk, IfSome, List, Option, Some};
-ghost use Rattle.gixobj_commits.specs.CommitSigning.{payload_of, with_signature};
-ghost use Rattle.gixobj_commits.specs.CommitViews.{owned_lines};
-ghost use Rattle.gixobj_commits.specs.CommitWriting.{RefusesOwned, commit_text};
+ghost use Rattle.gixobj_commit.specs.CommitSigning.{payload_of, with_signature};
+ghost use Rattle.gixobj_commit.specs.CommitViews.{owned_lines};
+ghost use Rattle.gixobj_commit.specs.CommitWriting.{RefusesOwned, commit_text};
 ghost use Rattle.gixobj_fields.specs.Writing.{RefusesNothing};
 ghost use Rattle.gixobj_hash.specs.Hash.{id_kind};
 ghost use Rattle.gixobj_hash.specs.declared.decode.Error.TheVariants.{Malformed};
 ghost use Rattle.gixobj_hash.specs.declared.hash.kind.Kind.{Kind};
-ghost use Rattle.gixobj_lines.specs.Commit.{CommitLines, IsCommitText};
+ghost use Rattle.gixobj_commit.specs.Commit.{CommitLines, IsCommitText};
 ghost use Rattle.gixobj_signed.specs.Agreeing.{AreTheSame};
 ghost use Rattle.gixobj_signed.specs.LineFields.{HasHeaderNames, HasLineFields};
 ghost use Rattle.gixobj_signed.specs.OneMarker.{HasOneMarker};
@@ -22,11 +22,11 @@ ghost use Rattle.gixobj_tag.specs.TagSigning as tag;
 ghost use Rattle.gixobj_tag.specs.TagText.{IsTagText, TagLines};
 ghost use Rattle.gixobj_tag.specs.TagViews as tag_views;
 ghost use Rattle.gixobj_tag.specs.TagWriting.{tag_text};
-ghost use Rattle.gixobj_tokens.specs.Extracting.{HasNoSignature, HasSignature, RefusesSignature};
+ghost use Rattle.gixobj_commit.specs.Extracting.{HasNoSignature, HasSignature, RefusesSignature};
 ghost use Rattle.gixobj_signature.specs.declared.signature.signed_data.SignedData.{SignedData};
 
 use crate::one_line::{actor_has_one_line, id_has_one_line, ids_have_one_line};
-use gixobj_commits::Commit;
+use gixobj_commit::Commit;
 use gixobj_signature::signature::Runner;
 use gixobj_signature::signature::sign::{Error, Options};
 use gixobj_tag::Tag;

@@ -3,12 +3,11 @@
 use crate::calls::Told;
 use crate::objects::{Comes, Row, gpg, is_so, runner_of_row};
 use crate::signing::CREATED;
-use gixobj_commits::{Commit, CommitRef};
+use gixobj_commit::{Commit, CommitRef, CommitRefIter};
 use gixobj_fields::WriteTo;
 use gixobj_hash::hash::Kind::{self, Sha1, Sha256};
 use gixobj_hash::{OutOfMemory, decode};
 use gixobj_signature::signature::sign::Error;
-use gixobj_tokens::CommitRefIter;
 use std::alloc::Global;
 use std::test::Fail;
 

@@ -1,32 +1,31 @@
 //! Objects that a store has to have, and that have to be of a kind.
 ghost use Rattle.std.specs.Prelude.{◌≡◌, [], IfErr, IfOk, IsOk};
-ghost use Rattle.gixobj_commits.specs.CommitViews.{commit_lines};
-ghost use Rattle.gixobj_commits.specs.CommitWriting.{HasIds};
+ghost use Rattle.gixobj_commit.specs.CommitViews.{commit_lines};
+ghost use Rattle.gixobj_commit.specs.CommitWriting.{HasIds};
 ghost use Rattle.gixobj_data.specs.EntryGiving.{IsAtEntry};
 ghost use Rattle.gixobj_data.specs.Stores.{Names, stored};
 ghost use Rattle.gixobj_hash.specs.Hash.{IsHexOfAnId};
 ghost use Rattle.gixobj_hash.specs.Hash.Borrowed.{borrowed_id};
 ghost use Rattle.gixobj_hash.specs.declared.kind.Kind.TheVariants as object;
 ghost use Rattle.gixobj_lookups.specs.Existing.{IsEmptyId, IsMissing, IsUnread, NamesSuch, NamesText, RefusesExisting, RefusesObject, RefusesReader};
-ghost use Rattle.gixobj_lines.specs.Commit.{IsCommitText};
+ghost use Rattle.gixobj_commit.specs.Commit.{IsCommitText};
 ghost use Rattle.gixobj_lookups.specs.declared.find.existing_iter.Error.TheVariants as told;
 ghost use Rattle.gixobj_lookups.specs.declared.find.existing_object.Error.TheVariants as decoded;
 ghost use Rattle.gixobj_object_readers.specs.BorrowedObjects.{HasObjectIds};
 ghost use Rattle.gixobj_tag.specs.TokenGiving.{IsAtStart as IsAtStartOfTag};
 ghost use Rattle.gixobj_tag.specs.TagText.{IsTagText};
 ghost use Rattle.gixobj_tag.specs.TagViews.{tag_lines};
-ghost use Rattle.gixobj_tokens.specs.TokenGiving.{IsAtStart};
+ghost use Rattle.gixobj_commit.specs.TokenGiving.{IsAtStart};
 ghost use Rattle.gixobj_tree.specs.TreeReading.{IsTreeText};
 ghost use Rattle.gixobj_tree.specs.TreeViews.{tree_entries};
 
 use crate::find::{existing, existing_iter, existing_object};
-use gixobj_commits::CommitRef;
+use gixobj_commit::{CommitRef, CommitRefIter};
 use gixobj_data::{Data, Find, TreeRefIter};
 use gixobj_hash::Kind;
 use gixobj_hash::hash::{ObjectId, oid};
 use gixobj_object_readers::ObjectRef;
 use gixobj_tag::{TagRef, TagRefIter};
-use gixobj_tokens::CommitRefIter;
 use gixobj_tree::{BlobRef, TreeRef};
 use std::alloc::Global;
 

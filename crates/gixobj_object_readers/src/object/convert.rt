@@ -3,8 +3,8 @@ ghost use Rattle.std.specs.Prelude.{◌≡◌, ◌≢◌, IfErr, IfOk};
 ghost use Rattle.gixobj_object_readers.specs.BorrowedObjects.{HasObjectIds, IsOwnedObject, RefusesOwningObject, borrowed_kind};
 
 use super::ObjectRef;
-use gixobj_commits::CommitRef;
-use gixobj_commits::commit::owned_copy;
+use gixobj_commit::CommitRef;
+use gixobj_commit::commit::owned_copy;
 use gixobj_hash::decode::Error;
 use gixobj_objects::Object;
 use gixobj_tag::TagRef;

@@ -5,7 +5,7 @@ ghost use Rattle.gixobj_object_readers.specs.LooseObjects.{IsLooseObject, Refuse
 ghost use Rattle.gixobj_object_readers.specs.ObjectReading.{IsObjectText, RefusesObjectText};
 
 use super::ObjectRef;
-use gixobj_commits::CommitRef;
+use gixobj_commit::CommitRef;
 use gixobj_hash::decode::{Error, LooseHeaderDecodeError, loose_header};
 use gixobj_hash::{Kind, hash};
 use gixobj_tag::TagRef;

@@ -3,7 +3,7 @@ ghost use Rattle.std.specs.Prelude.{◌≡◌, ◌≢◌, MatchOption, MatchResu
 ghost use Rattle.gixobj_objects.specs.Objects.{owned_kind};
 
 use super::Object;
-use gixobj_commits::Commit;
+use gixobj_commit::Commit;
 use gixobj_hash::Kind;
 use gixobj_tag::Tag;
 use gixobj_tree::{Blob, BlobRef, Tree};

@@ -1,0 +1,98 @@
+-- What is read of a commit and written back.
+use Rattle.std.proofs.Common.{◌≡◌, ◌⊎◌, inl, inr, ℕ, List, [], ◌∷◌, Option, Some, None, refl, ap, subst}
+use Rattle.std.specs.Prelude.{map}
+use Rattle.std.specs.List.{AllZip}
+use Rattle.std.specs.Str.{str_to_ascii_lowercase}
+use Rattle.std.proofs.lemmas.List.Elements.{All-contains}
+use Rattle.bstr.specs.Owned.{bstring_bytes}
+use Rattle.gixobj_actor.proofs.OwnedActors.{canonical, unwritable}
+use Rattle.gixobj_actor.specs.ActorWriting.{IsUnwritable}
+use Rattle.gixobj_hash.specs.Hash.{Spells, hex_text}
+use Rattle.gixobj_fields.specs.HeaderText.{Header}
+use Rattle.gixobj_fields.specs.Streams.{SinkView}
+use Rattle.gixobj_fields.specs.Writing.{Refused, SaysWhy, bad_name, empty_header, header_with_newline, illegal_actor, name_with_dash, name_with_zero_byte}
+use Rattle.gixobj_hash.specs.declared.decode.Error.TheVariants.{Malformed}
+use Rattle.gixobj_fields.specs.declared.encode.Error.{Error}
+use Rattle.gixobj_fields.specs.declared.encode.Error.TheVariants as encode
+use Rattle.gixobj_hash.specs.declared.hash.kind.Kind.{Kind}
+use Rattle.gixobj_hash.specs.declared.hash.object_id.ObjectId.{ObjectId}
+use Rattle.gixobj_hash.proofs.HexCase.{hex_in_lower_case}
+use Rattle.gixobj_commit.specs.Commit.{CommitLines, IsCommitText, IsEncoding}
+use Rattle.gixobj_commit.specs.CommitOwned.{IsOwnedForm, RefusesOwning}
+use Rattle.gixobj_commit.specs.CommitViews.{owned_lines}
+use Rattle.gixobj_commit.specs.CommitWriting.{RefusesEncoding, RefusesOwned, commit_text}
+use Rattle.gixobj_commit.specs.Rewriting.{AreOwnParts, HasEmptyEncoding, RefusesOwnForm}
+use Rattle.gixobj_commit.specs.declared.commit.Commit.{Commit}
+
+-- ---- the owned form
+
+ids_in_lower_case : (hexes : List (List ℕ)) (ids : List ObjectId) → AllZip Spells hexes ids → map hex_text ids ≡ map str_to_ascii_lowercase hexes
+ids_in_lower_case [] [] are = refl
+ids_in_lower_case [] (id ∷ ids) are = absurd are
+ids_in_lower_case (hex ∷ hexes) [] are = absurd are
+ids_in_lower_case (hex ∷ hexes) (id ∷ ids) are = let one = hex_in_lower_case hex id are.0 in let more = ids_in_lower_case hexes ids are.1 in cc (one, more)
+
+pub own_parts : (lines : CommitLines) (commit : Commit) → IsOwnedForm lines commit → AreOwnParts lines (owned_lines commit)
+own_parts lines commit is =
+    record {
+      tree = hex_in_lower_case lines.tree commit.tree is.tree;
+      parents = ids_in_lower_case lines.parents commit.parents.items is.parents;
+      author = canonical lines.author commit.author is.author;
+      committer = canonical lines.committer commit.committer is.committer;
+      encoding = is.encoding;
+      extra_headers = is.extra_headers;
+      message = is.message;
+    }
+
+-- ---- refusals
+
+-- what is refused of the encoding of a commit that was read
+encoding_refused : (encoding : Option (List ℕ)) (headers : List Header) (value : Refused) → IsEncoding encoding headers → RefusesEncoding encoding value → (value ≡ empty_header) × (encoding ≡ Some [])
+encoding_refused None headers value is refused = absurd refused
+encoding_refused (Some encoding) headers value is (inl (none, is_empty)) = (is_empty, ap (λ (it : List ℕ). Some it) none)
+encoding_refused (Some encoding) headers value is (inr (has, is_newline)) = absurd (All-contains (λ (it : ℕ). it ≡ 10 → ⊥) encoding 10 is has refl)
+
+-- what is refused of the owned form of a commit that was read
+abbrev WhatIsRefused : CommitLines → Refused → Type 0
+WhatIsRefused lines value = ((value ≡ illegal_actor) × (IsUnwritable lines.author ⊎ IsUnwritable lines.committer)) ⊎ ((value ≡ empty_header) × HasEmptyEncoding lines)
+
+what_is_refused : (kind : Kind) (bytes : List ℕ) (lines : CommitLines) (commit : Commit) (value : Refused) (parts : List ℕ) → IsCommitText kind bytes lines → IsOwnedForm lines commit → RefusesOwned commit value parts → WhatIsRefused lines value
+what_is_refused kind bytes lines commit value parts read own (inl (illegal, is, before)) = inl (is, inl (unwritable lines.author commit.author own.author illegal))
+what_is_refused kind bytes lines commit value parts read own (inr (inl (legal, illegal, is, before))) = inl (is, inr (unwritable lines.committer commit.committer own.committer illegal))
+what_is_refused kind bytes lines commit value parts read own (inr (inr (legal, other, refused))) =
+    inr (encoding_refused lines.encoding lines.extra_headers value read.encoding (subst (λ (it : Option (List ℕ)). RefusesEncoding it value) own.encoding refused.0))
+
+no_other : (lines : CommitLines) (value : Refused) → WhatIsRefused lines value → (value ≡ illegal_actor → ⊥) → (value ≡ empty_header → ⊥) → ⊥
+no_other lines value (inl (is, actor)) no_actor no_encoding = no_actor is
+no_other lines value (inr (is, encoding)) no_actor no_encoding = no_encoding is
+
+its_actor : (lines : CommitLines) → WhatIsRefused lines illegal_actor → IsUnwritable lines.author ⊎ IsUnwritable lines.committer
+its_actor lines (inl (is, actor)) = actor
+its_actor lines (inr (is, encoding)) = cc
+
+its_encoding : (lines : CommitLines) → WhatIsRefused lines empty_header → HasEmptyEncoding lines
+its_encoding lines (inl (is, actor)) = cc
+its_encoding lines (inr (is, encoding)) = encoding
+
+pub own_refusal : (kind : Kind) (text : List ℕ) (lines : CommitLines) (commit : Commit) (before after : SinkView) (error : Error) → IsCommitText kind text lines → IsOwnedForm lines commit
+    → SaysWhy (RefusesOwned commit) before after (commit_text (owned_lines commit)) error → RefusesOwnForm lines before after (commit_text (owned_lines commit)) error
+own_refusal kind text lines commit before after (encode.Writer cause) read own says = says
+own_refusal kind text lines commit before after encode.IllegalActor read own (parts, refused, puts) = its_actor lines (what_is_refused kind text lines commit illegal_actor parts read own refused)
+own_refusal kind text lines commit before after encode.EmptyValue read own (parts, refused, puts) = its_encoding lines (what_is_refused kind text lines commit empty_header parts read own refused)
+own_refusal kind text lines commit before after (encode.NewlineInHeaderValue value) read own (parts, refused, puts) =
+    no_other lines _ (what_is_refused kind text lines commit (header_with_newline (bstring_bytes value)) parts read own refused) (λ e. cc) (λ e. cc)
+own_refusal kind text lines commit before after encode.StartsWithDash read own (parts, refused, puts) =
+    no_other lines _ (what_is_refused kind text lines commit name_with_dash parts read own refused) (λ e. cc) (λ e. cc)
+own_refusal kind text lines commit before after (encode.InvalidRefName fault) read own (parts, refused, puts) =
+    no_other lines _ (what_is_refused kind text lines commit (bad_name fault) parts read own refused) (λ e. cc) (λ e. cc)
+own_refusal kind text lines commit before after (encode.NullbyteInFilename name) read own (parts, refused, puts) =
+    no_other lines _ (what_is_refused kind text lines commit (name_with_zero_byte (bstring_bytes name)) parts read own refused) (λ e. cc) (λ e. cc)
+own_refusal kind text lines commit before after encode.OutOfMemory read own (value, inl (parts, refused, puts)) =
+    no_other lines _ (what_is_refused kind text lines commit (header_with_newline value) parts read own refused) (λ e. cc) (λ e. cc)
+own_refusal kind text lines commit before after encode.OutOfMemory read own (value, inr (parts, refused, puts)) =
+    no_other lines _ (what_is_refused kind text lines commit (name_with_zero_byte value) parts read own refused) (λ e. cc) (λ e. cc)
+
+-- the lines of a commit that was read are actors
+pub actors_read : (kind : Kind) (text : List ℕ) (lines : CommitLines) → IsCommitText kind text lines → RefusesOwning lines Malformed → ⊥
+actors_read kind text lines read (inl bad) = let (name, email, time, is) = read.author in bad name email time is
+actors_read kind text lines read (inr bad) = let (name, email, time, is) = read.committer in bad name email time is

@@ -1,0 +1,5 @@
+use Rattle.std.proofs.Common.{rules}
+use Rattle.gixobj_commit.proofs.extra_headers.ExtraHeaders.find_all.Goals as goal
+
+pub returns-clause-name : goal.returns-clause-name
+returns-clause-name g c = search rules

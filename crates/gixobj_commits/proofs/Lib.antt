@@ -1,5 +1,0 @@
-mod CommitSigned
-mod CommitWrites
-mod HexFields
-mod WritingBack
-mod WrittenBack

@@ -1,5 +1,0 @@
-use Rattle.std.proofs.Common.{rules}
-use Rattle.gixobj_commits.proofs.commit.CommitRef.extra_headers.Goals as goal
-
-pub returns-clause-headers : goal.returns-clause-headers
-returns-clause-headers c = search rules

@@ -1,5 +1,0 @@
-use Rattle.std.proofs.Common.{rules}
-use Rattle.gixobj_commits.proofs.commit.CommitRef.time.Goals as goal
-
-pub returns-in_err-actor-clause-refusal : goal.returns-in_err-actor-clause-refusal
-returns-in_err-actor-clause-refusal c = search rules

@@ -1,5 +1,0 @@
-use Rattle.std.proofs.Common.{rules}
-use Rattle.gixobj_commits.proofs.commit.owned_copy.Goals as goal
-
-pub commit-requires-clause-committer : goal.commit-requires-clause-committer
-commit-requires-clause-committer c = search rules

@@ -1,4 +1,0 @@
-mod HeaderSearches
-pub mod HeadersFound
-mod MergetagsFound
-pub mod ParentHexes

@@ -1,5 +1,0 @@
-use Rattle.std.proofs.Common.{rules}
-use Rattle.gixobj_extra_headers.proofs.extra_headers.ExtraHeaders.mergetags.Goals as goal
-
-pub returns-clause-name : goal.returns-clause-name
-returns-clause-name g c = search rules

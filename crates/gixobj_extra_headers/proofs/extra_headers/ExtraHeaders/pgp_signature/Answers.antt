@@ -1,5 +1,0 @@
-use Rattle.std.proofs.Common.{rules}
-use Rattle.gixobj_extra_headers.proofs.extra_headers.ExtraHeaders.pgp_signature.Goals as goal
-
-pub returns : goal.returns
-returns g c = search rules

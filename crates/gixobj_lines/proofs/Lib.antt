@@ -1,5 +1,0 @@
-pub mod CommitsRead
-mod LineRefusals
-pub mod LinesTold
-pub mod OneLine
-pub mod WholeCommits

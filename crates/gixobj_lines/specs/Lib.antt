@@ -1,3 +1,0 @@
-pub mod Commit
-pub mod Gathering
-pub mod Lines

@@ -1,6 +1,0 @@
-use Rattle.gixobj_tokens.proofs.TokenRuns.{Seeks}
-use Rattle.gixobj_tokens.specs.TokenPassing.{IsMessageToken}
-use Rattle.gixobj_tokens.proofs.ref_iter.CommitRefIter.message.Given as goal
-
-abbrev pub invariant-loop-answer : goal.invariant-loop-answer
-invariant-loop-answer l = Seeks IsMessageToken l.fn.self l.answer-iterator

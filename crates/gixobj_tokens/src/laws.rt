@@ -1,4 +1,0 @@
-//! Laws of tokens, and of the two readers of commits.
-
-pub mod readers;
-pub mod tokens;

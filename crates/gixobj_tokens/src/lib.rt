@@ -1,7 +1,0 @@
-//! Commits told token by token, and the law that both readers of commits read one language.
-#![tactic(auto)]
-
-pub mod laws;
-pub mod ref_iter;
-
-pub use ref_iter::CommitRefIter;
