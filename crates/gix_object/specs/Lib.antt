@@ -15,13 +15,13 @@ pub use Rattle.gixobj_files.specs.Opening
 pub use Rattle.gixobj_files.specs.State
 pub use Rattle.gixobj_files.specs.Tables
 pub use Rattle.gixobj_files.specs.Unopened
+pub use Rattle.gixobj_find.specs.Existing
+pub use Rattle.gixobj_find.specs.Keeping
+pub use Rattle.gixobj_find.specs.Nothing
+pub use Rattle.gixobj_find.specs.Writers
 pub use Rattle.gixobj_import.specs.ByDigest
 pub use Rattle.gixobj_import.specs.Imports
 pub use Rattle.gixobj_import.specs.Steps
-pub use Rattle.gixobj_keeping.specs.Keeping
-pub use Rattle.gixobj_lookups.specs.Existing
-pub use Rattle.gixobj_lookups.specs.Nothing
-pub use Rattle.gixobj_lookups.specs.Writers
 pub use Rattle.gixobj_runs.specs.Commands
 pub use Rattle.gixobj_runs.specs.Replies
 pub use Rattle.gixobj_runs.specs.RunTables

@@ -20,5 +20,4 @@ pub use gixobj_codec::{
     commit, data, tag,
 };
 pub use gixobj_import::import;
-pub use gixobj_keeping::{Keep, KeepCommit, KeepError};
-pub use gixobj_lookups::{FindExt, HeaderExt, Write, find, write};
+pub use gixobj_find::{FindExt, HeaderExt, Keep, KeepCommit, KeepError, Write, find, write};

@@ -9,7 +9,7 @@ use gix_object::Tree;
 use gix_object::hash::{Kind as HashKind, ObjectId};
 use gix_object::tree::editor::{Cursor, Editor, Error, Written};
 use gix_object::tree::{Entry, EntryKind};
-use gixobj_store::Memory;
+use gixobj_find::Memory;
 use std::alloc::{AllocError, Global};
 use std::test::Fail;
 

@@ -9,7 +9,7 @@ use gix_object::hash::{Kind as HashKind, ObjectId};
 use gix_object::tree::editor::{Command, Edit, EditReply, Editor, Error, Reply, Written, run};
 use gix_object::tree::{Entry, EntryKind};
 use gix_object::{Keep, Tree, encode};
-use gixobj_store::Memory;
+use gixobj_find::Memory;
 use std::alloc::{AllocError, Global};
 use std::test::Fail;
 

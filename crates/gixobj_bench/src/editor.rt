@@ -10,7 +10,7 @@ use gixobj_base::hash::ObjectId;
 use gixobj_base::tree::EntryKind;
 use gixobj_base::{Kind, Tree, WriteTo, compute_hash, encode};
 use gixobj_editor::editor::Editor;
-use gixobj_lookups::find::Never;
+use gixobj_find::find::Never;
 use paths::{Shape, paths_of};
 use std::alloc::Global;
 use std::io;

@@ -8,7 +8,7 @@ use Rattle.gixobj_base.specs.hash.kind.Kind.TheVariants.{Tree}
 use Rattle.gixobj_codec.specs.EntryGiving.{IsAtEntry}
 use Rattle.gixobj_codec.specs.Lookups.{tree_left}
 use Rattle.gixobj_codec.specs.Stores.{Objects, StoredObject}
-use Rattle.gixobj_codec.specs.unread.tree.TreeRefIter.{TreeRefIter}
+use Rattle.gixobj_codec.specs.object.tree.TreeRefIter.{TreeRefIter}
 use Rattle.gixobj_callers.specs.Ancestors.{IsAncestor, IsFirstParent}
 
 pub first_spelled : (hexes : List (List ℕ)) (ids : List ObjectId) (id : ObjectId) (more : List ObjectId) → AllZip Spells hexes ids → ids ≡ id ∷ more → (hex : List ℕ) × (others : List (List ℕ)) × (hexes ≡ hex ∷ others) × Spells hex id

@@ -9,7 +9,7 @@ use Rattle.gixobj_callers.proofs.Alone.{root_files}
 use Rattle.gixobj_callers.proofs.Histories.{history_append, same_history, same_refl, same_sym, same_trans}
 use Rattle.gixobj_commands.specs.declared.command.Edit.{Edit}
 use Rattle.gixobj_commands.specs.declared.command.Edit.TheVariants as edit
-use Rattle.gixobj_data.specs.Stores.{Objects}
+use Rattle.gixobj_object.specs.Stores.{Objects}
 use Rattle.gixobj_directories.specs.Openings.{AreTreesOf}
 use Rattle.gixobj_directories.specs.declared.write.Written.{Written}
 use Rattle.gixobj_files.specs.Bases.{HasBases}
@@ -18,7 +18,7 @@ use Rattle.gixobj_files.specs.History.{History}
 use Rattle.gixobj_files.specs.Opening.{OpenFiles}
 use Rattle.gixobj_files.specs.State.{DirMap, EditorFiles, State, open_bases, open_dirs}
 use Rattle.gixobj_files.specs.Tables.{AgreesWithPairs, AgreesWithStore, Pair}
-use Rattle.gixobj_keeping.specs.Keeping.{with_trees}
+use Rattle.gixobj_find.specs.Keeping.{with_trees}
 use Rattle.gixobj_runs.specs.Commands.{at_root}
 use Rattle.gixobj_runs.specs.Replies.{Answers, IsEditReply, Meaning}
 use Rattle.gixobj_runs.specs.RunTables.{AgreesWithObjects}

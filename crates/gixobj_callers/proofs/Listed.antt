@@ -8,7 +8,7 @@ use Rattle.gixobj_base.specs.hash.hash.object_id.ObjectId.{ObjectId}
 use Rattle.gixobj_base.specs.hash.hash.object_id.ObjectId.TheVariants.{Sha1}
 use Rattle.gixobj_base.specs.hash.kind.Kind.TheVariants as kind
 use Rattle.gixobj_codec.specs.Stores.{Objects, StoredObject, named, stored}
-use Rattle.gixobj_codec.specs.unread.«data».Data.{Data}
+use Rattle.gixobj_codec.specs.object.«data».Data.{Data}
 use Rattle.gixobj_callers.specs.Shelves.{listed_objects}
 
 -- what stands for a pair where there is none

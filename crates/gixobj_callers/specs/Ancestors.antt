@@ -6,7 +6,7 @@ use Rattle.gixobj_base.specs.hash.kind.Kind.TheVariants.{Commit, Tree}
 use Rattle.gixobj_codec.specs.Commit.{CommitLines, IsCommitText}
 use Rattle.gixobj_codec.specs.Lookups.{Name, RefusesPath}
 use Rattle.gixobj_codec.specs.Stores.{Names, Objects, StoredObject}
-use Rattle.gixobj_lookups.specs.Existing.{RefusesObject, RefusesReader}
+use Rattle.gixobj_find.specs.Existing.{RefusesObject, RefusesReader}
 use Rattle.gixobj_callers.specs.declared.history.Error.{Error}
 use Rattle.gixobj_callers.specs.declared.history.Error.TheVariants as history
 

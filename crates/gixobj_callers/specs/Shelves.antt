@@ -3,7 +3,7 @@ use Rattle.std.specs.Prelude.{List, map}
 use Rattle.std.specs.FinMap as finite
 use Rattle.gixobj_base.specs.hash.hash.object_id.ObjectId.{ObjectId}
 use Rattle.gixobj_codec.specs.Stores.{Objects, stored}
-use Rattle.gixobj_codec.specs.unread.«data».Data.{Data}
+use Rattle.gixobj_codec.specs.object.«data».Data.{Data}
 use Rattle.gixobj_callers.specs.declared.shelf.Shelf.{Shelf}
 
 -- what these objects mean: of an id that stands twice, the first one

@@ -8,7 +8,7 @@ use Rattle.gixobj_base.specs.hash.hash.object_id.ObjectId.{ObjectId}
 use Rattle.gixobj_codec.specs.BorrowedObjects.{RefusesBorrowedObject, borrowed_kind, borrowed_object_text}
 use Rattle.gixobj_codec.specs.Checksums.{HasBothIds}
 use Rattle.gixobj_codec.specs.LooseObjects.{IsLooseObject, RefusesLooseObject}
-use Rattle.gixobj_codec.specs.object_readers.object.ObjectRef.{ObjectRef}
+use Rattle.gixobj_codec.specs.object.object.borrowed.ObjectRef.{ObjectRef}
 use Rattle.gixobj_callers.specs.declared.store.TakeError.{TakeError}
 use Rattle.gixobj_callers.specs.declared.store.TakeError.TheVariants.{Read, Verify, Write}
 

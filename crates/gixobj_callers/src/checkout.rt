@@ -15,7 +15,7 @@ use bstr::BString;
 use gixobj_base::Tree;
 use gixobj_base::hash::{Kind, ObjectId};
 use gixobj_base::tree::EntryKind;
-use gixobj_data::Find;
+use gixobj_object::Find;
 use gixobj_editor::editor::{Cursor, Editor, Error, WriteError, Written};
 use std::fmt::Display;
 

@@ -9,8 +9,8 @@ use bstr::BString;
 use gixobj_base::hash::ObjectId;
 use gixobj_base::tree::Entry;
 use gixobj_codec::{Find, find};
-use gixobj_lookups::FindExt;
-use gixobj_lookups::find::{existing_iter, existing_object};
+use gixobj_find::FindExt;
+use gixobj_find::find::{existing_iter, existing_object};
 use std::alloc::Global;
 
 /// Why a walk stops.

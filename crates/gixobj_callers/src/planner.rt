@@ -23,10 +23,10 @@ use gixobj_codec::laws::{
     tree_readers_read_one_language, tree_reads_back, tree_writes_back,
 };
 use gixobj_codec::{TreeRef, TreeRefIter};
-use gixobj_data::Find;
+use gixobj_object::Find;
 use gixobj_editor::editor::{Editor, Error, WriteError, Written};
-use gixobj_lookups::FindExt;
-use gixobj_lookups::find::existing_object;
+use gixobj_find::FindExt;
+use gixobj_find::find::existing_object;
 use std::alloc::Global;
 use std::fmt::Display;
 

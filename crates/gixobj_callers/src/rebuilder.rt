@@ -8,7 +8,7 @@ ghost use Rattle.gixobj_callers.specs.Rebuilds.{IsCompared, Names, RefusesCompar
 use gixobj_base::hash::{Kind, ObjectId};
 use gixobj_base::{OutOfMemory, Tree};
 use gixobj_editor::editor::Editor;
-use gixobj_keeping::Keep;
+use gixobj_find::Keep;
 use gixobj_runs::{Command, EditReply, Reply, run};
 use std::alloc::Global;
 

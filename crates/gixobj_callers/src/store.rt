@@ -7,7 +7,7 @@ ghost use Rattle.gixobj_base.specs.Entries.{EntryView};
 ghost use Rattle.gixobj_codec.specs.Commit.{CommitLines, IsCommitText};
 ghost use Rattle.gixobj_codec.specs.BorrowedObjects.{borrowed_kind, borrowed_object_text};
 ghost use Rattle.gixobj_codec.specs.LooseObjects.{IsLooseObject};
-ghost use Rattle.gixobj_codec.specs.object_readers.object.ObjectRef.{ObjectRef};
+ghost use Rattle.gixobj_codec.specs.object.object.borrowed.ObjectRef.{ObjectRef};
 ghost use Rattle.gixobj_codec.specs.TreeReading.{IsTreeText};
 ghost use Rattle.gixobj_codec.specs.TreeRewriting.{HasOwnModes};
 ghost use Rattle.gixobj_callers.specs.Copies.{FailsForRoom};

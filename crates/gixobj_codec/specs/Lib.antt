@@ -19,12 +19,6 @@ pub use Rattle.gixobj_commit.specs.TokenFilters
 pub use Rattle.gixobj_commit.specs.TokenGiving
 pub use Rattle.gixobj_commit.specs.TokenPassing
 pub use Rattle.gixobj_commit.specs.declared as commit
-pub use Rattle.gixobj_data.specs.Checksums
-pub use Rattle.gixobj_data.specs.EntryGiving
-pub use Rattle.gixobj_data.specs.Lookups
-pub use Rattle.gixobj_data.specs.Stores
-pub use Rattle.gixobj_data.specs.TreeReaders
-pub use Rattle.gixobj_data.specs.declared as unread
 pub use Rattle.gixobj_fields.specs.FieldWriting
 pub use Rattle.gixobj_fields.specs.HeaderReading
 pub use Rattle.gixobj_fields.specs.HeaderText
@@ -40,12 +34,16 @@ pub use Rattle.gixobj_hash.specs.Kind
 pub use Rattle.gixobj_hash.specs.Optional
 pub use Rattle.gixobj_hash.specs.Texts
 pub use Rattle.gixobj_hash.specs.declared as hash
-pub use Rattle.gixobj_object_readers.specs.BorrowedObjects
-pub use Rattle.gixobj_object_readers.specs.LooseObjects
-pub use Rattle.gixobj_object_readers.specs.ObjectReading
-pub use Rattle.gixobj_object_readers.specs.declared as object_readers
-pub use Rattle.gixobj_objects.specs.Objects
-pub use Rattle.gixobj_objects.specs.declared as objects
+pub use Rattle.gixobj_object.specs.BorrowedObjects
+pub use Rattle.gixobj_object.specs.Checksums
+pub use Rattle.gixobj_object.specs.EntryGiving
+pub use Rattle.gixobj_object.specs.Lookups
+pub use Rattle.gixobj_object.specs.LooseObjects
+pub use Rattle.gixobj_object.specs.ObjectReading
+pub use Rattle.gixobj_object.specs.Objects
+pub use Rattle.gixobj_object.specs.Stores
+pub use Rattle.gixobj_object.specs.TreeReaders
+pub use Rattle.gixobj_object.specs.declared as object
 pub use Rattle.gixobj_tag.specs.LineReading
 pub use Rattle.gixobj_tag.specs.NameRule
 pub use Rattle.gixobj_tag.specs.Readers as TagReaders

@@ -1,5 +1,5 @@
 //! Trees, read (gitdatamodel, "trees").
 
-pub use gixobj_data::TreeRefIter;
-pub use gixobj_data::tree::next_entry;
+pub use gixobj_object::TreeRefIter;
+pub use gixobj_object::tree::next_entry;
 pub use gixobj_tree::tree::{EntryRef, TreeRef};

@@ -1,7 +1,7 @@
 -- Paths that are looked up in a store, and the files of a tree.
 use Rattle.std.specs.Prelude.{◌≡◌, ◌++◌, ◌∷◌, ℕ, All, IsFalse, List, [], None, Some, true}
-use Rattle.gixobj_data.specs.Lookups.{IsPath, Name}
-use Rattle.gixobj_data.specs.Stores.{Objects}
+use Rattle.gixobj_object.specs.Lookups.{IsPath, Name}
+use Rattle.gixobj_object.specs.Stores.{Objects}
 use Rattle.gixobj_files.specs.Files.{Table, is_null, stands_for}
 use Rattle.gixobj_files.specs.Tables.{IsEmptyId}
 use Rattle.gixobj_hash.specs.declared.hash.kind.Kind.{Kind}

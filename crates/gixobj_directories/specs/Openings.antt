@@ -1,15 +1,15 @@
 -- Directories that are looked up in a store, and why one isn't opened.
 use Rattle.std.specs.Prelude.{◌≡◌, Bool, List, Option, Some, None, ⊤}
-use Rattle.gixobj_data.specs.Stores.{Objects}
-use Rattle.gixobj_data.specs.declared.find.Error.TheVariants as find
+use Rattle.gixobj_object.specs.Stores.{Objects}
+use Rattle.gixobj_object.specs.declared.find.Error.TheVariants as find
 use Rattle.gixobj_files.specs.Edits.{IsNoTree, IsUnasked}
 use Rattle.gixobj_files.specs.Files.{Trees}
 use Rattle.gixobj_hash.specs.declared.decode.Error.TheVariants as decode
 use Rattle.gixobj_hash.specs.declared.hash.object_id.ObjectId.{ObjectId}
 use Rattle.gixobj_hash.specs.declared.kind.Kind.TheVariants.{Tree}
-use Rattle.gixobj_lookups.specs.Existing.{NamesSuch, RefusesObject}
-use Rattle.gixobj_lookups.specs.declared.find.existing_object.Error as found
-use Rattle.gixobj_lookups.specs.declared.find.existing_object.Error.TheVariants as object
+use Rattle.gixobj_find.specs.Existing.{NamesSuch, RefusesObject}
+use Rattle.gixobj_find.specs.declared.find.existing_object.Error as found
+use Rattle.gixobj_find.specs.declared.find.existing_object.Error.TheVariants as object
 use Rattle.gixobj_tree.specs.TreeReading.{IsTreeText}
 use Rattle.gixobj_tree.specs.Entries.{EntryView, IsWellFormed}
 use Rattle.gixobj_directories.specs.declared.opening.Error.{Error}

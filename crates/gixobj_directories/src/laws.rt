@@ -1,7 +1,7 @@
 //! Laws of the definitions. Each function does nothing: its contract is the law.
 ghost use Rattle.std.specs.Prelude.{ℕ, List, length};
-ghost use Rattle.gixobj_data.specs.Lookups.{Name};
-ghost use Rattle.gixobj_data.specs.Stores.{Objects};
+ghost use Rattle.gixobj_object.specs.Lookups.{Name};
+ghost use Rattle.gixobj_object.specs.Stores.{Objects};
 ghost use Rattle.gixobj_directories.specs.LookedUp.{IsFileIn, IsLookedUp};
 ghost use Rattle.gixobj_directories.specs.Openings.{AreTreesOf};
 ghost use Rattle.gixobj_files.specs.Files.{Files, Table, Trees};

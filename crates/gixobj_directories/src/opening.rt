@@ -17,11 +17,11 @@ ghost use Rattle.gixobj_directories.specs.declared.opening.Unasked.TheVariants.{
 
 use crate::open::{Open, child_at, copy_tree, put_child, room_for, tree_id};
 use bstr::BString;
-use gixobj_data::{Find, find};
+use gixobj_object::{Find, find};
 use gixobj_hash::hash::ObjectId;
 use gixobj_hash::{OutOfMemory, decode};
-use gixobj_lookups::FindExt;
-use gixobj_lookups::find::existing_object;
+use gixobj_find::FindExt;
+use gixobj_find::find::existing_object;
 use gixobj_tree::Tree;
 use std::alloc::{AllocError, Global};
 

@@ -3,7 +3,7 @@ use Rattle.std.proofs.Common.{◌≡◌, ◌∙◌, All, ℕ, List, [], ◌∷�
 use Rattle.std.proofs.lemmas.List.Elements.{All-head, All-tail, All-weaker}
 use Rattle.std.specs.FinMap as finite
 use Rattle.gixobj_commands.specs.declared.command.Command.{Command}
-use Rattle.gixobj_data.specs.Stores.{Objects, StoredObject, named}
+use Rattle.gixobj_object.specs.Stores.{Objects, StoredObject, named}
 use Rattle.gixobj_directories.specs.Openings.{AreTreesOf}
 use Rattle.gixobj_fields.specs.declared.encode.Error.{Error}
 use Rattle.gixobj_files.specs.Files.{Trees}
@@ -21,7 +21,7 @@ use Rattle.gixobj_runs.specs.Commands.{pairs_handed_out, pairs_kept}
 use Rattle.gixobj_runs.specs.Replies.{IsRun}
 use Rattle.gixobj_runs.specs.RunTables.{ReadsAsItself}
 use Rattle.gixobj_runs.specs.declared.reply.Reply.{Reply}
-use Rattle.gixobj_store.specs.declared.Memory.{Memory}
+use Rattle.gixobj_find.specs.declared.memory.Memory.{Memory}
 use Rattle.gixobj_tree.specs.Rewriting.{ReadsBack}
 use Rattle.gixobj_tree.specs.Entries.{EntryView}
 use Rattle.gixobj_tree.specs.TreeText.{tree_text}

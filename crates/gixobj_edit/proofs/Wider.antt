@@ -5,7 +5,7 @@ use Rattle.gixobj_commands.specs.declared.command.Command.{Command}
 use Rattle.gixobj_commands.specs.declared.command.Command.TheVariants as command
 use Rattle.gixobj_commands.specs.declared.command.Edit.{Edit}
 use Rattle.gixobj_commands.specs.declared.command.Edit.TheVariants as edit
-use Rattle.gixobj_data.specs.Stores.{Objects}
+use Rattle.gixobj_object.specs.Stores.{Objects}
 use Rattle.gixobj_directories.specs.Calls.{names_of}
 use Rattle.gixobj_directories.specs.Handing.{Stopped}
 use Rattle.gixobj_directories.specs.declared.write.WriteError.{WriteError}

@@ -15,8 +15,8 @@ use Rattle.gixobj_script.specs.Answers.{lines_of}
 use Rattle.gixobj_script.specs.Scripts.{IsFirstBad, IsScript, RefusesScript}
 use Rattle.gixobj_script.specs.declared.script.ScriptError.{ScriptError}
 use Rattle.gixobj_script.specs.declared.script.ScriptError.TheVariants as script
-use Rattle.gixobj_store.specs.Memory.{memory_objects}
-use Rattle.gixobj_store.specs.declared.Memory.{Memory}
+use Rattle.gixobj_find.specs.Memory.{memory_objects}
+use Rattle.gixobj_find.specs.declared.memory.Memory.{Memory}
 
 -- the script is that of commands, these were run on the old state and left the new one, and the text tells the replies to them and then
 -- the lookups

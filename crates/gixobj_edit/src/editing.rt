@@ -11,10 +11,9 @@ use crate::telling::answers_of;
 use gixobj_editor::editor::Editor;
 use gixobj_hash::OutOfMemory;
 use gixobj_hash::hash::{Kind, ObjectId};
-use gixobj_keeping::Keep;
+use gixobj_find::{Keep, Memory};
 use gixobj_runs::run;
 use gixobj_script::{ScriptError, answer_lines, read_script};
-use gixobj_store::Memory;
 use gixobj_tree::Tree;
 use std::alloc::Global;
 

@@ -10,8 +10,8 @@ ghost use Rattle.gixobj_hash.specs.declared.hash.kind.Kind.{Kind};
 ghost use Rattle.gixobj_runs.specs.Commands.{pairs_handed_out, pairs_kept};
 ghost use Rattle.gixobj_runs.specs.Replies.{IsRun};
 ghost use Rattle.gixobj_runs.specs.RunTables.{AgreesWithRun};
-ghost use Rattle.gixobj_store.specs.Memory.{memory_objects};
-ghost use Rattle.gixobj_store.specs.declared.Memory.{Memory};
+ghost use Rattle.gixobj_find.specs.Memory.{memory_objects};
+ghost use Rattle.gixobj_find.specs.declared.memory.Memory.{Memory};
 ghost use Rattle.gixobj_tree.specs.Rewriting.{ReadsBack};
 
 use gixobj_fields::encode;

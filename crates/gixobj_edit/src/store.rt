@@ -1,3 +1,3 @@
 //! The store in memory on which a script is run.
 
-pub use gixobj_store::Memory;
+pub use gixobj_find::Memory;

@@ -1,7 +1,7 @@
 -- The directory at a cursor's prefix stays open.
 use Rattle.std.proofs.Common.{◌≡◌, ◌≢◌, ◌∙◌, ℕ, List, [], ◌∷◌, ◌++◌, Some, None, Result, Ok, Err, ap, arith, refl, subst, sym}
 use Rattle.std.specs.Prelude.{OnErr, OnOk}
-use Rattle.gixobj_data.specs.Stores.{Objects}
+use Rattle.gixobj_object.specs.Stores.{Objects}
 use Rattle.gixobj_directories.specs.Openings.{AreTreesOf}
 use Rattle.gixobj_directories.proofs.NamedTrees.{trees_of}
 use Rattle.gixobj_files.specs.Edits.{arrived, Opens}

@@ -2,7 +2,7 @@
 pub mod Stores
 use Rattle.std.specs.Prelude.{◌≡◌, ◌≢◌, ◌⊎◌, ◌++◌, ℕ, Bool, List, [], ◌∷◌, All, None, Some}
 use Rattle.std.specs.List.{FoldsTo}
-use Rattle.gixobj_data.specs.Stores.{Objects}
+use Rattle.gixobj_object.specs.Stores.{Objects}
 use Rattle.gixobj_directories.specs.Calls.{AreNames, IsStorable}
 use Rattle.gixobj_directories.specs.declared.opening.Error.TheVariants as opening
 use Rattle.gixobj_directories.specs.declared.write.Written.{Written}

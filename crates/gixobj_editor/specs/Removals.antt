@@ -1,7 +1,7 @@
 -- What a removal of an editor promises.
 use Rattle.std.specs.Prelude.{◌≡◌, ◌⊎◌, ◌++◌, ℕ, Bool, true, false, List, [], ◌∷◌, Some, ⊤}
 use Rattle.bstr.specs.Owned.{bstring_bytes, joined}
-use Rattle.gixobj_data.specs.Stores.{Objects}
+use Rattle.gixobj_object.specs.Stores.{Objects}
 use Rattle.gixobj_directories.specs.Calls.{AreNames}
 use Rattle.gixobj_directories.specs.Openings.{RefusesDirectory}
 use Rattle.gixobj_directories.specs.declared.opening.Error as directory

@@ -1,6 +1,6 @@
 -- What an upsert of an editor promises, and an edit that was refused.
 use Rattle.std.specs.Prelude.{◌≡◌, ◌≢◌, ◌≤◌, ◌⊎◌, ◌++◌, ℕ, Bool, List, [], ◌∷◌, Contains, Some, length, ⊤}
-use Rattle.gixobj_data.specs.Stores.{Objects}
+use Rattle.gixobj_object.specs.Stores.{Objects}
 use Rattle.gixobj_directories.specs.Calls.{AreNames}
 use Rattle.gixobj_directories.specs.Openings.{EndsBefore, RefusesDirectory}
 use Rattle.gixobj_directories.specs.declared.opening.Unasked.{Unasked}

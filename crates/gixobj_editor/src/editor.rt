@@ -30,7 +30,7 @@ mod removal;
 use bstr::BString;
 pub use cursor::Cursor;
 pub use error::Error;
-use gixobj_data::Find;
+use gixobj_object::Find;
 use gixobj_directories::open::Open;
 use gixobj_directories::opening::Unasked;
 use gixobj_directories::write::write_all;

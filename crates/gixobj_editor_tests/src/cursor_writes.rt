@@ -4,7 +4,7 @@ use crate::cursor_calls::{hands_out, upserted_by};
 use crate::samples::{FILE, empty_editor, id_of, path_of, upserted, writes};
 use gixobj_base::Tree;
 use gixobj_editor::editor::{Cursor, Editor, WriteError};
-use gixobj_store::Memory;
+use gixobj_find::Memory;
 use std::alloc::Global;
 use std::test::Fail;
 

@@ -9,7 +9,7 @@ use crate::samples::{
 use gixobj_base::hash::{Kind as HashKind, ObjectId};
 use gixobj_base::tree::EntryKind;
 use gixobj_editor::editor::Editor;
-use gixobj_store::Memory;
+use gixobj_find::Memory;
 use std::alloc::{AllocError, Global};
 use std::test::Fail;
 

@@ -7,7 +7,7 @@ use bstr::BString;
 use gixobj_base::tree::EntryKind;
 use gixobj_base::{Tree, encode};
 use gixobj_editor::editor::{Editor, Error, WriteError, Written};
-use gixobj_store::Memory;
+use gixobj_find::Memory;
 use std::alloc::Global;
 use std::test::Fail;
 

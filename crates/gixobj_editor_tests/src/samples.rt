@@ -5,7 +5,7 @@ use gixobj_base::hash::{Kind as HashKind, ObjectId};
 use gixobj_base::tree::{Entry, EntryKind};
 use gixobj_base::{Kind, Tree, WriteTo, compute_hash, encode};
 use gixobj_editor::editor::{Editor, Error, Written};
-use gixobj_store::Memory;
+use gixobj_find::Memory;
 use std::alloc::{AllocError, Global};
 
 pub(crate) const FILE: ObjectId = ObjectId::Sha1([1; 20]);

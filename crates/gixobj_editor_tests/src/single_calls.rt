@@ -9,7 +9,7 @@ use gixobj_edit::answers_of;
 use gixobj_editor::editor::{Cursor, Editor, Error};
 use gixobj_runs::{EditReply, Reply};
 use gixobj_script::answer_lines;
-use gixobj_store::Memory;
+use gixobj_find::Memory;
 use std::alloc::{AllocError, Global};
 use std::test::Fail;
 

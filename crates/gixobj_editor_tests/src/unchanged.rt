@@ -8,8 +8,7 @@ use gixobj_base::hash::{Kind as HashKind, ObjectId};
 use gixobj_base::tree::{Entry, EntryKind};
 use gixobj_base::{Kind, Tree};
 use gixobj_editor::editor::{Editor, Written};
-use gixobj_keeping::Keep;
-use gixobj_store::Memory;
+use gixobj_find::{Keep, Memory};
 use std::alloc::Global;
 use std::test::Fail;
 

@@ -7,7 +7,7 @@ use gixobj_base::hash::{Kind as HashKind, ObjectId};
 use gixobj_base::tree::EntryKind;
 use gixobj_base::{Kind, Tree};
 use gixobj_editor::editor::{Editor, Error, WriteError};
-use gixobj_store::Memory;
+use gixobj_find::Memory;
 use std::alloc::Global;
 use std::test::Fail;
 

@@ -2,7 +2,7 @@
 use Rattle.std.proofs.Common.{◌≡◌, ℕ, zero, suc, List, [], ◌∷◌, ◌++◌, Option, Some, ap, subst, sym, take}
 use Rattle.std.proofs.lemmas.List.Elements.{All-cons, All-head, All-nil, All-tail}
 use Rattle.std.specs.List.{flat_map}
-use Rattle.gixobj_data.specs.Stores.{Objects}
+use Rattle.gixobj_object.specs.Stores.{Objects}
 use Rattle.gixobj_files.specs.Bases.{HasBases}
 use Rattle.gixobj_files.specs.Files.{FileSet, NamedFiles, SameFiles, Table}
 use Rattle.gixobj_files.specs.History as history
@@ -10,7 +10,7 @@ use Rattle.gixobj_files.specs.History.{History}
 use Rattle.gixobj_files.specs.State.{EditorFiles, State, open_bases, open_dirs}
 use Rattle.gixobj_files.specs.Tables.{AgreesWithPairs, Pair}
 use Rattle.gixobj_hash.specs.declared.hash.object_id.ObjectId.{ObjectId}
-use Rattle.gixobj_keeping.specs.Keeping.{with_commit, with_trees}
+use Rattle.gixobj_find.specs.Keeping.{with_commit, with_trees}
 use Rattle.gixobj_runs.specs.Replies.{Meaning}
 use Rattle.gixobj_runs.specs.RunTables.{AgreesWithObjects}
 use Rattle.gixobj_import.specs.Commits.{step_text}

@@ -1,14 +1,14 @@
 -- A write whose trees were then kept, or not all of them.
 use Rattle.std.proofs.Common.{◌≡◌, ◌∙◌, ℕ, All, List, ap, subst, sym}
-use Rattle.gixobj_data.specs.Stores.{Objects}
+use Rattle.gixobj_object.specs.Stores.{Objects}
 use Rattle.gixobj_directories.specs.declared.write.Written.{Written}
 use Rattle.gixobj_editor.specs.Writes.{IsWritten}
 use Rattle.gixobj_files.specs.State.{State, with_store}
 use Rattle.gixobj_files.specs.Tables.{Pair}
 use Rattle.gixobj_hash.specs.declared.hash.kind.Kind as hash
 use Rattle.gixobj_hash.specs.declared.hash.object_id.ObjectId.{ObjectId}
-use Rattle.gixobj_keeping.specs.Keeping.{HasText, StopsKeeping, with_trees}
-use Rattle.gixobj_keeping.specs.declared.KeepError.{KeepError}
+use Rattle.gixobj_find.specs.Keeping.{HasText, StopsKeeping, with_trees}
+use Rattle.gixobj_find.specs.declared.keeping.KeepError.{KeepError}
 use Rattle.gixobj_runs.specs.Commands.{at_root}
 use Rattle.gixobj_runs.specs.Replies.{Gives, IsWriteKept, IsWrittenAt, KeepsAll, Meaning}
 use Rattle.gixobj_runs.specs.declared.reply.EditReply.TheVariants as reply

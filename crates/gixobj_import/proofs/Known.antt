@@ -1,7 +1,7 @@
 -- What the laws that a body calls tell of stores.
 use Rattle.std.proofs.Common.{◌≡◌, ◌≢◌, ◌⊎◌, Some}
 use Rattle.std.specs.FinMap as finite
-use Rattle.gixobj_data.specs.Stores.{Objects, StoredObject, named}
+use Rattle.gixobj_object.specs.Stores.{Objects, StoredObject, named}
 use Rattle.gixobj_directories.specs.Openings.{AreTreesOf}
 use Rattle.gixobj_files.specs.Files.{Trees}
 use Rattle.gixobj_hash.specs.declared.hash.object_id.ObjectId.{ObjectId}

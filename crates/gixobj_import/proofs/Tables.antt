@@ -1,13 +1,13 @@
 -- Tables that agree with imports.
 use Rattle.std.proofs.Common.{◌≡◌, ◌≢◌, ◌∙◌, ⊎_elim, All, ℕ, zero, suc, List, [], ◌∷◌, ◌++◌, Option, None, Some, ap, subst, sym, take}
 use Rattle.std.proofs.lemmas.List.Elements.{All-head, All-nil, All-cons, All-tail}
-use Rattle.gixobj_data.specs.Stores.{Objects, StoredObject, named}
+use Rattle.gixobj_object.specs.Stores.{Objects, StoredObject, named}
 use Rattle.gixobj_directories.specs.Openings.{AreTreesOf, NamesTree}
 use Rattle.gixobj_files.specs.Files.{Table, Trees}
 use Rattle.gixobj_files.specs.Tables.{AgreesWithPairs, AgreesWithStore, FitsBeside, Pair}
 use Rattle.gixobj_hash.specs.declared.hash.object_id.ObjectId.{ObjectId}
 use Rattle.gixobj_hash.specs.declared.kind.Kind.TheVariants.{Tree}
-use Rattle.gixobj_keeping.specs.Keeping.{commit_object, tree_object, with_commit, with_tree, with_trees}
+use Rattle.gixobj_find.specs.Keeping.{commit_object, tree_object, with_commit, with_tree, with_trees}
 use Rattle.gixobj_runs.specs.RunTables.{AgreesWithObjects, ReadsAsItself}
 use Rattle.gixobj_tree.specs.TreeReading.{IsTreeText}
 use Rattle.gixobj_tree.specs.Entries.{EntryView}

@@ -2,7 +2,7 @@
 use Rattle.std.specs.Prelude.{◌≡◌, ℕ, Bool, List, [], ◌∷◌, Err, Ok, Some, slice_get, take, ⊤}
 use Rattle.gixobj_commands.specs.declared.command.Edit.{Edit}
 use Rattle.gixobj_commands.specs.declared.command.Edit.TheVariants as edit
-use Rattle.gixobj_data.specs.Stores.{Objects}
+use Rattle.gixobj_object.specs.Stores.{Objects}
 use Rattle.gixobj_directories.specs.Calls.{names_of}
 use Rattle.gixobj_editor.specs.declared.editor.error.Error.{Error}
 use Rattle.gixobj_fields.specs.declared.encode.Error as encode
@@ -13,7 +13,7 @@ use Rattle.gixobj_hash.specs.Hash.{id_of}
 use Rattle.gixobj_hash.specs.declared.hash.kind.Kind as hash
 use Rattle.gixobj_hash.specs.declared.hash.object_id.ObjectId.{ObjectId}
 use Rattle.gixobj_hash.specs.declared.kind.Kind.TheVariants.{Tree}
-use Rattle.gixobj_keeping.specs.Keeping.{HasNoText, HasText}
+use Rattle.gixobj_find.specs.Keeping.{HasNoText, HasText}
 use Rattle.gixobj_runs.specs.Commands.{at_root}
 use Rattle.gixobj_runs.specs.Replies.{Answers, IsEditReply, Meaning}
 use Rattle.gixobj_runs.specs.declared.reply.EditReply.{EditReply}

@@ -2,7 +2,7 @@
 use Rattle.std.specs.Prelude.{◌≡◌, ℕ, suc, false, List, [], ◌∷◌, Option, Some, None, length, slice_get, take}
 use Rattle.std.specs.List.{flat_map}
 use Rattle.gixobj_actor.specs.ActorWriting.{owned_text}
-use Rattle.gixobj_data.specs.Stores.{Objects}
+use Rattle.gixobj_object.specs.Stores.{Objects}
 use Rattle.gixobj_files.specs.Bases.{HasBases}
 use Rattle.gixobj_files.specs.Files.{FileSet, NamedFiles, SameFiles, Table}
 use Rattle.gixobj_files.specs.History as history
@@ -12,7 +12,7 @@ use Rattle.gixobj_hash.specs.Hash.{id_of}
 use Rattle.gixobj_hash.specs.declared.hash.kind.Kind as hash
 use Rattle.gixobj_hash.specs.declared.hash.object_id.ObjectId.{ObjectId}
 use Rattle.gixobj_hash.specs.declared.kind.Kind.TheVariants.{Commit}
-use Rattle.gixobj_keeping.specs.Keeping.{with_commit, with_trees}
+use Rattle.gixobj_find.specs.Keeping.{with_commit, with_trees}
 use Rattle.gixobj_commit.specs.Commit.{IsCommitText}
 use Rattle.gixobj_runs.specs.RunTables.{AgreesWithObjects}
 use Rattle.gixobj_import.specs.ByDigest.{NamesCommit}

@@ -11,8 +11,8 @@ use Rattle.gixobj_hash.specs.Hash.Hex.{IsHexOf}
 use Rattle.gixobj_hash.specs.declared.hash.kind.Kind as hash
 use Rattle.gixobj_hash.specs.declared.hash.object_id.ObjectId.{ObjectId}
 use Rattle.gixobj_hash.specs.declared.kind.Kind.TheVariants.{Commit}
-use Rattle.gixobj_keeping.specs.Keeping.{RefusesKeepCommit, with_commit}
-use Rattle.gixobj_keeping.specs.declared.KeepError.{KeepError}
+use Rattle.gixobj_find.specs.Keeping.{RefusesKeepCommit, with_commit}
+use Rattle.gixobj_find.specs.declared.keeping.KeepError.{KeepError}
 use Rattle.gixobj_commit.specs.Commit.{IsCommitText}
 use Rattle.gixobj_runs.specs.Replies.{Meaning}
 use Rattle.gixobj_runs.specs.declared.reply.EditReply.TheVariants as reply

@@ -17,7 +17,7 @@ use gixobj_fields::{WriteTo, encode};
 use gixobj_hash::hash::{self, ObjectId};
 use gixobj_hash::laws::hex_reads_back;
 use gixobj_hash::{Kind, OutOfMemory, compute_hash};
-use gixobj_keeping::KeepCommit;
+use gixobj_find::KeepCommit;
 use smallvec::SmallVec;
 use std::alloc::Global;
 

@@ -4,7 +4,7 @@ ghost use Rattle.gixobj_import.specs.Edited.{AreDone, IsRefusedAt, IsReplied, me
 ghost use Rattle.gixobj_runs.specs.Replies.{reply_to};
 
 use gixobj_commands::Edit;
-use gixobj_data::Find;
+use gixobj_object::Find;
 use gixobj_editor::editor::{Editor, Error};
 
 /// Whether one of the edits is a write.

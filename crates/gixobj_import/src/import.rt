@@ -16,14 +16,14 @@ use crate::written::write_edits;
 use bstr::BString;
 use gixobj_actor::actor::Signature;
 use gixobj_commands::Edit;
-use gixobj_data::laws::{an_object_is_put_in, ids_are_the_same_or_not};
+use gixobj_object::laws::{an_object_is_put_in, ids_are_the_same_or_not};
 use gixobj_directories::laws::every_store_names_trees;
 use gixobj_editor::editor::{Editor, Error, WriteError, Written};
 use gixobj_fields::encode;
 use gixobj_hash::OutOfMemory;
 use gixobj_hash::hash::{self, ObjectId};
-pub use gixobj_keeping::KeepCommit;
-use gixobj_keeping::{Keep, KeepError};
+pub use gixobj_find::KeepCommit;
+use gixobj_find::{Keep, KeepError};
 use gixobj_tree::Tree;
 use std::alloc::Global;
 

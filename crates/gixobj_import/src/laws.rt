@@ -1,6 +1,6 @@
 //! Laws of the definitions. Each function does nothing: its contract is the law.
 ghost use Rattle.std.specs.Prelude.{All, None};
-ghost use Rattle.gixobj_data.specs.Stores.{Objects};
+ghost use Rattle.gixobj_object.specs.Stores.{Objects};
 ghost use Rattle.gixobj_directories.specs.Openings.{AreTreesOf};
 ghost use Rattle.gixobj_files.specs.Files.{Table, Trees};
 ghost use Rattle.gixobj_files.specs.Tables.{FitsBeside};
@@ -8,7 +8,7 @@ ghost use Rattle.gixobj_import.specs.Imports.{AgreesWithImports, pairs_of_import
 ghost use Rattle.gixobj_runs.specs.RunTables.{ReadsAsItself};
 
 use crate::import::{Imported, Step};
-use gixobj_data::laws::{an_object_is_put_in, ids_are_the_same_or_not};
+use gixobj_object::laws::{an_object_is_put_in, ids_are_the_same_or_not};
 use gixobj_files::laws::fitting_pairs_have_a_table;
 
 /// Some table agrees with an import, as long as no id of the trees that its writes handed out stands

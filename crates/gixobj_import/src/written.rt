@@ -18,7 +18,7 @@ use gixobj_fields::{WriteTo, encode};
 use gixobj_hash::hash::{self, ObjectId};
 use gixobj_hash::laws::hex_reads_back;
 use gixobj_hash::{Kind, compute_hash};
-use gixobj_keeping::{Keep, keep_all};
+use gixobj_find::{Keep, keep_all};
 use gixobj_runs::EditReply;
 use gixobj_tree::Tree;
 use std::alloc::Global;

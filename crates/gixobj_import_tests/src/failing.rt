@@ -1,12 +1,11 @@
 //! A store that counts what it keeps, and refuses at one place.
 ghost use Rattle.std.specs.Prelude.{◌≡◌};
-ghost use Rattle.gixobj_store.specs.Memory.{memory_objects};
+ghost use Rattle.gixobj_find.specs.Memory.{memory_objects};
 
 use bstr::BString;
-use gixobj_data::{Data, Find, Store, find};
+use gixobj_object::{Data, Find, Store, find};
 use gixobj_hash::hash::{ObjectId, oid};
-use gixobj_keeping::{Keep, KeepCommit, KeepError};
-use gixobj_store::Memory;
+use gixobj_find::{Keep, KeepCommit, KeepError, Memory};
 use gixobj_tree::Tree;
 use std::alloc::Global;
 

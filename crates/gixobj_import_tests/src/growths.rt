@@ -6,8 +6,7 @@ use gixobj_editor::editor::{Error, WriteError};
 use gixobj_fields::encode;
 use gixobj_hash::hash::Kind as HashKind;
 use gixobj_import::{ImportError, Importer, Step, Stopped, import_all};
-use gixobj_keeping::KeepError;
-use gixobj_store::Memory;
+use gixobj_find::{KeepError, Memory};
 use std::alloc::Global;
 use std::test::Fail;
 

@@ -5,7 +5,7 @@ use gixobj_commands::Edit;
 use gixobj_editor::editor::Error;
 use gixobj_hash::hash::{Kind as HashKind, ObjectId};
 use gixobj_import::{ImportError, Importer, Step, Stopped, import_all};
-use gixobj_store::Memory;
+use gixobj_find::Memory;
 use gixobj_tree::tree::EntryKind;
 use std::alloc::{AllocError, Global};
 use std::test::Fail;

@@ -9,7 +9,7 @@ use gixobj_commands::Edit;
 use gixobj_hash::hash::{Kind as HashKind, ObjectId};
 use gixobj_hash::{Kind, compute_hash};
 use gixobj_import::{Imported, Importer, Step, import_all};
-use gixobj_store::Memory;
+use gixobj_find::Memory;
 use gixobj_tree::tree::EntryKind;
 use std::alloc::{AllocError, Global};
 use std::test::Fail;

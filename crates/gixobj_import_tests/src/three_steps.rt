@@ -6,7 +6,7 @@ use crate::samples::{
 };
 use gixobj_hash::hash::Kind as HashKind;
 use gixobj_import::{Imported, Importer, import_all};
-use gixobj_store::Memory;
+use gixobj_find::Memory;
 use std::test::Fail;
 
 /// The trees, how many were handed out, and the size of the commit, of each step.

@@ -8,7 +8,7 @@ use gix_object::hash::{Kind as HashKind, ObjectId};
 use gix_object::tree::editor::{Editor, Error};
 use gix_object::tree::{Entry, EntryKind};
 use gix_object::{Kind, Tree, WriteTo, compute_hash, encode, find};
-use gixobj_store::Memory;
+use gixobj_find::Memory;
 use std::alloc::{AllocError, Global};
 use std::test::Fail;
 

@@ -5,7 +5,7 @@ use crate::samples::{BAK, ROOT, ROOT_TEXT, VERSION_1, id, id_of_bytes, names, tw
 use gix_object::hash::{Kind as HashKind, ObjectId};
 use gix_object::tree::{Entry, EntryKind};
 use gix_object::{Find, FindExt, Kind, TreeRefIter, find};
-use gixobj_store::Memory;
+use gixobj_find::Memory;
 use std::alloc::Global;
 use std::test::Fail;
 

@@ -3,7 +3,7 @@
 use bstr::BString;
 use gix_object::hash::{Kind as HashKind, ObjectId};
 use gix_object::{Kind, OutOfMemory, write};
-use gixobj_store::Memory;
+use gixobj_find::Memory;
 use std::alloc::{AllocError, Global};
 
 /// The kinds of objects.

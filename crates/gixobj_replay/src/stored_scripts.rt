@@ -8,10 +8,10 @@ use gixobj_base::parse::split_at_byte;
 use gixobj_base::{Kind, OutOfMemory, Tree, WriteTo, compute_hash, encode};
 use gixobj_edit::answers_of;
 use gixobj_editor::editor::{Editor, Error};
-use gixobj_lookups::find::existing_object;
+use gixobj_find::find::existing_object;
 use gixobj_runs::{EditReply, Reply, run};
 use gixobj_script::{answer_lines, read_script};
-use gixobj_store::Memory;
+use gixobj_find::Memory;
 use std::alloc::{AllocError, Global};
 
 /// What is told of a script, run on the empty root over a store of these objects, and the cause of each directory that

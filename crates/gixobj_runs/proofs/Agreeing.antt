@@ -2,8 +2,8 @@
 use Rattle.std.proofs.Common.{◌≡◌, ◌≢◌, ◌⊎◌, inl, inr, ⊎_elim, All, ℕ, true, false, List, [], ◌∷◌, ◌∙◌, Some, ap, refl, subst, sym, take}
 use Rattle.std.proofs.lemmas.List.Elements.{All-head, All-tail, All-take}
 use Rattle.std.specs.Cmp.Lexicographic.{bytes_decides}
-use Rattle.gixobj_data.proofs.Keeping.{elsewhere, there}
-use Rattle.gixobj_data.specs.Stores.{Objects, StoredObject, named}
+use Rattle.gixobj_object.proofs.Keeping.{elsewhere, there}
+use Rattle.gixobj_object.specs.Stores.{Objects, StoredObject, named}
 use Rattle.gixobj_directories.specs.Openings.{AreTreesOf, NamesTree}
 use Rattle.gixobj_files.proofs.ListedTables.{fitting_table}
 use Rattle.gixobj_files.specs.Editing.{same_name}
@@ -11,7 +11,7 @@ use Rattle.gixobj_files.specs.Files.{Table, Trees}
 use Rattle.gixobj_files.specs.Tables.{AgreesWithPairs, FitsBeside, IsEmptyId, Pair}
 use Rattle.gixobj_hash.specs.declared.hash.object_id.ObjectId.{ObjectId}
 use Rattle.gixobj_hash.specs.declared.hash.object_id.ObjectId.TheVariants as id
-use Rattle.gixobj_keeping.specs.Keeping.{tree_object, with_tree, with_trees}
+use Rattle.gixobj_find.specs.Keeping.{tree_object, with_tree, with_trees}
 use Rattle.gixobj_tree.specs.TreeReading.{IsTreeText}
 use Rattle.gixobj_tree.specs.Entries.{EntryView}
 use Rattle.gixobj_runs.specs.Commands.{pairs_handed_out, pairs_kept}

@@ -1,10 +1,10 @@
 -- Stores in which trees are kept, and tables that agree with them.
 use Rattle.std.proofs.Common.{◌≡◌, ◌+◌, ℕ, zero, suc, List, [], ◌∷◌, ◌++◌, Some, ap, length, refl, subst, sym, take, ◌∙◌}
 use Rattle.std.proofs.Math.Seq.{take-append-add}
-use Rattle.gixobj_data.specs.Stores.{Objects}
+use Rattle.gixobj_object.specs.Stores.{Objects}
 use Rattle.gixobj_files.specs.Files.{Table}
 use Rattle.gixobj_files.specs.Tables.{AgreesWithPairs, Pair}
-use Rattle.gixobj_keeping.specs.Keeping.{with_tree, with_trees}
+use Rattle.gixobj_find.specs.Keeping.{with_tree, with_trees}
 use Rattle.gixobj_runs.specs.RunTables.{AgreesWithObjects}
 use Rattle.gixobj_runs.proofs.KeptPairs.{all_first, all_then}
 

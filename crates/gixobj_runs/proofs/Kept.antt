@@ -1,13 +1,13 @@
 -- A write whose trees were then kept.
 use Rattle.std.proofs.Common.{◌≡◌, ◌∙◌, ℕ, All, List, ap, subst, sym}
 use Rattle.gixobj_commands.specs.declared.command.Edit.TheVariants as edit
-use Rattle.gixobj_data.specs.Stores.{Objects}
+use Rattle.gixobj_object.specs.Stores.{Objects}
 use Rattle.gixobj_directories.specs.declared.write.Written.{Written}
 use Rattle.gixobj_files.specs.State.{State, with_store}
 use Rattle.gixobj_files.specs.Tables.{Pair}
 use Rattle.gixobj_hash.specs.declared.hash.object_id.ObjectId.{ObjectId}
-use Rattle.gixobj_keeping.specs.Keeping.{HasText, StopsKeeping, with_trees}
-use Rattle.gixobj_keeping.specs.declared.KeepError.{KeepError}
+use Rattle.gixobj_find.specs.Keeping.{HasText, StopsKeeping, with_trees}
+use Rattle.gixobj_find.specs.declared.keeping.KeepError.{KeepError}
 use Rattle.gixobj_runs.specs.Commands.{Place}
 use Rattle.gixobj_runs.specs.Replies.{Answers, IsEditReply, IsWriteKept, IsWrittenAt, KeepsAll, Meaning}
 use Rattle.gixobj_runs.specs.declared.reply.EditReply.TheVariants as edit_reply

@@ -7,4 +7,4 @@ pub use Rattle.gixobj_editor.specs.Removals
 pub use Rattle.gixobj_editor.specs.Upserts
 pub use Rattle.gixobj_editor.specs.Writes
 pub use Rattle.gixobj_files.specs.History
-pub use Rattle.gixobj_keeping.specs.Keeping
+pub use Rattle.gixobj_find.specs.Keeping

@@ -5,7 +5,7 @@ use Rattle.gixobj_commands.specs.declared.command.Command.{Command}
 use Rattle.gixobj_commands.specs.declared.command.Command.TheVariants as command
 use Rattle.gixobj_commands.specs.declared.command.Edit.{Edit}
 use Rattle.gixobj_commands.specs.declared.command.Edit.TheVariants as edit
-use Rattle.gixobj_data.specs.Stores.{Objects}
+use Rattle.gixobj_object.specs.Stores.{Objects}
 use Rattle.gixobj_directories.specs.Calls.{IsStorable, names_of}
 use Rattle.gixobj_directories.specs.Handing.{Stopped}
 use Rattle.gixobj_directories.specs.declared.write.WriteError.{WriteError}
@@ -25,7 +25,7 @@ use Rattle.gixobj_files.specs.State.{EditorFiles, State, open_bases, open_dirs, 
 use Rattle.gixobj_files.specs.Tables.{Pair}
 use Rattle.gixobj_files.specs.Unopened.{inside}
 use Rattle.gixobj_hash.specs.declared.hash.object_id.ObjectId.{ObjectId}
-use Rattle.gixobj_keeping.specs.Keeping.{HasText, StopsKeeping, with_trees}
+use Rattle.gixobj_find.specs.Keeping.{HasText, StopsKeeping, with_trees}
 use Rattle.gixobj_tree.specs.Entries.{EntryView, IsWellFormed}
 use Rattle.gixobj_tree.specs.Mode.{mode_of_kind}
 use Rattle.gixobj_runs.specs.Commands.{Place, at_cursor, at_root, path_at}

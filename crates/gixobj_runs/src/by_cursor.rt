@@ -12,7 +12,7 @@ use bstr::BString;
 use gixobj_commands::Edit;
 use gixobj_editor::editor::{Cursor, Editor, Error};
 use gixobj_hash::hash::ObjectId;
-use gixobj_keeping::{Keep, keep_all};
+use gixobj_find::{Keep, keep_all};
 use gixobj_tree::Tree;
 use std::alloc::Global;
 

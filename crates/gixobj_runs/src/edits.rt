@@ -8,7 +8,7 @@ use crate::reply::EditReply;
 use gixobj_commands::Edit;
 use gixobj_editor::editor::{Editor, Error};
 use gixobj_hash::hash::ObjectId;
-use gixobj_keeping::{Keep, keep_all};
+use gixobj_find::{Keep, keep_all};
 use gixobj_tree::Tree;
 
 /// Does one edit, or a write.

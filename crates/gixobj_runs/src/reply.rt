@@ -1,6 +1,6 @@
 //! What a run answers.
 use gixobj_editor::editor::{Error, WriteError, Written};
-use gixobj_keeping::KeepError;
+use gixobj_find::KeepError;
 
 /// The reply to an edit, or to a write.
 #[derive(Debug, Drop)]

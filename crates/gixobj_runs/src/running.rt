@@ -18,7 +18,7 @@ use gixobj_commands::Command;
 use gixobj_editor::editor::{Editor, Written};
 use gixobj_hash::OutOfMemory;
 use gixobj_hash::hash::ObjectId;
-use gixobj_keeping::Keep;
+use gixobj_find::Keep;
 use gixobj_tree::Tree;
 use std::alloc::Global;
 

@@ -7,7 +7,7 @@ use gix_object::tree::EntryKind;
 use gix_object::tree::editor::{Edit, Editor, Error, WriteError, Written};
 use gix_object::{Tree, encode};
 use gixobj_callers::importer::{ImportError, import_files};
-use gixobj_store::Memory;
+use gixobj_find::Memory;
 use std::alloc::{AllocError, Global};
 use std::test::Fail;
 

@@ -9,7 +9,7 @@ use gix_object::tree::editor::{Error, WriteError, Written};
 use gix_object::tree::{Entry, EntryKind};
 use gix_object::{Find, Kind, Tree, encode};
 use gixobj_callers::planner::{PlanError, RootError, with_entry_in_stored};
-use gixobj_store::Memory;
+use gixobj_find::Memory;
 use std::alloc::{AllocError, Global};
 use std::test::Fail;
 

@@ -10,7 +10,7 @@ use gix_object::{Tree, encode};
 use gixobj_callers::planner::root_in;
 use gixobj_callers::rebuilder::{CompareError, wrote_the_same};
 use gixobj_callers::upload::{Upload, upload_of};
-use gixobj_store::Memory;
+use gixobj_find::Memory;
 use std::alloc::{AllocError, Global};
 use std::test::Fail;
 

@@ -22,7 +22,7 @@ ghost use Rattle.gixobj_tree.specs.Mode.{mode_of_kind};
 use super::names::{check_names, copy_names, join_paths};
 use super::{Editor, Error, WriteError, Written};
 use bstr::BString;
-use gixobj_data::Find;
+use gixobj_object::Find;
 use gixobj_directories::opening::Unasked;
 use gixobj_directories::write::write_at;
 use gixobj_hash::OutOfMemory;

@@ -1,7 +1,7 @@
 //! Why an edit is refused.
 use bstr::BString;
 use gixobj_directories::opening;
-use gixobj_lookups::find::existing_object;
+use gixobj_find::find::existing_object;
 use std::alloc::AllocError;
 
 /// The refusal of an edit. The editor's files are as they were.

@@ -18,7 +18,7 @@ ghost use Rattle.gixobj_editor.specs.Removals.{Judges, RefusesDirectoryAt, Refus
 use crate::editor::error::Error;
 use crate::editor::names::{check_names, judged};
 use bstr::BString;
-use gixobj_data::Find;
+use gixobj_object::Find;
 use gixobj_directories::open::Open;
 use gixobj_directories::opening::Unasked;
 use std::alloc::{AllocError, Global};

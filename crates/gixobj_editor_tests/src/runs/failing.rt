@@ -1,12 +1,11 @@
 //! A store that counts its lookups and keeps trees, and fails at some calls.
-ghost use Rattle.gixobj_store.specs.Memory.{memory_objects};
+ghost use Rattle.gixobj_find.specs.Memory.{memory_objects};
 
 use bstr::BString;
 use gixobj_base::Tree;
 use gixobj_base::hash::{ObjectId, oid};
-use gixobj_data::{Data, Find, Store, find};
-use gixobj_keeping::{Keep, KeepError};
-use gixobj_store::Memory;
+use gixobj_object::{Data, Find, Store, find};
+use gixobj_find::{Keep, KeepError, Memory};
 use std::alloc::Global;
 use std::cell::Cell;
 

@@ -7,7 +7,7 @@ use crate::samples::number_of;
 use gixobj_base::encode;
 use gixobj_base::hash::ObjectId;
 use gixobj_editor::editor::Error;
-use gixobj_keeping::KeepError;
+use gixobj_find::KeepError;
 use gixobj_runs::{Command, EditReply, Reply};
 use std::alloc::{AllocError, Global};
 use std::test::Fail;

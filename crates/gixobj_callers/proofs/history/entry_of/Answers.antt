@@ -5,7 +5,7 @@ use Rattle.gixobj_base.specs.hash.kind.Kind.TheVariants.{Tree}
 use Rattle.gixobj_codec.specs.CommitViews.{commit_lines}
 use Rattle.gixobj_codec.specs.Lookups.{IsAtPath, RefusesPath}
 use Rattle.gixobj_codec.specs.Stores.{Names, StoredObject}
-use Rattle.gixobj_lookups.specs.Existing.{RefusesReader}
+use Rattle.gixobj_find.specs.Existing.{RefusesReader}
 use Rattle.gixobj_callers.proofs.Commits.{at_start, err_of}
 use Rattle.gixobj_callers.specs.Ancestors.{HasTree, NamesCommit, NamesTreeId, RefusesEntry}
 use Rattle.gixobj_callers.specs.declared.history.Error.TheVariants as history

@@ -1,6 +1,6 @@
 use Rattle.std.proofs.Common.{List, ap, subst, ◌∙◌}
 use Rattle.gixobj_files.specs.State.{root_alone}
-use Rattle.gixobj_store.specs.Memory.{memory_objects}
+use Rattle.gixobj_find.specs.Memory.{memory_objects}
 use Rattle.gixobj_tree.specs.Entries.{EntryView}
 use Rattle.gixobj_edit.specs.Digests.{IsAnsweredDigest}
 use Rattle.gixobj_edit.specs.Edits.{IsNew}

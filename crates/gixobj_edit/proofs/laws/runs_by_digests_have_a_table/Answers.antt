@@ -1,6 +1,6 @@
 use Rattle.gixobj_directories.proofs.NamedTrees.{trees_of}
 use Rattle.gixobj_runs.specs.Commands.{pairs_handed_out}
-use Rattle.gixobj_store.specs.Memory.{memory_objects}
+use Rattle.gixobj_find.specs.Memory.{memory_objects}
 use Rattle.gixobj_edit.proofs.Fitting.{fits, handed_out_kinds, kept_as_themselves}
 use Rattle.gixobj_edit.proofs.laws.runs_by_digests_have_a_table.Goals as goal
 

@@ -2,7 +2,7 @@ use Rattle.std.proofs.Common.{ap, refl, subst, ◌∙◌, ℕ, List}
 use Rattle.gixobj_hash.specs.Hash.{id_of}
 use Rattle.gixobj_hash.specs.declared.kind.Kind.TheVariants.{Commit}
 use Rattle.gixobj_hash.specs.declared.hash.object_id.ObjectId.{ObjectId}
-use Rattle.gixobj_keeping.specs.Keeping.{RefusesKeepCommit, with_commit}
+use Rattle.gixobj_find.specs.Keeping.{RefusesKeepCommit, with_commit}
 use Rattle.gixobj_import.specs.Commits.{step_text}
 use Rattle.gixobj_import.specs.Edited.{meaning}
 use Rattle.gixobj_import.proofs.Digests.{hex_of_id, kind_of_digest}

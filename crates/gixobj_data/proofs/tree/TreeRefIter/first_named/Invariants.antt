@@ -1,5 +1,0 @@
-use Rattle.gixobj_data.proofs.Seeking.{Seeks}
-use Rattle.gixobj_data.proofs.tree.TreeRefIter.first_named.Given as goal
-
-abbrev pub invariant-loop-item : goal.invariant-loop-item
-invariant-loop-item l = Seeks l.fn.name l.fn.self l.item-iterator

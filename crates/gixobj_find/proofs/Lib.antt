@@ -1,0 +1,4 @@
+mod Nothing
+mod Objects
+mod OfKinds
+mod Trees

@@ -1,0 +1,32 @@
+-- What the store that keeps nothing finds and answers.
+use Rattle.std.proofs.Common.{◌≡◌, ℕ, List, [], None, Ok, Some, ap, false, length, refl, sym}
+use Rattle.std.proofs.lemmas.List.{append-nil}
+use Rattle.std.specs.FinMap as finite
+use Rattle.std.specs.Option.{option_map}
+use Rattle.std.specs.Prelude.{Option, is_some}
+use Rattle.gixobj_object.specs.Stores.{IsFound, IsHeaderFound, StoredObject, header, named}
+use Rattle.gixobj_hash.specs.Hash.{id_of}
+use Rattle.gixobj_hash.specs.Hash.Order.{id_cmp}
+use Rattle.gixobj_hash.specs.declared.hash.kind.Kind.TheVariants.{Sha1}
+use Rattle.gixobj_hash.specs.declared.hash.object_id.ObjectId.{ObjectId}
+use Rattle.gixobj_hash.specs.declared.kind.Kind.{Kind}
+use Rattle.gixobj_find.specs.Nothing.{AnswersId, AnswersKnownId}
+
+nothing : (id : ObjectId) → None ≡ named finite.empty id
+nothing id = sym (finite.get-empty id_cmp id)
+
+pub none_found : (id : ObjectId) → IsFound finite.empty id None
+none_found id = nothing id
+
+pub no_header_found : (id : ObjectId) → IsHeaderFound finite.empty id None
+no_header_found id = ap (option_map header) (nothing id)
+
+pub not_there : (id : ObjectId) → false ≡ is_some (named finite.empty id)
+not_there id = ap (λ (it : Option StoredObject). is_some it) (nothing id)
+
+-- the id of what is handed over whole
+pub answers_whole : (kind : Kind) (content : List ℕ) → AnswersId kind (length content) (Some content) (Ok (id_of Sha1 kind content))
+answers_whole kind content = (Some [], (content, record { taken = sym (append-nil content); counted = refl }, refl))
+
+pub answers_known : (id : ObjectId) (kind : Kind) (content : List ℕ) → AnswersKnownId id kind (length content) (Some content) (Ok id)
+answers_known id kind content = (refl, (Some [], (content, record { taken = sym (append-nil content); counted = refl })))

@@ -1,0 +1,12 @@
+use Rattle.std.proofs.Common.{◌≡◌, All, take}
+use Rattle.gixobj_hash.specs.declared.hash.object_id.ObjectId.{ObjectId}
+use Rattle.gixobj_find.specs.Keeping.{HasText, with_trees}
+use Rattle.gixobj_find.proofs.keeping.keep_all.Given as goal
+
+-- so many trees are kept
+abbrev pub invariant-loop-number : goal.invariant-loop-number
+invariant-loop-number g l = record {
+  kept : g.S.Store.objects l.store ≡ with_trees (take l.number l.trees) (g.S.Store.objects l.fn.store);
+  have_texts : All (λ kept. HasText kept.1) (take l.number l.trees);
+  may_fail : (id : ObjectId) → g.S.Store.may_fail l.store id ≡ g.S.Store.may_fail l.fn.store id;
+}

@@ -1,0 +1,9 @@
+pub mod Existing
+pub mod Keeping
+pub mod Memory
+pub mod Nothing
+pub mod Writers
+pub use Rattle.gixobj_fields.specs.StreamHash
+pub use Rattle.gixobj_fields.specs.Writing
+pub use Rattle.gixobj_object.specs.Stores
+pub use Rattle.gixobj_tree.specs.TreeText

@@ -1,0 +1,22 @@
+-- What the store in memory means.
+use Rattle.std.specs.Prelude.{map, ⊤}
+use Rattle.std.specs.FinMap as finite
+use Rattle.gixobj_object.specs.Stores.{Objects, StoredObject}
+use Rattle.gixobj_fields.specs.declared.encode.Error.{Error}
+use Rattle.gixobj_fields.specs.declared.encode.Error.TheVariants.{OutOfMemory, Writer}
+use Rattle.gixobj_find.specs.declared.memory.Memory.{Memory}
+use Rattle.gixobj_find.specs.declared.memory.Stored.{Stored}
+
+-- an object that is kept
+abbrev pub stored_object : Stored → StoredObject
+stored_object it = record { kind = it.kind; object_hash = it.object_hash; bytes = it.bytes.items }
+
+-- the objects that are kept, by their ids
+abbrev pub memory_objects : Memory → Objects
+memory_objects store = finite.from_entries (map (λ pair. (pair.0, stored_object pair.1)) store.objects.entries)
+
+-- a writer refused a value of the object, and neither failed nor had no memory
+abbrev pub IsForAValue : Error → Type 0
+IsForAValue (Writer cause) = ⊥
+IsForAValue OutOfMemory = ⊥
+IsForAValue other = ⊤

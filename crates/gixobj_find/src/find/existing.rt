@@ -1,0 +1,28 @@
+//! Why no object, or no header, is found.
+use gixobj_object::find;
+use gixobj_hash::hash::ObjectId;
+
+/// The refusal of [`FindExt::find`](crate::FindExt::find) and [`HeaderExt::header`](crate::HeaderExt::header).
+#[derive(Debug, Drop, thiserror::Error)]
+pub enum Error {
+    /// The lookup failed.
+    #[error("{0}")]
+    Find(find::Error),
+    /// The store has no object of this id.
+    #[error("no object has the id {oid}")]
+    NotFound {
+        /// The id that was asked for.
+        oid: ObjectId,
+    },
+}
+
+impl From<find::Error> for Error {
+    ghost use Rattle.std.specs.Prelude.{◌≡◌};
+    ghost use Rattle.gixobj_find.specs.declared.find.existing.Error.TheVariants as existing;
+
+    ghost from_gives = { λ cause error. error ≡ existing.Find cause };
+
+    fn from(cause: find::Error) -> Error {
+        Error::Find(cause)
+    }
+}

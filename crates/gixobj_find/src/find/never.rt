@@ -1,0 +1,48 @@
+//! The store that has nothing.
+ghost use Rattle.std.specs.Prelude.{◌≡◌, IfErr, IfOk, IsFalse, None, Ok, false, is_some};
+ghost use Rattle.std.specs.FinMap as map;
+ghost use Rattle.gixobj_object.specs.Stores.{IsFound, RefusesFind, named};
+ghost use Rattle.gixobj_hash.specs.Hash.Borrowed.{borrowed_id};
+
+mod header;
+mod write;
+
+use gixobj_object::{Data, Exists, Find, Store, find};
+use gixobj_hash::hash::oid;
+
+/// A store that keeps nothing and finds nothing. What is written into it gets its id, by SHA-1.
+#[derive(Clone, Copy, Debug)]
+pub struct Never;
+
+impl Store for Never {
+    ghost objects = { λ store. map.empty };
+
+    ghost may_fail = { λ store id. false };
+}
+
+/// It finds none, and takes no memory.
+impl Find for Never {
+    #[tactic(auto, using(crate::proofs::Nothing::none_found))]
+    fn try_find<'a>(
+        &self,
+        id: oid<'_>,
+        buffer: &'a mut Vec<u8>,
+    ) -> Result<Option<Data<'a>>, find::Error>
+        ensures found { IfOk result (IsFound map.empty (borrowed_id id.entry)) }
+        ensures refusal { IfErr result (RefusesFind (λ id. false) (borrowed_id id.entry)) }
+        ensures none { result ≡ Ok None }
+    {
+        Ok(None)
+    }
+}
+
+/// None is there.
+impl Exists for Never {
+    #[tactic(auto, using(crate::proofs::Nothing::not_there))]
+    fn exists(&self, id: oid<'_>) -> bool
+        ensures meaning { IsFalse false → result ≡ is_some (named map.empty (borrowed_id id.entry)) }
+        ensures none { result ≡ false }
+    {
+        false
+    }
+}

@@ -1,0 +1,93 @@
+//! What is written into the store that has nothing.
+ghost use Rattle.std.specs.Prelude.{◌≡◌, IfErr, IfOk, Ok, Some, length};
+ghost use Rattle.gixobj_fields.specs.StreamHash.{ReadsObject, SkipsExactly};
+ghost use Rattle.gixobj_hash.specs.Hash.{id_of};
+ghost use Rattle.gixobj_hash.specs.declared.hash.kind.Kind.TheVariants.{Sha1};
+ghost use Rattle.gixobj_find.specs.Nothing.{AnswersId, AnswersKnownId, RefusesRead};
+ghost use Rattle.gixobj_find.specs.Writers.{CannotEncode, IsWritten};
+
+use super::Never;
+use crate::traits::Write;
+use crate::write::Error;
+use gixobj_fields::WriteTo;
+use gixobj_fields::stream_hash::{compute_stream_hash, skip_stream};
+use gixobj_hash::hash::ObjectId;
+use gixobj_hash::{Kind, compute_hash, hash};
+use std::alloc::Global;
+use std::io::Read;
+
+/// Each call answers the id by SHA-1, or the one that is handed in.
+impl Write for Never {
+    ghost answers = { λ store. AnswersId };
+
+    ghost answers_known = { λ store. AnswersKnownId };
+
+    /// `Encode` where the object can't be written, and nothing else.
+    fn write<T: WriteTo>(&self, alloc: Global, object: &T) -> Result<ObjectId, Error>
+        requires { T.can_write object.now }
+        ensures written { IsWritten AnswersId (T.object_kind object.now) (T.refuses object.now) (T.text object.now) result }
+        ensures id { IfOk result (λ id. id ≡ id_of Sha1 (T.object_kind object.now) (T.text object.now)) }
+        ensures refusal { IfErr result (λ _. CannotEncode (T.refuses object.now) (T.text object.now) result) }
+    {
+        let mut text = Vec::new(alloc);
+        object.write_to_vec(alloc, &mut text)?;
+        Ok(compute_hash(hash::Kind::Sha1, object.kind(), &text))
+    }
+
+    /// It is never refused, and takes no memory.
+    #[tactic(auto, using(crate::proofs::Nothing::answers_whole))]
+    fn write_buf(&self, alloc: Global, kind: Kind, from: &[u8]) -> Result<ObjectId, Error>
+        ensures answer { AnswersId kind (length from.now) (Some from.now) result }
+        ensures id { result ≡ Ok (id_of Sha1 kind from.now) }
+    {
+        Ok(compute_hash(hash::Kind::Sha1, kind, from))
+    }
+
+    /// It is never refused, and takes no memory.
+    #[tactic(auto, using(crate::proofs::Nothing::answers_known))]
+    fn write_buf_with_known_id(
+        &self,
+        alloc: Global,
+        kind: Kind,
+        from: &[u8],
+        id: ObjectId,
+    ) -> Result<ObjectId, Error>
+        ensures answer { AnswersKnownId id kind (length from.now) (Some from.now) result }
+        ensures id { result ≡ Ok id }
+    {
+        Ok(id)
+    }
+
+    /// Exactly `size` bytes are read. `Read` where the stream fails, or ends before them. It takes no memory.
+    fn write_stream<R: Read>(
+        &self,
+        alloc: Global,
+        kind: Kind,
+        size: u64,
+        from: &mut R,
+    ) -> Result<ObjectId, Error>
+        ensures answer { AnswersId kind size (R.remaining from.old) result }
+        ensures read { IfOk result (ReadsObject Sha1 kind (R.remaining from.old) (R.remaining from.new) size) }
+        ensures refusal { IfErr result (RefusesRead (R.remaining from.old) (R.remaining from.new) size) }
+    {
+        Ok(compute_stream_hash(hash::Kind::Sha1, kind, from, size)?)
+    }
+
+    /// Exactly `size` bytes are read. `Read` where the stream fails, or ends before them. It takes no memory.
+    fn write_stream_with_known_id<R: Read>(
+        &self,
+        alloc: Global,
+        kind: Kind,
+        size: u64,
+        from: &mut R,
+        known: ObjectId,
+    ) -> Result<ObjectId, Error>
+        ensures answer { AnswersKnownId known kind size (R.remaining from.old) result }
+        ensures id { IfOk result (λ it. it ≡ known) }
+        ensures read { IfOk result (λ _. SkipsExactly (R.remaining from.old) (R.remaining from.new) size) }
+        ensures refusal { IfErr result (RefusesRead (R.remaining from.old) (R.remaining from.new) size) }
+    {
+        skip_stream(from, size)?;
+        Ok(known)
+    }
+}

@@ -1,0 +1,66 @@
+//! Why an object isn't written into a store.
+use bstr::BString;
+use gixobj_fields::{encode, stream_hash};
+use gixobj_hash::OutOfMemory;
+use std::alloc::AllocError;
+
+/// The refusal of the calls of [`Write`](crate::Write).
+#[derive(Debug, Drop, thiserror::Error)]
+pub enum Error {
+    /// The store failed, for the reason that it gives.
+    #[error("{0}")]
+    Store(BString),
+    /// The object can't be written.
+    #[error("{0}")]
+    Encode(encode::Error),
+    /// The stream failed, or ended early.
+    #[error("{0}")]
+    Read(stream_hash::Error),
+    /// There was no memory.
+    #[error("out of memory")]
+    OutOfMemory,
+}
+
+impl From<encode::Error> for Error {
+    ghost use Rattle.std.specs.Prelude.{◌≡◌};
+    ghost use Rattle.gixobj_find.specs.declared.write.Error.TheVariants as write;
+
+    ghost from_gives = { λ cause error. error ≡ write.Encode cause };
+
+    fn from(cause: encode::Error) -> Error {
+        Error::Encode(cause)
+    }
+}
+
+impl From<stream_hash::Error> for Error {
+    ghost use Rattle.std.specs.Prelude.{◌≡◌};
+    ghost use Rattle.gixobj_find.specs.declared.write.Error.TheVariants as write;
+
+    ghost from_gives = { λ cause error. error ≡ write.Read cause };
+
+    fn from(cause: stream_hash::Error) -> Error {
+        Error::Read(cause)
+    }
+}
+
+impl From<OutOfMemory> for Error {
+    ghost use Rattle.std.specs.Prelude.{◌≡◌};
+    ghost use Rattle.gixobj_find.specs.declared.write.Error.TheVariants as write;
+
+    ghost from_gives = { λ _ error. error ≡ write.OutOfMemory };
+
+    fn from(_: OutOfMemory) -> Error {
+        Error::OutOfMemory
+    }
+}
+
+impl From<AllocError> for Error {
+    ghost use Rattle.std.specs.Prelude.{◌≡◌};
+    ghost use Rattle.gixobj_find.specs.declared.write.Error.TheVariants as write;
+
+    ghost from_gives = { λ _ error. error ≡ write.OutOfMemory };
+
+    fn from(_: AllocError) -> Error {
+        Error::OutOfMemory
+    }
+}

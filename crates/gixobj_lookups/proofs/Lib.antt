@@ -1,2 +1,0 @@
-mod Nothing
-mod OfKinds

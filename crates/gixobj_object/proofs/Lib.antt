@@ -1,0 +1,9 @@
+mod BrokenTrees
+mod Contents
+pub mod Keeping
+mod PathTexts
+mod Paths
+mod SameIds
+mod Seeking
+mod Steps
+mod Walks

@@ -1,0 +1,43 @@
+//! The test that an object has the id by which it is named.
+ghost use Rattle.std.specs.Prelude.{◌≡◌, ◌↔◌, IfErr, IfOk, IsOk};
+ghost use Rattle.gixobj_hash.specs.Hash.{id_kind};
+ghost use Rattle.gixobj_hash.specs.Hash.Borrowed.{borrowed_id};
+ghost use Rattle.gixobj_object.specs.Checksums.{HasBothIds, checksum};
+
+use super::Data;
+use gixobj_hash::hash::{ObjectId, oid};
+use gixobj_hash::{compute_hash, hash};
+
+/// The refusal of [`Data::verify_checksum`].
+#[derive(Debug, Drop, thiserror::Error)]
+pub enum Error {
+    /// The object has another id than the expected one.
+    #[error("{0}")]
+    Verify(hash::verify::Error),
+}
+
+impl From<hash::verify::Error> for Error {
+    ghost use Rattle.gixobj_object.specs.declared.«data».verify.Error.TheVariants.{Verify};
+
+    ghost from_gives = { λ error it. it ≡ Verify error };
+
+    fn from(error: hash::verify::Error) -> Error {
+        Error::Verify(error)
+    }
+}
+
+impl Data<'_> {
+    /// The id of the object, where it is the expected one: the digest of its loose header and its content, of
+    /// the expected id's kind. It takes no memory.
+    ///
+    /// `Verify` where it is another, with both ids.
+    pub fn verify_checksum(&self, expected: oid<'_>) -> Result<ObjectId, Error>
+        ensures accepts { IsOk result ↔ (checksum (id_kind (borrowed_id expected.entry)) self.now ≡ borrowed_id expected.entry) }
+        ensures verified { IfOk result (λ id. id ≡ borrowed_id expected.entry) }
+        ensures refusal { IfErr result (HasBothIds (checksum (id_kind (borrowed_id expected.entry)) self.now) (borrowed_id expected.entry)) }
+    {
+        let actual = compute_hash(expected.kind(), self.kind, self.bytes);
+        actual.verify(expected)?;
+        Ok(actual)
+    }
+}

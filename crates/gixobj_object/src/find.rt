@@ -1,0 +1,48 @@
+//! Why a store of objects finds none.
+use bstr::BString;
+use gixobj_hash::OutOfMemory;
+use std::alloc::{AllocError, AllocFailed};
+
+/// The refusal of a lookup in a store.
+#[derive(Debug, Drop, thiserror::Error)]
+pub enum Error {
+    /// The store failed, for the reason that it gives.
+    #[error("{0}")]
+    Store(BString),
+    /// There was no memory.
+    #[error("out of memory")]
+    OutOfMemory,
+}
+
+impl From<OutOfMemory> for Error {
+    ghost use Rattle.std.specs.Prelude.{◌≡◌};
+    ghost use Rattle.gixobj_object.specs.declared.find.Error.TheVariants as find;
+
+    ghost from_gives = { λ _ error. error ≡ find.OutOfMemory };
+
+    fn from(_: OutOfMemory) -> Error {
+        Error::OutOfMemory
+    }
+}
+
+impl From<AllocError> for Error {
+    ghost use Rattle.std.specs.Prelude.{◌≡◌};
+    ghost use Rattle.gixobj_object.specs.declared.find.Error.TheVariants as find;
+
+    ghost from_gives = { λ _ error. error ≡ find.OutOfMemory };
+
+    fn from(_: AllocError) -> Error {
+        Error::OutOfMemory
+    }
+}
+
+impl<T: Drop> From<AllocFailed<T>> for Error {
+    ghost use Rattle.std.specs.Prelude.{◌≡◌};
+    ghost use Rattle.gixobj_object.specs.declared.find.Error.TheVariants as find;
+
+    ghost from_gives = { λ _ error. error ≡ find.OutOfMemory };
+
+    fn from(_: AllocFailed<T>) -> Error {
+        Error::OutOfMemory
+    }
+}

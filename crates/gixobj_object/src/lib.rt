@@ -1,0 +1,15 @@
+//! Objects of any kind, owned and borrowed: read by their kind or as loose objects, taken apart, written. Objects whose
+//! content is not yet read, trees told entry by entry, and what a store of objects is.
+#![tactic(auto)]
+
+pub mod data;
+pub mod find;
+pub mod laws;
+mod object;
+pub mod traits;
+pub mod tree;
+
+pub use data::Data;
+pub use object::{LooseDecodeError, Object, ObjectRef};
+pub use traits::{Exists, Find, FindHeader, FindObjectOrHeader, Store};
+pub use tree::TreeRefIter;

@@ -1,0 +1,109 @@
+//! Objects of any kind, borrowed (gitdatamodel, "objects").
+ghost use Rattle.std.specs.Prelude.{◌≡◌, ◌≢◌, MatchOption};
+ghost use Rattle.gixobj_object.specs.BorrowedObjects.{borrowed_kind};
+
+mod convert;
+mod decode;
+mod write;
+
+pub use decode::LooseDecodeError;
+use gixobj_commit::CommitRef;
+use gixobj_hash::Kind;
+use gixobj_tag::TagRef;
+use gixobj_tree::{BlobRef, TreeRef};
+
+/// An object of any kind, borrowed.
+#[derive(Clone, Debug, Drop, PartialEq, Eq, PartialOrd, Ord, Hash)]
+pub enum ObjectRef<'a> {
+    /// A directory.
+    Tree(TreeRef<'a>),
+    /// The content of a file.
+    Blob(BlobRef<'a>),
+    /// A state of a tree, with its parents.
+    Commit(CommitRef<'a>),
+    /// A name for another object.
+    Tag(TagRef<'a>),
+}
+
+/// Access
+impl<'a> ObjectRef<'a> {
+    /// The kind of the object.
+    pub fn kind(&self) -> Kind
+        ensures { result ≡ borrowed_kind self.now }
+    {
+        match self {
+            ObjectRef::Tree(_) => Kind::Tree,
+            ObjectRef::Blob(_) => Kind::Blob,
+            ObjectRef::Commit(_) => Kind::Commit,
+            ObjectRef::Tag(_) => Kind::Tag,
+        }
+    }
+
+    /// The tree, or none where the object is of another kind.
+    pub fn as_tree(&self) -> Option<&TreeRef<'a>>
+        ensures { MatchOption result (borrowed_kind self.now ≢ Kind.Tree) (λ tree. self.now ≡ ObjectRef.Tree tree.now) }
+    {
+        match self {
+            ObjectRef::Tree(tree) => Some(tree),
+            _ => None,
+        }
+    }
+
+    /// The blob, or none where the object is of another kind.
+    pub fn as_blob(&self) -> Option<&BlobRef<'a>>
+        ensures { MatchOption result (borrowed_kind self.now ≢ Kind.Blob) (λ blob. self.now ≡ ObjectRef.Blob blob.now) }
+    {
+        match self {
+            ObjectRef::Blob(blob) => Some(blob),
+            _ => None,
+        }
+    }
+
+    /// The commit, or none where the object is of another kind.
+    pub fn as_commit(&self) -> Option<&CommitRef<'a>>
+        ensures { MatchOption result (borrowed_kind self.now ≢ Kind.Commit) (λ commit. self.now ≡ ObjectRef.Commit commit.now) }
+    {
+        match self {
+            ObjectRef::Commit(commit) => Some(commit),
+            _ => None,
+        }
+    }
+
+    /// The tag, or none where the object is of another kind.
+    pub fn as_tag(&self) -> Option<&TagRef<'a>>
+        ensures { MatchOption result (borrowed_kind self.now ≢ Kind.Tag) (λ tag. self.now ≡ ObjectRef.Tag tag.now) }
+    {
+        match self {
+            ObjectRef::Tag(tag) => Some(tag),
+            _ => None,
+        }
+    }
+
+    /// The tree by itself, or none where the object is of another kind.
+    pub fn into_tree(self) -> Option<TreeRef<'a>>
+        ensures { MatchOption result (borrowed_kind self.entry ≢ Kind.Tree) (λ tree. self.entry ≡ ObjectRef.Tree tree) }
+    {
+        TreeRef::try_from(self).ok()
+    }
+
+    /// The blob by itself, or none where the object is of another kind.
+    pub fn into_blob(self) -> Option<BlobRef<'a>>
+        ensures { MatchOption result (borrowed_kind self.entry ≢ Kind.Blob) (λ blob. self.entry ≡ ObjectRef.Blob blob) }
+    {
+        BlobRef::try_from(self).ok()
+    }
+
+    /// The commit by itself, or none where the object is of another kind.
+    pub fn into_commit(self) -> Option<CommitRef<'a>>
+        ensures { MatchOption result (borrowed_kind self.entry ≢ Kind.Commit) (λ commit. self.entry ≡ ObjectRef.Commit commit) }
+    {
+        CommitRef::try_from(self).ok()
+    }
+
+    /// The tag by itself, or none where the object is of another kind.
+    pub fn into_tag(self) -> Option<TagRef<'a>>
+        ensures { MatchOption result (borrowed_kind self.entry ≢ Kind.Tag) (λ tag. self.entry ≡ ObjectRef.Tag tag) }
+    {
+        TagRef::try_from(self).ok()
+    }
+}

@@ -1,0 +1,152 @@
+//! Borrowed objects made of trees, blobs, commits and tags, taken apart into them, and copied.
+ghost use Rattle.std.specs.Prelude.{◌≡◌, ◌≢◌, IfErr, IfOk};
+ghost use Rattle.gixobj_object.specs.BorrowedObjects.{HasObjectIds, IsOwnedObject, RefusesOwningObject, borrowed_kind};
+
+use super::ObjectRef;
+use gixobj_commit::CommitRef;
+use gixobj_commit::commit::owned_copy;
+use gixobj_hash::decode::Error;
+use crate::Object;
+use gixobj_tag::TagRef;
+use gixobj_tree::{BlobRef, TreeRef};
+use std::alloc::Global;
+
+/// Conversion
+impl ObjectRef<'_> {
+    /// The same object, with parts of its own.
+    ///
+    /// `Malformed` where a line of an actor is none, and else `OutOfMemory` where memory is wanting.
+    pub fn into_owned(self, alloc: Global) -> Result<Object, Error>
+        requires { HasObjectIds self }
+        ensures owned { IfOk result (IsOwnedObject self.entry) }
+        ensures refusal { IfErr result (RefusesOwningObject self.entry) }
+    {
+        self.to_owned(alloc)
+    }
+
+    /// A copy of the object, with parts of its own: what [`ObjectRef::into_owned`] gives.
+    pub fn to_owned(&self, alloc: Global) -> Result<Object, Error>
+        requires { HasObjectIds self.now }
+        ensures owned { IfOk result (IsOwnedObject self.now) }
+        ensures refusal { IfErr result (RefusesOwningObject self.now) }
+    {
+        match self {
+            ObjectRef::Tree(tree) => Ok(Object::Tree(tree.to_owned(alloc)?)),
+            ObjectRef::Blob(blob) => Ok(Object::Blob(blob.into_owned(alloc)?)),
+            ObjectRef::Commit(commit) => Ok(Object::Commit(owned_copy(alloc, commit)?)),
+            ObjectRef::Tag(tag) => Ok(Object::Tag(tag.into_owned(alloc)?)),
+        }
+    }
+}
+
+impl<'a> From<TreeRef<'a>> for ObjectRef<'a> {
+    ghost use Rattle.gixobj_object.specs.declared.object.borrowed.ObjectRef.TheVariants as object;
+
+    ghost from_gives = { λ tree it. it ≡ object.Tree tree };
+
+    fn from(tree: TreeRef<'a>) -> ObjectRef<'a> {
+        ObjectRef::Tree(tree)
+    }
+}
+
+impl<'a> From<BlobRef<'a>> for ObjectRef<'a> {
+    ghost use Rattle.gixobj_object.specs.declared.object.borrowed.ObjectRef.TheVariants as object;
+
+    ghost from_gives = { λ blob it. it ≡ object.Blob blob };
+
+    fn from(blob: BlobRef<'a>) -> ObjectRef<'a> {
+        ObjectRef::Blob(blob)
+    }
+}
+
+impl<'a> From<CommitRef<'a>> for ObjectRef<'a> {
+    ghost use Rattle.gixobj_object.specs.declared.object.borrowed.ObjectRef.TheVariants as object;
+
+    ghost from_gives = { λ commit it. it ≡ object.Commit commit };
+
+    fn from(commit: CommitRef<'a>) -> ObjectRef<'a> {
+        ObjectRef::Commit(commit)
+    }
+}
+
+impl<'a> From<TagRef<'a>> for ObjectRef<'a> {
+    ghost use Rattle.gixobj_object.specs.declared.object.borrowed.ObjectRef.TheVariants as object;
+
+    ghost from_gives = { λ tag it. it ≡ object.Tag tag };
+
+    fn from(tag: TagRef<'a>) -> ObjectRef<'a> {
+        ObjectRef::Tag(tag)
+    }
+}
+
+/// The tree, or the object back where it is of another kind.
+impl<'a> TryFrom<ObjectRef<'a>> for TreeRef<'a> {
+    ghost use Rattle.std.specs.Prelude.{MatchResult};
+    ghost use Rattle.gixobj_hash.specs.declared.kind.Kind.TheVariants as kind;
+    ghost use Rattle.gixobj_object.specs.declared.object.borrowed.ObjectRef.TheVariants as object;
+
+    type Error = ObjectRef<'a>;
+
+    ghost try_from_gives = { λ it result. MatchResult result (λ tree. it ≡ object.Tree tree) (λ back. (back ≡ it) × (borrowed_kind it ≢ kind.Tree)) };
+
+    fn try_from(object: ObjectRef<'a>) -> Result<TreeRef<'a>, ObjectRef<'a>> {
+        match object {
+            ObjectRef::Tree(tree) => Ok(tree),
+            other => Err(other),
+        }
+    }
+}
+
+/// The blob, or the object back where it is of another kind.
+impl<'a> TryFrom<ObjectRef<'a>> for BlobRef<'a> {
+    ghost use Rattle.std.specs.Prelude.{MatchResult};
+    ghost use Rattle.gixobj_hash.specs.declared.kind.Kind.TheVariants as kind;
+    ghost use Rattle.gixobj_object.specs.declared.object.borrowed.ObjectRef.TheVariants as object;
+
+    type Error = ObjectRef<'a>;
+
+    ghost try_from_gives = { λ it result. MatchResult result (λ blob. it ≡ object.Blob blob) (λ back. (back ≡ it) × (borrowed_kind it ≢ kind.Blob)) };
+
+    fn try_from(object: ObjectRef<'a>) -> Result<BlobRef<'a>, ObjectRef<'a>> {
+        match object {
+            ObjectRef::Blob(blob) => Ok(blob),
+            other => Err(other),
+        }
+    }
+}
+
+/// The commit, or the object back where it is of another kind.
+impl<'a> TryFrom<ObjectRef<'a>> for CommitRef<'a> {
+    ghost use Rattle.std.specs.Prelude.{MatchResult};
+    ghost use Rattle.gixobj_hash.specs.declared.kind.Kind.TheVariants as kind;
+    ghost use Rattle.gixobj_object.specs.declared.object.borrowed.ObjectRef.TheVariants as object;
+
+    type Error = ObjectRef<'a>;
+
+    ghost try_from_gives = { λ it result. MatchResult result (λ commit. it ≡ object.Commit commit) (λ back. (back ≡ it) × (borrowed_kind it ≢ kind.Commit)) };
+
+    fn try_from(object: ObjectRef<'a>) -> Result<CommitRef<'a>, ObjectRef<'a>> {
+        match object {
+            ObjectRef::Commit(commit) => Ok(commit),
+            other => Err(other),
+        }
+    }
+}
+
+/// The tag, or the object back where it is of another kind.
+impl<'a> TryFrom<ObjectRef<'a>> for TagRef<'a> {
+    ghost use Rattle.std.specs.Prelude.{MatchResult};
+    ghost use Rattle.gixobj_hash.specs.declared.kind.Kind.TheVariants as kind;
+    ghost use Rattle.gixobj_object.specs.declared.object.borrowed.ObjectRef.TheVariants as object;
+
+    type Error = ObjectRef<'a>;
+
+    ghost try_from_gives = { λ it result. MatchResult result (λ tag. it ≡ object.Tag tag) (λ back. (back ≡ it) × (borrowed_kind it ≢ kind.Tag)) };
+
+    fn try_from(object: ObjectRef<'a>) -> Result<TagRef<'a>, ObjectRef<'a>> {
+        match object {
+            ObjectRef::Tag(tag) => Ok(tag),
+            other => Err(other),
+        }
+    }
+}

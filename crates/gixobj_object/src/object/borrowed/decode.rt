@@ -1,0 +1,114 @@
+//! Objects of any kind, read by their kind, or as loose objects (gitformat-loose, "Loose object format").
+ghost use Rattle.std.specs.Prelude.{◌≡◌, ◌≤◌, IfErr, IfOk, length, take};
+ghost use Rattle.gixobj_object.specs.BorrowedObjects.{HasObjectIds, IsReadyToWrite};
+ghost use Rattle.gixobj_object.specs.LooseObjects.{IsLooseObject, RefusesLooseObject, RefusesSize};
+ghost use Rattle.gixobj_object.specs.ObjectReading.{IsObjectText, RefusesObjectText};
+
+use super::ObjectRef;
+use gixobj_commit::CommitRef;
+use gixobj_hash::decode::{Error, LooseHeaderDecodeError, loose_header};
+use gixobj_hash::{Kind, hash};
+use gixobj_tag::TagRef;
+use gixobj_tree::{BlobRef, TreeRef};
+use std::alloc::Global;
+
+/// The refusal of [`ObjectRef::from_loose`].
+#[derive(Debug, Drop, thiserror::Error)]
+pub enum LooseDecodeError {
+    /// The input begins with no loose header, or has fewer bytes behind it than the header says.
+    #[error("{0}")]
+    InvalidHeader(LooseHeaderDecodeError),
+    /// The content is no object of the kind that the header says, or there was no memory for it.
+    #[error("{0}")]
+    InvalidContent(Error),
+    /// The header says a size that no address reaches. With addresses of 64 bits it never comes.
+    #[error("no room for an object of {size} bytes")]
+    OutOfMemory {
+        /// The size that the header says.
+        size: u64,
+    },
+}
+
+impl From<LooseHeaderDecodeError> for LooseDecodeError {
+    ghost use Rattle.gixobj_object.specs.declared.object.borrowed.decode.LooseDecodeError.TheVariants.{InvalidHeader};
+
+    ghost from_gives = { λ error it. it ≡ InvalidHeader error };
+
+    fn from(error: LooseHeaderDecodeError) -> LooseDecodeError {
+        LooseDecodeError::InvalidHeader(error)
+    }
+}
+
+impl From<Error> for LooseDecodeError {
+    ghost use Rattle.gixobj_object.specs.declared.object.borrowed.decode.LooseDecodeError.TheVariants.{InvalidContent};
+
+    ghost from_gives = { λ error it. it ≡ InvalidContent error };
+
+    fn from(error: Error) -> LooseDecodeError {
+        LooseDecodeError::InvalidContent(error)
+    }
+}
+
+/// Initialization
+impl<'a> ObjectRef<'a> {
+    /// The loose object with which the input begins, with ids of this kind: a header, and then as many bytes as
+    /// it says. Bytes behind these are ignored.
+    ///
+    /// `InvalidHeader` where the input begins with no header, or fewer bytes follow than it says;
+    /// `InvalidContent` where the bytes are no object of its kind, or memory was wanting for one.
+    pub fn from_loose(
+        alloc: Global,
+        input: &'a [u8],
+        hash_kind: hash::Kind,
+    ) -> Result<ObjectRef<'a>, LooseDecodeError>
+        ensures found { IfOk result (IsLooseObject hash_kind input.now) }
+        ensures has_ids { IfOk result HasObjectIds }
+        ensures ready { IfOk result IsReadyToWrite }
+        ensures refusal { IfErr result (RefusesLooseObject hash_kind input.now) }
+    {
+        let (kind, size, used) = loose_header(alloc, input)?;
+        let content = content_of(&input[used..], size)?;
+        Ok(ObjectRef::from_bytes(alloc, content, kind, hash_kind)?)
+    }
+
+    /// The object of this kind that the bytes are, with ids of this kind.
+    ///
+    /// `Malformed` where they are no such object's text. `OutOfMemory` comes only for a tree or a commit,
+    /// as their own readers say; a blob is never refused.
+    pub fn from_bytes(
+        alloc: Global,
+        bytes: &'a [u8],
+        kind: Kind,
+        hash_kind: hash::Kind,
+    ) -> Result<ObjectRef<'a>, Error>
+        ensures found { IfOk result (IsObjectText hash_kind kind bytes.now) }
+        ensures has_ids { IfOk result HasObjectIds }
+        ensures ready { IfOk result IsReadyToWrite }
+        ensures refusal { IfErr result (RefusesObjectText hash_kind kind bytes.now) }
+    {
+        match kind {
+            Kind::Tree => Ok(ObjectRef::Tree(TreeRef::from_bytes(alloc, bytes, hash_kind)?)),
+            Kind::Blob => Ok(ObjectRef::Blob(BlobRef::from_bytes(bytes))),
+            Kind::Commit => Ok(ObjectRef::Commit(CommitRef::from_bytes(alloc, bytes, hash_kind)?)),
+            Kind::Tag => Ok(ObjectRef::Tag(TagRef::from_bytes(bytes, hash_kind)?)),
+        }
+    }
+}
+
+/// The content of this size at the front of what follows a header, or the refusal where fewer bytes follow, or
+/// the size passes every address.
+fn content_of(behind: &[u8], size: u64) -> Result<&[u8], LooseDecodeError>
+    ensures found { IfOk result (λ content. (size ≤ length behind.now) × (content.now ≡ take size behind.now)) }
+    ensures refusal { IfErr result (RefusesSize behind.now size) }
+{
+    let Ok(len) = usize::try_from(size) else {
+        return Err(LooseDecodeError::OutOfMemory { size });
+    };
+    match behind.get(..len) {
+        Some(content) => Ok(content),
+        None => {
+            let message = "fewer bytes than the header of an object says";
+            Err(LooseHeaderDecodeError::InvalidHeader { message })?
+        }
+    }
+}

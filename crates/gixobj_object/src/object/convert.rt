@@ -1,0 +1,206 @@
+//! Objects made of trees, blobs, commits and tags, and taken apart into them. Nothing here takes memory.
+ghost use Rattle.std.specs.Prelude.{◌≡◌, ◌≢◌, MatchOption, MatchResult};
+ghost use Rattle.gixobj_object.specs.Objects.{owned_kind};
+
+use super::Object;
+use gixobj_commit::Commit;
+use gixobj_hash::Kind;
+use gixobj_tag::Tag;
+use gixobj_tree::{Blob, BlobRef, Tree};
+
+/// Conversion
+impl Object {
+    /// The blob, borrowed, or none where the object is of another kind.
+    pub fn try_into_blob_ref(&self) -> Option<BlobRef<'_>>
+        ensures { MatchOption result (owned_kind self.now ≢ Kind.Blob) (λ blob. (b : Blob) × (self.now ≡ Object.Blob b) × (blob.bytes.now ≡ b.bytes.items)) }
+    {
+        match self {
+            Object::Blob(blob) => Some(blob.to_ref()),
+            _ => None,
+        }
+    }
+
+    /// The tree, or the object back where it is of another kind.
+    pub fn try_into_tree(self) -> Result<Tree, Object>
+        ensures { MatchResult result (λ tree. self ≡ Object.Tree tree) (λ back. (back ≡ self) × (owned_kind self ≢ Kind.Tree)) }
+    {
+        match self {
+            Object::Tree(tree) => Ok(tree),
+            other => Err(other),
+        }
+    }
+
+    /// The blob, or the object back where it is of another kind.
+    pub fn try_into_blob(self) -> Result<Blob, Object>
+        ensures { MatchResult result (λ blob. self ≡ Object.Blob blob) (λ back. (back ≡ self) × (owned_kind self ≢ Kind.Blob)) }
+    {
+        match self {
+            Object::Blob(blob) => Ok(blob),
+            other => Err(other),
+        }
+    }
+
+    /// The commit, or the object back where it is of another kind.
+    pub fn try_into_commit(self) -> Result<Commit, Object>
+        ensures { MatchResult result (λ commit. self ≡ Object.Commit commit) (λ back. (back ≡ self) × (owned_kind self ≢ Kind.Commit)) }
+    {
+        match self {
+            Object::Commit(commit) => Ok(commit),
+            other => Err(other),
+        }
+    }
+
+    /// The tag, or the object back where it is of another kind.
+    pub fn try_into_tag(self) -> Result<Tag, Object>
+        ensures { MatchResult result (λ tag. self ≡ Object.Tag tag) (λ back. (back ≡ self) × (owned_kind self ≢ Kind.Tag)) }
+    {
+        match self {
+            Object::Tag(tag) => Ok(tag),
+            other => Err(other),
+        }
+    }
+
+    /// The tree that the object is.
+    pub fn into_tree(self) -> Tree
+        requires { owned_kind self ≡ Kind.Tree }
+        ensures { self ≡ Object.Tree result }
+    {
+        match self {
+            Object::Tree(tree) => tree,
+            _ => unreachable!(),
+        }
+    }
+
+    /// The blob that the object is.
+    pub fn into_blob(self) -> Blob
+        requires { owned_kind self ≡ Kind.Blob }
+        ensures { self ≡ Object.Blob result }
+    {
+        match self {
+            Object::Blob(blob) => blob,
+            _ => unreachable!(),
+        }
+    }
+
+    /// The commit that the object is.
+    pub fn into_commit(self) -> Commit
+        requires { owned_kind self ≡ Kind.Commit }
+        ensures { self ≡ Object.Commit result }
+    {
+        match self {
+            Object::Commit(commit) => commit,
+            _ => unreachable!(),
+        }
+    }
+
+    /// The tag that the object is.
+    pub fn into_tag(self) -> Tag
+        requires { owned_kind self ≡ Kind.Tag }
+        ensures { self ≡ Object.Tag result }
+    {
+        match self {
+            Object::Tag(tag) => tag,
+            _ => unreachable!(),
+        }
+    }
+}
+
+impl From<Tree> for Object {
+    ghost use Rattle.gixobj_object.specs.declared.object.Object.TheVariants as object;
+
+    ghost from_gives = { λ tree it. it ≡ object.Tree tree };
+
+    fn from(tree: Tree) -> Object {
+        Object::Tree(tree)
+    }
+}
+
+impl From<Blob> for Object {
+    ghost use Rattle.gixobj_object.specs.declared.object.Object.TheVariants as object;
+
+    ghost from_gives = { λ blob it. it ≡ object.Blob blob };
+
+    fn from(blob: Blob) -> Object {
+        Object::Blob(blob)
+    }
+}
+
+impl From<Commit> for Object {
+    ghost use Rattle.gixobj_object.specs.declared.object.Object.TheVariants as object;
+
+    ghost from_gives = { λ commit it. it ≡ object.Commit commit };
+
+    fn from(commit: Commit) -> Object {
+        Object::Commit(commit)
+    }
+}
+
+impl From<Tag> for Object {
+    ghost use Rattle.gixobj_object.specs.declared.object.Object.TheVariants as object;
+
+    ghost from_gives = { λ tag it. it ≡ object.Tag tag };
+
+    fn from(tag: Tag) -> Object {
+        Object::Tag(tag)
+    }
+}
+
+/// The tree, or the object back where it is of another kind.
+impl TryFrom<Object> for Tree {
+    ghost use Rattle.std.specs.Prelude.{MatchResult};
+    ghost use Rattle.gixobj_hash.specs.declared.kind.Kind.TheVariants as kind;
+    ghost use Rattle.gixobj_object.specs.declared.object.Object.TheVariants as object;
+
+    type Error = Object;
+
+    ghost try_from_gives = { λ it result. MatchResult result (λ tree. it ≡ object.Tree tree) (λ back. (back ≡ it) × (owned_kind it ≢ kind.Tree)) };
+
+    fn try_from(object: Object) -> Result<Tree, Object> {
+        object.try_into_tree()
+    }
+}
+
+/// The blob, or the object back where it is of another kind.
+impl TryFrom<Object> for Blob {
+    ghost use Rattle.std.specs.Prelude.{MatchResult};
+    ghost use Rattle.gixobj_hash.specs.declared.kind.Kind.TheVariants as kind;
+    ghost use Rattle.gixobj_object.specs.declared.object.Object.TheVariants as object;
+
+    type Error = Object;
+
+    ghost try_from_gives = { λ it result. MatchResult result (λ blob. it ≡ object.Blob blob) (λ back. (back ≡ it) × (owned_kind it ≢ kind.Blob)) };
+
+    fn try_from(object: Object) -> Result<Blob, Object> {
+        object.try_into_blob()
+    }
+}
+
+/// The commit, or the object back where it is of another kind.
+impl TryFrom<Object> for Commit {
+    ghost use Rattle.std.specs.Prelude.{MatchResult};
+    ghost use Rattle.gixobj_hash.specs.declared.kind.Kind.TheVariants as kind;
+    ghost use Rattle.gixobj_object.specs.declared.object.Object.TheVariants as object;
+
+    type Error = Object;
+
+    ghost try_from_gives = { λ it result. MatchResult result (λ commit. it ≡ object.Commit commit) (λ back. (back ≡ it) × (owned_kind it ≢ kind.Commit)) };
+
+    fn try_from(object: Object) -> Result<Commit, Object> {
+        object.try_into_commit()
+    }
+}
+
+/// The tag, or the object back where it is of another kind.
+impl TryFrom<Object> for Tag {
+    ghost use Rattle.std.specs.Prelude.{MatchResult};
+    ghost use Rattle.gixobj_hash.specs.declared.kind.Kind.TheVariants as kind;
+    ghost use Rattle.gixobj_object.specs.declared.object.Object.TheVariants as object;
+
+    type Error = Object;
+
+    ghost try_from_gives = { λ it result. MatchResult result (λ tag. it ≡ object.Tag tag) (λ back. (back ≡ it) × (owned_kind it ≢ kind.Tag)) };
+
+    fn try_from(object: Object) -> Result<Tag, Object> {
+        object.try_into_tag()
+    }
+}

@@ -1,0 +1,41 @@
+//! Objects of any kind, written.
+
+use super::Object;
+use gixobj_fields::WriteTo;
+use gixobj_fields::encode::Error;
+use gixobj_fields::streams::Sink;
+use gixobj_hash::Kind;
+use std::alloc::Global;
+
+/// An object is written as its tree, its blob, its commit or its tag is, and refused as that is.
+impl WriteTo for Object {
+    ghost use Rattle.gixobj_object.specs.Objects.{RefusesOwnedObject, owned_kind, owned_object_text};
+
+    ghost object_kind = { owned_kind };
+
+    ghost text = { owned_object_text };
+
+    ghost refuses = { RefusesOwnedObject };
+
+    fn write_into<S: Sink>(&self, alloc: Global, sink: &mut S) -> Result<(), Error> {
+        match self {
+            Object::Tree(tree) => tree.write_into(alloc, sink),
+            Object::Blob(blob) => blob.write_into(alloc, sink),
+            Object::Commit(commit) => commit.write_into(alloc, sink),
+            Object::Tag(tag) => tag.write_into(alloc, sink),
+        }
+    }
+
+    fn kind(&self) -> Kind {
+        self.kind()
+    }
+
+    fn size(&self) -> Option<u64> {
+        match self {
+            Object::Tree(tree) => tree.size(),
+            Object::Blob(blob) => blob.size(),
+            Object::Commit(commit) => commit.size(),
+            Object::Tag(tag) => tag.size(),
+        }
+    }
+}

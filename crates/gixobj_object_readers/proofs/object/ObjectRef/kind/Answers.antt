@@ -1,5 +1,0 @@
-use Rattle.std.proofs.Common.{rules}
-use Rattle.gixobj_object_readers.proofs.object.ObjectRef.kind.Goals as goal
-
-pub returns-in-Blob : goal.returns-in-Blob
-returns-in-Blob c = search rules

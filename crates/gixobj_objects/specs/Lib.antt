@@ -1,9 +1,0 @@
-pub mod Objects
-pub use Rattle.gixobj_commit.specs.CommitViews
-pub use Rattle.gixobj_commit.specs.CommitWriting
-pub use Rattle.gixobj_fields.specs.Streams
-pub use Rattle.gixobj_fields.specs.Writing
-pub use Rattle.gixobj_hash.specs.Encode
-pub use Rattle.gixobj_tag.specs.TagViews
-pub use Rattle.gixobj_tag.specs.TagWriting
-pub use Rattle.gixobj_tree.specs.TreeText

@@ -1,7 +1,0 @@
-use Rattle.std.proofs.Common.{arith}
-use Rattle.std.proofs.lemmas.Grind.{common_steps}
-use Rattle.gixobj_store.proofs.Objects.{kept}
-use Rattle.gixobj_store.proofs.MemoryFind.try_find.Goals as goal
-
-pub returns-clause-found : goal.returns-clause-found
-returns-clause-found c = grind (arith, common_steps, kept)
