@@ -1,8 +1,11 @@
 pub use Rattle.gixobj_directories.specs.Calls
 pub use Rattle.gixobj_directories.specs.Handing
 pub use Rattle.gixobj_directories.specs.Openings
+pub use Rattle.gixobj_editor.specs.Commands
 pub use Rattle.gixobj_editor.specs.Cursors
 pub use Rattle.gixobj_editor.specs.Removals
+pub use Rattle.gixobj_editor.specs.Replies
+pub use Rattle.gixobj_editor.specs.RunTables
 pub use Rattle.gixobj_editor.specs.Upserts
 pub use Rattle.gixobj_editor.specs.Writes
 pub use Rattle.gixobj_files.specs.Editing
@@ -22,9 +25,6 @@ pub use Rattle.gixobj_find.specs.Writers
 pub use Rattle.gixobj_import.specs.ByDigest
 pub use Rattle.gixobj_import.specs.Imports
 pub use Rattle.gixobj_import.specs.Steps
-pub use Rattle.gixobj_runs.specs.Commands
-pub use Rattle.gixobj_runs.specs.Replies
-pub use Rattle.gixobj_runs.specs.RunTables
 pub use Rattle.gixobj_signature.specs.Calls as ProgramCalls
 pub use Rattle.gixobj_signature.specs.Fields
 pub use Rattle.gixobj_signature.specs.GpgReports

@@ -6,4 +6,4 @@ pub use gixobj_files::laws::{
     every_store_has_its_own_table, fitting_pairs_have_a_table,
 };
 pub use gixobj_import::laws::fitting_imports_have_a_table;
-pub use gixobj_runs::laws::{fitting_runs_have_a_table, trees_read_as_themselves};
+pub use gixobj_editor::laws::{fitting_runs_have_a_table, trees_read_as_themselves};

@@ -5,9 +5,9 @@
 #![tactic(auto)]
 
 use gixobj_base::streams::ToWrite;
-use gixobj_edit::engine::engine;
-use gixobj_loose::engine::tell;
-use gixobj_loose::words::words_of_process;
+use gixobj_script::engine::engine;
+use gixobj_show::engine::tell;
+use gixobj_show::words::words_of_process;
 use std::process::ExitCode;
 
 fn main(rt: HostRuntime) -> ExitCode {

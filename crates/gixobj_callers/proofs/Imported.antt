@@ -7,8 +7,8 @@ use Rattle.gixobj_base.specs.Entries.{EntryView}
 use Rattle.gixobj_callers.specs.Imports.{AreDone, Decides, IsWriteBehind, import_steps, steps_if_done}
 use Rattle.gixobj_callers.proofs.Alone.{root_files}
 use Rattle.gixobj_callers.proofs.Histories.{history_append, same_history, same_refl, same_sym, same_trans}
-use Rattle.gixobj_commands.specs.declared.command.Edit.{Edit}
-use Rattle.gixobj_commands.specs.declared.command.Edit.TheVariants as edit
+use Rattle.gixobj_editor.specs.declared.command.Edit.{Edit}
+use Rattle.gixobj_editor.specs.declared.command.Edit.TheVariants as edit
 use Rattle.gixobj_object.specs.Stores.{Objects}
 use Rattle.gixobj_directories.specs.Openings.{AreTreesOf}
 use Rattle.gixobj_directories.specs.declared.write.Written.{Written}
@@ -19,11 +19,11 @@ use Rattle.gixobj_files.specs.Opening.{OpenFiles}
 use Rattle.gixobj_files.specs.State.{DirMap, EditorFiles, State, open_bases, open_dirs}
 use Rattle.gixobj_files.specs.Tables.{AgreesWithPairs, AgreesWithStore, Pair}
 use Rattle.gixobj_find.specs.Keeping.{with_trees}
-use Rattle.gixobj_runs.specs.Commands.{at_root}
-use Rattle.gixobj_runs.specs.Replies.{Answers, IsEditReply, Meaning}
-use Rattle.gixobj_runs.specs.RunTables.{AgreesWithObjects}
-use Rattle.gixobj_runs.specs.declared.reply.EditReply.{EditReply}
-use Rattle.gixobj_runs.specs.declared.reply.EditReply.TheVariants as edit_reply
+use Rattle.gixobj_editor.specs.Commands.{at_root}
+use Rattle.gixobj_editor.specs.Replies.{Answers, IsEditReply, Meaning}
+use Rattle.gixobj_editor.specs.RunTables.{AgreesWithObjects}
+use Rattle.gixobj_editor.specs.declared.reply.EditReply.{EditReply}
+use Rattle.gixobj_editor.specs.declared.reply.EditReply.TheVariants as edit_reply
 
 -- what agrees with the objects agrees with their trees
 agrees_with_trees : (T : Table) (objects : Objects) (trees : Trees) → AreTreesOf objects trees → AgreesWithObjects T objects → AgreesWithStore T trees

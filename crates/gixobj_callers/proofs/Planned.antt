@@ -19,8 +19,8 @@ use Rattle.gixobj_files.specs.Files.{Files, NamedFiles, Path, SameFiles, Table, 
 use Rattle.gixobj_files.specs.State.{EditorFiles, State, open_bases, open_dirs, root_alone}
 use Rattle.gixobj_files.specs.Tables.{AgreesWithPairs, AgreesWithStore, Pair}
 use Rattle.gixobj_find.specs.Existing.{IsEmptyId}
-use Rattle.gixobj_runs.specs.Replies.{Meaning}
-use Rattle.gixobj_runs.specs.RunTables.{OfTrees}
+use Rattle.gixobj_editor.specs.Replies.{Meaning}
+use Rattle.gixobj_editor.specs.RunTables.{OfTrees}
 
 -- an editor with these parts is a new one
 pub is_started : {S : Type 0} (state : State S) (store : S) (object_hash : Kind) (entries : List EntryView) → state.dirs ≡ root_alone entries → state.bases ≡ root_alone [] → state.store ≡ store → state.lookups ≡ 0

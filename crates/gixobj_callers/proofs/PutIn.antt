@@ -20,8 +20,8 @@ use Rattle.gixobj_files.specs.Files.{Assured, Files, NamedFiles, Path, SameFiles
 use Rattle.gixobj_files.specs.History.{History}
 use Rattle.gixobj_files.specs.State.{EditorFiles, State, open_bases, open_dirs}
 use Rattle.gixobj_files.specs.Tables.{AgreesWithPairs, AgreesWithStore, Pair}
-use Rattle.gixobj_runs.specs.Replies.{Meaning}
-use Rattle.gixobj_runs.specs.RunTables.{OfTrees}
+use Rattle.gixobj_editor.specs.Replies.{Meaning}
+use Rattle.gixobj_editor.specs.RunTables.{OfTrees}
 
 module _ {S : Type 0} (means : Meaning S) (prefix : Path) where
   one_more : (old mid new : State S) (entries : List Planned) (entry : Planned) → ArePutIn means prefix old entries mid → IsPutInAt means prefix mid entry new → ArePutIn means prefix old (entries ++ entry ∷ []) new

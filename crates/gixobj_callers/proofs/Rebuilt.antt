@@ -6,16 +6,16 @@ use Rattle.gixobj_callers.specs.Plans.{started}
 use Rattle.gixobj_callers.specs.Rebuilds.{AreReplies, IsCompared, Names, RefusesComparison, id_named, up_to}
 use Rattle.gixobj_callers.specs.declared.rebuilder.CompareError.{CompareError}
 use Rattle.gixobj_callers.specs.declared.rebuilder.CompareError.TheVariants as compare
-use Rattle.gixobj_commands.specs.declared.command.Command.{Command}
+use Rattle.gixobj_editor.specs.declared.command.Command.{Command}
 use Rattle.gixobj_directories.specs.declared.write.Written.{Written}
 use Rattle.gixobj_files.specs.Files.{SameFiles, Table}
 use Rattle.gixobj_files.specs.History.{Step}
 use Rattle.gixobj_files.specs.PlainHistory.{NoFiles, PlainHistory}
 use Rattle.gixobj_files.specs.State.{State}
-use Rattle.gixobj_runs.specs.Commands.{accepted_steps, written_at, written_by}
-use Rattle.gixobj_runs.specs.OneId.{IdsTellFiles, IsPlainRun, files_before}
-use Rattle.gixobj_runs.specs.Replies.{Answers, IsRun, Meaning}
-use Rattle.gixobj_runs.specs.declared.reply.Reply.{Reply}
+use Rattle.gixobj_editor.specs.Commands.{accepted_steps, written_at, written_by}
+use Rattle.gixobj_editor.specs.OneId.{IdsTellFiles, IsPlainRun, files_before}
+use Rattle.gixobj_editor.specs.Replies.{Answers, IsRun, Meaning}
+use Rattle.gixobj_editor.specs.declared.reply.Reply.{Reply}
 
 -- what the first replies tell, all of them tell
 written_front : {E : Type 0} (m k : ℕ) (replies : List (Reply E)) → k < m → written_at (take m replies) k ≡ written_at replies k

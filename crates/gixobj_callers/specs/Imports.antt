@@ -3,20 +3,20 @@ use Rattle.std.specs.Prelude.{◌≡◌, ◌++◌, ◌∷◌, ℕ, Bool, true, f
 use Rattle.gixobj_base.specs.Mode.{mode_of_kind}
 use Rattle.gixobj_callers.specs.declared.importer.ImportError.{ImportError}
 use Rattle.gixobj_callers.specs.declared.importer.ImportError.TheVariants as import
-use Rattle.gixobj_commands.specs.declared.command.Command.{Command}
-use Rattle.gixobj_commands.specs.declared.command.Command.TheVariants as command
-use Rattle.gixobj_commands.specs.declared.command.Edit.{Edit}
-use Rattle.gixobj_commands.specs.declared.command.Edit.TheVariants as edit
+use Rattle.gixobj_editor.specs.declared.command.Command.{Command}
+use Rattle.gixobj_editor.specs.declared.command.Command.TheVariants as command
+use Rattle.gixobj_editor.specs.declared.command.Edit.{Edit}
+use Rattle.gixobj_editor.specs.declared.command.Edit.TheVariants as edit
 use Rattle.gixobj_directories.specs.Calls.{names_of}
 use Rattle.gixobj_editor.specs.declared.editor.error.Error.{Error}
 use Rattle.gixobj_files.specs.History.{Step, remove, upsert}
 use Rattle.gixobj_files.specs.State.{State}
-use Rattle.gixobj_runs.specs.Commands.{at_root}
-use Rattle.gixobj_runs.specs.Replies.{Answers, AreEditReplies, IsEditReply, IsRun, Meaning}
-use Rattle.gixobj_runs.specs.declared.reply.EditReply.{EditReply}
-use Rattle.gixobj_runs.specs.declared.reply.EditReply.TheVariants as edit_reply
-use Rattle.gixobj_runs.specs.declared.reply.Reply.{Reply}
-use Rattle.gixobj_runs.specs.declared.reply.Reply.TheVariants as reply
+use Rattle.gixobj_editor.specs.Commands.{at_root}
+use Rattle.gixobj_editor.specs.Replies.{Answers, AreEditReplies, IsEditReply, IsRun, Meaning}
+use Rattle.gixobj_editor.specs.declared.reply.EditReply.{EditReply}
+use Rattle.gixobj_editor.specs.declared.reply.EditReply.TheVariants as edit_reply
+use Rattle.gixobj_editor.specs.declared.reply.Reply.{Reply}
+use Rattle.gixobj_editor.specs.declared.reply.Reply.TheVariants as reply
 
 -- what an edit that comes through does to the files; a write does nothing
 abbrev pub steps_if_done : Edit → List Step

@@ -18,8 +18,8 @@ use Rattle.gixobj_files.specs.HandingOut.{HandsOutSome}
 use Rattle.gixobj_files.specs.State.{State, open_bases, open_dirs, root_alone}
 use Rattle.gixobj_files.specs.Tables.{Pair}
 use Rattle.gixobj_find.specs.Existing.{IsEmptyId, NamesSuch, RefusesObject}
-use Rattle.gixobj_runs.specs.Replies.{Meaning}
-use Rattle.gixobj_runs.specs.RunTables.{OfTrees}
+use Rattle.gixobj_editor.specs.Replies.{Meaning}
+use Rattle.gixobj_editor.specs.RunTables.{OfTrees}
 use Rattle.gixobj_callers.specs.declared.planner.PlanError.{PlanError}
 use Rattle.gixobj_callers.specs.declared.planner.PlanError.TheVariants as plan
 use Rattle.gixobj_callers.specs.declared.planner.RootError.{RootError}

@@ -10,8 +10,8 @@ ghost use Rattle.gixobj_files.specs.History.{History};
 ghost use Rattle.gixobj_files.specs.State.{EditorFiles, open_bases, open_dirs};
 ghost use Rattle.gixobj_files.specs.Tables.{AgreesWithPairs};
 ghost use Rattle.gixobj_find.specs.Keeping.{with_trees};
-ghost use Rattle.gixobj_runs.specs.Replies.{IsCallable};
-ghost use Rattle.gixobj_runs.specs.RunTables.{AgreesWithObjects};
+ghost use Rattle.gixobj_editor.specs.Replies.{IsCallable};
+ghost use Rattle.gixobj_editor.specs.RunTables.{AgreesWithObjects};
 ghost use Rattle.gixobj_callers.specs.Copies.{FailsForPart};
 ghost use Rattle.gixobj_callers.specs.Imports.{Decides, FailsImport, IsWriteBehind, edits_and_write, is_done, import_steps};
 
@@ -23,7 +23,7 @@ use gixobj_codec::laws::{commit_has_one_reading, owned_forms_have_the_parts};
 use gixobj_directories::laws::every_store_names_trees;
 use gixobj_editor::editor::{Editor, Error, WriteError, Written};
 use gixobj_find::{Keep, KeepError};
-use gixobj_runs::{Command, Edit, EditReply, Reply, run};
+use gixobj_editor::{Command, Edit, EditReply, Reply, run};
 use std::alloc::Global;
 use std::fmt::Display;
 

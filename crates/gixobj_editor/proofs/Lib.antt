@@ -1,12 +1,25 @@
+mod Agreeing
+pub mod Answered
 mod AssuredAt
+mod Calling
 mod CursorStays
 mod Edited
 mod FoundBelow
+mod Histories
 mod InPart
+mod Keeping
+mod Kept
+pub mod KeptPairs
+mod Named
+pub mod OneId
+mod OneMore
 mod Paths
+pub mod Plainly
 mod RemovedAt
 mod Removing
+mod Replied
 mod RootAlone
 mod StillOn
+pub mod Told
 mod WrittenBelow
 mod WrittenOut

@@ -4,7 +4,7 @@ mod growths;
 
 use crate::streams::words_in;
 use gixobj_base_tests::limited::{Limited, Stepping};
-use gixobj_edit::engine::engine;
+use gixobj_script::engine::engine;
 use std::alloc::{AllocError, Global};
 use std::test::Fail;
 

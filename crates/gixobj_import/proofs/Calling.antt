@@ -14,7 +14,7 @@ use Rattle.gixobj_files.specs.Tables.{Pair}
 use Rattle.gixobj_hash.specs.declared.hash.kind.Kind as hash
 use Rattle.gixobj_hash.specs.declared.hash.object_id.ObjectId.{ObjectId}
 use Rattle.gixobj_tree.specs.Entries.{EntryView}
-use Rattle.gixobj_runs.specs.Replies.{Denies, Gives}
+use Rattle.gixobj_editor.specs.Replies.{Denies, Gives}
 use Rattle.gixobj_import.specs.Edited.{Digests}
 
 module _ {F : Type 0} (hash : hash.Kind) (of : Mut F (Bor (List EntryView) × Unit {0}) (Result ObjectId encode.Error)) (out : F)

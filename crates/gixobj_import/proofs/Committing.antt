@@ -6,7 +6,7 @@ use Rattle.gixobj_hash.specs.Hash.{hex_text}
 use Rattle.gixobj_hash.specs.Hash.Hex.{IsHexOf}
 use Rattle.gixobj_hash.specs.declared.hash.kind.Kind as hash
 use Rattle.gixobj_hash.specs.declared.hash.object_id.ObjectId.{ObjectId}
-use Rattle.gixobj_runs.specs.Replies.{Meaning}
+use Rattle.gixobj_editor.specs.Replies.{Meaning}
 use Rattle.gixobj_import.specs.ByDigest.{AddsByDigest, NamesByDigest}
 use Rattle.gixobj_import.specs.Commits.{only_parent, step_text}
 use Rattle.gixobj_import.specs.Imports.{AreCommitsOf, IsNew}

@@ -17,7 +17,7 @@ use Rattle.gixobj_hash.specs.declared.kind.Kind as kind
 use Rattle.gixobj_hash.specs.declared.kind.Kind.TheVariants.{Commit, Tree}
 use Rattle.gixobj_find.specs.Keeping.{commit_object, tree_object, with_commit, with_tree, with_trees}
 use Rattle.gixobj_tree.specs.TreeText.{tree_text}
-use Rattle.gixobj_runs.specs.Replies.{Gives}
+use Rattle.gixobj_editor.specs.Replies.{Gives}
 use Rattle.gixobj_import.specs.ByDigest.{AddsByDigest, NamesByDigest, digest_id}
 use Rattle.gixobj_import.specs.Edited.{Digests}
 use Rattle.gixobj_import.specs.Steps.{HaveHex}

@@ -11,8 +11,8 @@ use Rattle.gixobj_files.specs.State.{EditorFiles, State, open_bases, open_dirs}
 use Rattle.gixobj_files.specs.Tables.{AgreesWithPairs, Pair}
 use Rattle.gixobj_hash.specs.declared.hash.object_id.ObjectId.{ObjectId}
 use Rattle.gixobj_find.specs.Keeping.{with_commit, with_trees}
-use Rattle.gixobj_runs.specs.Replies.{Meaning}
-use Rattle.gixobj_runs.specs.RunTables.{AgreesWithObjects}
+use Rattle.gixobj_editor.specs.Replies.{Meaning}
+use Rattle.gixobj_editor.specs.RunTables.{AgreesWithObjects}
 use Rattle.gixobj_import.specs.Commits.{step_text}
 use Rattle.gixobj_import.specs.Edited.{steps_of_edit}
 use Rattle.gixobj_import.specs.Imports.{AgreesWithImports, AgreesWithStep, HasFilesOf, HaveFiles, HaveFilesOfNothing, IsNew, edits_of, no_files, pairs_of_imports, with_imports}

@@ -9,9 +9,9 @@ use Rattle.gixobj_hash.specs.declared.hash.kind.Kind as hash
 use Rattle.gixobj_hash.specs.declared.hash.object_id.ObjectId.{ObjectId}
 use Rattle.gixobj_find.specs.Keeping.{HasText, StopsKeeping, with_trees}
 use Rattle.gixobj_find.specs.declared.keeping.KeepError.{KeepError}
-use Rattle.gixobj_runs.specs.Commands.{at_root}
-use Rattle.gixobj_runs.specs.Replies.{Gives, IsWriteKept, IsWrittenAt, KeepsAll, Meaning}
-use Rattle.gixobj_runs.specs.declared.reply.EditReply.TheVariants as reply
+use Rattle.gixobj_editor.specs.Commands.{at_root}
+use Rattle.gixobj_editor.specs.Replies.{Gives, IsWriteKept, IsWrittenAt, KeepsAll, Meaning}
+use Rattle.gixobj_editor.specs.declared.reply.EditReply.TheVariants as reply
 use Rattle.gixobj_import.specs.Edited.{Digests, IsWriteReplied}
 
 module _ {S : Type 0} (means : Meaning S) (hash : hash.Kind) (old between new : State S) (start left : S) (it : Written) (lent : List Pair) (written : IsWritten (Gives (Digests hash)) tt old it between tt)

@@ -3,14 +3,14 @@ use Rattle.std.proofs.Common.{◌≡◌, ◌∙◌, ◌<◌, ◌≤◌, ◌+◌,
 use Rattle.std.proofs.lemmas.Bool.{true≢false}
 use Rattle.std.proofs.lemmas.List.{take_all, take_more}
 use Rattle.std.specs.Prelude.{◌↔◌, Bool, true, false, Contains, IfErr, IfOk, IsTrue, slice_get}
-use Rattle.gixobj_commands.specs.declared.command.Edit.{Edit}
-use Rattle.gixobj_commands.specs.declared.command.Edit.TheVariants as edit
+use Rattle.gixobj_editor.specs.declared.command.Edit.{Edit}
+use Rattle.gixobj_editor.specs.declared.command.Edit.TheVariants as edit
 use Rattle.gixobj_directories.specs.declared.write.Written.{Written}
 use Rattle.gixobj_files.specs.State.{State}
 use Rattle.gixobj_hash.specs.declared.hash.kind.Kind as hash
 use Rattle.gixobj_hash.specs.declared.hash.object_id.ObjectId.{ObjectId}
-use Rattle.gixobj_runs.specs.Replies.{Meaning}
-use Rattle.gixobj_runs.specs.declared.reply.EditReply.TheVariants as reply
+use Rattle.gixobj_editor.specs.Replies.{Meaning}
+use Rattle.gixobj_editor.specs.declared.reply.EditReply.TheVariants as reply
 use Rattle.gixobj_import.specs.Edited.{AreDone, IsWriteBehind, IsWriteReplied}
 use Rattle.gixobj_import.specs.Steps.{AreImported, IsFailed, IsImported, RefusesCommit, RefusesEdits, RefusesStep, RefusesText, RefusesWrite, Stops}
 use Rattle.gixobj_import.specs.declared.import.ImportError.{ImportError}

@@ -1,6 +1,6 @@
 -- An import of a new importer that came to a stop.
 use Rattle.std.proofs.Common.{inl, inr, List, [], ◌∷◌, None, ap, length, take}
-use Rattle.gixobj_runs.specs.Replies.{Meaning}
+use Rattle.gixobj_editor.specs.Replies.{Meaning}
 use Rattle.gixobj_import.specs.ByDigest.{AddsByDigest}
 use Rattle.gixobj_import.specs.Imports.{AreCommitsOf, HaveFilesOfNothing, IsNew}
 use Rattle.gixobj_import.specs.Steps.{Stops}

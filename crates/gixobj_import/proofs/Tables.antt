@@ -8,7 +8,7 @@ use Rattle.gixobj_files.specs.Tables.{AgreesWithPairs, AgreesWithStore, FitsBesi
 use Rattle.gixobj_hash.specs.declared.hash.object_id.ObjectId.{ObjectId}
 use Rattle.gixobj_hash.specs.declared.kind.Kind.TheVariants.{Tree}
 use Rattle.gixobj_find.specs.Keeping.{commit_object, tree_object, with_commit, with_tree, with_trees}
-use Rattle.gixobj_runs.specs.RunTables.{AgreesWithObjects, ReadsAsItself}
+use Rattle.gixobj_editor.specs.RunTables.{AgreesWithObjects, ReadsAsItself}
 use Rattle.gixobj_tree.specs.TreeReading.{IsTreeText}
 use Rattle.gixobj_tree.specs.Entries.{EntryView}
 use Rattle.gixobj_import.specs.Commits.{step_text}

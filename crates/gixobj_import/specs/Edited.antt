@@ -1,7 +1,7 @@
 -- Edits of a step, which come through one after the other, and the write behind them.
 use Rattle.std.specs.Prelude.{◌≡◌, ℕ, Bool, List, [], ◌∷◌, Err, Ok, Some, slice_get, take, ⊤}
-use Rattle.gixobj_commands.specs.declared.command.Edit.{Edit}
-use Rattle.gixobj_commands.specs.declared.command.Edit.TheVariants as edit
+use Rattle.gixobj_editor.specs.declared.command.Edit.{Edit}
+use Rattle.gixobj_editor.specs.declared.command.Edit.TheVariants as edit
 use Rattle.gixobj_object.specs.Stores.{Objects}
 use Rattle.gixobj_directories.specs.Calls.{names_of}
 use Rattle.gixobj_editor.specs.declared.editor.error.Error.{Error}
@@ -14,10 +14,10 @@ use Rattle.gixobj_hash.specs.declared.hash.kind.Kind as hash
 use Rattle.gixobj_hash.specs.declared.hash.object_id.ObjectId.{ObjectId}
 use Rattle.gixobj_hash.specs.declared.kind.Kind.TheVariants.{Tree}
 use Rattle.gixobj_find.specs.Keeping.{HasNoText, HasText}
-use Rattle.gixobj_runs.specs.Commands.{at_root}
-use Rattle.gixobj_runs.specs.Replies.{Answers, IsEditReply, Meaning}
-use Rattle.gixobj_runs.specs.declared.reply.EditReply.{EditReply}
-use Rattle.gixobj_runs.specs.declared.reply.EditReply.TheVariants as reply
+use Rattle.gixobj_editor.specs.Commands.{at_root}
+use Rattle.gixobj_editor.specs.Replies.{Answers, IsEditReply, Meaning}
+use Rattle.gixobj_editor.specs.declared.reply.EditReply.{EditReply}
+use Rattle.gixobj_editor.specs.declared.reply.EditReply.TheVariants as reply
 use Rattle.gixobj_tree.specs.Mode.{mode_of_kind}
 use Rattle.gixobj_tree.specs.TreeText.{tree_text}
 

@@ -3,5 +3,5 @@ pub mod Commits
 pub mod Edited
 pub mod Imports
 pub mod Steps
-pub use Rattle.gixobj_runs.specs.Replies
-pub use Rattle.gixobj_runs.specs.RunTables
+pub use Rattle.gixobj_editor.specs.Replies
+pub use Rattle.gixobj_editor.specs.RunTables

@@ -1,8 +1,8 @@
 -- What a step of an importer comes to, and a list of steps.
 use Rattle.std.specs.Prelude.{◌≡◌, ◌⊎◌, ℕ, true, false, All, Contains, List, [], ◌∷◌, Option, Some, length, slice_get, take, ⊤}
 use Rattle.gixobj_actor.specs.ActorWriting.{IsLegal, owned_text}
-use Rattle.gixobj_commands.specs.declared.command.Edit.{Edit}
-use Rattle.gixobj_commands.specs.declared.command.Edit.TheVariants as edit
+use Rattle.gixobj_editor.specs.declared.command.Edit.{Edit}
+use Rattle.gixobj_editor.specs.declared.command.Edit.TheVariants as edit
 use Rattle.gixobj_directories.specs.declared.write.Written.{Written}
 use Rattle.gixobj_fields.specs.declared.encode.Error.TheVariants.{IllegalActor}
 use Rattle.gixobj_files.specs.State.{State, with_store}
@@ -14,8 +14,8 @@ use Rattle.gixobj_hash.specs.declared.kind.Kind.TheVariants.{Commit}
 use Rattle.gixobj_find.specs.Keeping.{RefusesKeepCommit, with_commit}
 use Rattle.gixobj_find.specs.declared.keeping.KeepError.{KeepError}
 use Rattle.gixobj_commit.specs.Commit.{IsCommitText}
-use Rattle.gixobj_runs.specs.Replies.{Meaning}
-use Rattle.gixobj_runs.specs.declared.reply.EditReply.TheVariants as reply
+use Rattle.gixobj_editor.specs.Replies.{Meaning}
+use Rattle.gixobj_editor.specs.declared.reply.EditReply.TheVariants as reply
 use Rattle.gixobj_import.specs.Commits.{NamesSignature, only_parent, step_commit, step_text}
 use Rattle.gixobj_import.specs.Edited.{AreDone, IsRefusedAt, IsWriteBehind, IsWriteReplied}
 use Rattle.gixobj_import.specs.declared.import.ImportError.{ImportError}

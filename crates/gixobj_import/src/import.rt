@@ -15,7 +15,7 @@ use crate::edits::hold_a_write;
 use crate::written::write_edits;
 use bstr::BString;
 use gixobj_actor::actor::Signature;
-use gixobj_commands::Edit;
+use gixobj_editor::Edit;
 use gixobj_object::laws::{an_object_is_put_in, ids_are_the_same_or_not};
 use gixobj_directories::laws::every_store_names_trees;
 use gixobj_editor::editor::{Editor, Error, WriteError, Written};

@@ -5,7 +5,7 @@ ghost use Rattle.gixobj_directories.specs.Openings.{AreTreesOf};
 ghost use Rattle.gixobj_files.specs.Files.{Table, Trees};
 ghost use Rattle.gixobj_files.specs.Tables.{FitsBeside};
 ghost use Rattle.gixobj_import.specs.Imports.{AgreesWithImports, pairs_of_imports};
-ghost use Rattle.gixobj_runs.specs.RunTables.{ReadsAsItself};
+ghost use Rattle.gixobj_editor.specs.RunTables.{ReadsAsItself};
 
 use crate::import::{Imported, Step};
 use gixobj_object::laws::{an_object_is_put_in, ids_are_the_same_or_not};

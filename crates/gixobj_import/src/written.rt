@@ -7,19 +7,18 @@ ghost use Rattle.gixobj_files.specs.State.{open_bases, open_dirs};
 ghost use Rattle.gixobj_hash.specs.Hash.{IsId};
 ghost use Rattle.gixobj_import.specs.Edited.{Digests, IsWriteBehind, IsWriteReplied, meaning};
 ghost use Rattle.gixobj_import.specs.Steps.{HaveHex, RefusesEdits, RefusesWrite};
-ghost use Rattle.gixobj_runs.specs.Replies.{Denies, Gives};
+ghost use Rattle.gixobj_editor.specs.Replies.{Denies, Gives};
 ghost use Rattle.hex.specs.Hex.{IsBytes};
 
 use crate::edits::do_edits;
 use crate::import::ImportError;
-use gixobj_commands::Edit;
+use gixobj_editor::{Edit, EditReply};
 use gixobj_editor::editor::{Editor, WriteError, Written};
 use gixobj_fields::{WriteTo, encode};
 use gixobj_hash::hash::{self, ObjectId};
 use gixobj_hash::laws::hex_reads_back;
 use gixobj_hash::{Kind, compute_hash};
 use gixobj_find::{Keep, keep_all};
-use gixobj_runs::EditReply;
 use gixobj_tree::Tree;
 use std::alloc::Global;
 

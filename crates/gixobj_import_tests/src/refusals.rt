@@ -1,7 +1,7 @@
 //! Every refusal of a step, and what comes behind it.
 
 use crate::samples::{COMMITS, are_commits, number, path_of, plain_steps, step, step_by, upsert};
-use gixobj_commands::Edit;
+use gixobj_editor::Edit;
 use gixobj_editor::editor::Error;
 use gixobj_hash::hash::{Kind as HashKind, ObjectId};
 use gixobj_import::{ImportError, Importer, Step, Stopped, import_all};

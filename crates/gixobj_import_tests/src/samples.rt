@@ -3,7 +3,7 @@
 use bstr::BString;
 use gixobj_actor::actor::Signature;
 use gixobj_actor::date::Time;
-use gixobj_commands::Edit;
+use gixobj_editor::Edit;
 use gixobj_object::Find;
 use gixobj_hash::hash::ObjectId;
 use gixobj_hash::{Kind, compute_hash};

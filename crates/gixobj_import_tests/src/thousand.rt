@@ -5,7 +5,7 @@ use crate::samples::{id, path_of};
 use bstr::BString;
 use gixobj_actor::actor::Signature;
 use gixobj_actor::date::Time;
-use gixobj_commands::Edit;
+use gixobj_editor::Edit;
 use gixobj_hash::hash::{Kind as HashKind, ObjectId};
 use gixobj_hash::{Kind, compute_hash};
 use gixobj_import::{Imported, Importer, Step, import_all};

@@ -3,8 +3,8 @@
 #![tactic(auto)]
 
 use gixobj_base::streams::ToWrite;
-use gixobj_loose::engine::{engine, tell};
-use gixobj_loose::words::words_of_process;
+use gixobj_show::engine::{engine, tell};
+use gixobj_show::words::words_of_process;
 use std::process::ExitCode;
 
 fn main(rt: HostRuntime) -> ExitCode {

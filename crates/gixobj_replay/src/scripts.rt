@@ -7,9 +7,8 @@ use bstr::BString;
 use gixobj_base::hash::Kind;
 use gixobj_base::parse::split_at_byte;
 use gixobj_base::tree::EntryMode;
-use gixobj_commands::{Command, Edit};
-use gixobj_edit::{EditError, edit};
-use gixobj_script::{ScriptError, read_script};
+use gixobj_editor::{Command, Edit};
+use gixobj_script::{EditError, ScriptError, edit, read_script};
 use std::alloc::{AllocError, Global};
 
 /// What is told of a script, run on the empty root over a store that has nothing. The question is the kind of

@@ -1,4 +1,8 @@
 mod Cuts
+mod FewWords
+pub mod Fitting
 mod LineTexts
 mod Reading
 mod Readings
+pub mod Told
+pub mod Wider

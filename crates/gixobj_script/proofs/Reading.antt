@@ -2,7 +2,7 @@
 use Rattle.std.proofs.Common.{◌≡◌, ◌≢◌, ◌+◌, ◌++◌, ◌∷◌, ◌≤◌, ℕ, All, List, [], ap, append_assoc, arith, inl, inr, length, length-append, refl, subst, sym, ◌∙◌}
 use Rattle.std.proofs.lemmas.List.Elements.{All-nil, All-push}
 use Rattle.std.specs.List.{AllZip}
-use Rattle.gixobj_commands.specs.Views.{CommandView}
+use Rattle.gixobj_editor.specs.Views.{CommandView}
 use Rattle.gixobj_hash.specs.declared.hash.kind.Kind as hash
 use Rattle.gixobj_script.proofs.Cuts.{AreInFront, and_the_rest, none_in_front, one_more, parts_of, the_last}
 use Rattle.gixobj_script.specs.Lines.{IsCommandText}

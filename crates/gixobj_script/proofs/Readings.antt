@@ -3,7 +3,7 @@ use Rattle.std.proofs.Common.{◌≡◌, ◌↔◌, ◌+◌, ◌++◌, ◌∷◌
 use Rattle.std.proofs.lemmas.List.Elements.{All-cons, All-head, All-nil, All-push, All-tail}
 use Rattle.std.proofs.lemmas.List.{append-nil}
 use Rattle.std.specs.List.{AllZip}
-use Rattle.gixobj_commands.specs.Views.{CommandView}
+use Rattle.gixobj_editor.specs.Views.{CommandView}
 use Rattle.gixobj_hash.specs.declared.hash.kind.Kind as hash
 use Rattle.gixobj_script.proofs.Cuts.{flat_join, one_way, parts_of}
 use Rattle.gixobj_script.proofs.LineTexts.{one_command}

@@ -1,5 +1,11 @@
 pub mod Answers
 pub mod Cuts
+pub mod Digests
+pub mod Edits
+pub mod Engine
+pub mod Faults
 pub mod Lines
 pub mod Paths
 pub mod Scripts
+pub mod Telling
+pub mod Words

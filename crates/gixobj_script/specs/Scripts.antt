@@ -1,7 +1,7 @@
 -- Scripts: texts of lines, each empty or a command's.
 use Rattle.std.specs.Prelude.{◌≡◌, ◌≢◌, ◌⊎◌, ◌+◌, ◌++◌, ◌∷◌, ℕ, All, List, [], length}
 use Rattle.std.specs.List.{AllZip}
-use Rattle.gixobj_commands.specs.Views.{CommandView}
+use Rattle.gixobj_editor.specs.Views.{CommandView}
 use Rattle.gixobj_hash.specs.declared.hash.kind.Kind as hash
 use Rattle.gixobj_script.specs.Lines.{HasCommand, HasNoCommand, IsCommandText}
 use Rattle.gixobj_script.specs.Cuts.{IsCutAt}

@@ -1,13 +1,13 @@
 //! The command of a line.
 ghost use Rattle.std.specs.Prelude.{◌≡◌, ℕ, List, codes, IfOk, IfNone, IfSome, MatchOption, OnErr};
-ghost use Rattle.gixobj_commands.specs.Views.{command_view, edit_view};
+ghost use Rattle.gixobj_editor.specs.Views.{command_view, edit_view};
 ghost use Rattle.gixobj_hash.specs.declared.hash.object_id.ObjectId.{ObjectId};
 ghost use Rattle.gixobj_script.specs.Lines.{HasCommand, HasEdit, HasNoCommand, HasNoEdit, IsCommandText, IsEditText, IsEntryAt, IsHexOfId, word_and};
 ghost use Rattle.gixobj_tree.specs.Mode.{entry_word};
 ghost use Rattle.gixobj_tree.specs.declared.tree.entry_kind.EntryKind.{EntryKind};
 
 use crate::path::names_of_path;
-use gixobj_commands::{Command, Edit};
+use gixobj_editor::{Command, Edit};
 use gixobj_fields::parse::after_name;
 use gixobj_hash::OutOfMemory;
 use gixobj_hash::hash::{Kind, ObjectId};

@@ -1,10 +1,10 @@
 //! Scripts, read whole.
 ghost use Rattle.std.specs.Prelude.{◌≡◌, ◌≢◌, ◌++◌, [], map, IfErr, IfOk, OnOk};
-ghost use Rattle.gixobj_commands.specs.Views.{command_view};
+ghost use Rattle.gixobj_editor.specs.Views.{command_view};
 ghost use Rattle.gixobj_script.specs.Scripts.{IsScript, PutsLine, RefusesLine, RefusesScript};
 
 use crate::line::read_command;
-use gixobj_commands::Command;
+use gixobj_editor::Command;
 use gixobj_hash::OutOfMemory;
 use gixobj_hash::hash::Kind;
 use gixobj_hash::texts::split_at_byte;

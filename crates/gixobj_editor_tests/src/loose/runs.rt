@@ -3,7 +3,7 @@
 use super::{ONE_ENTRY, answer_from, answer_of};
 use crate::streams::words_in;
 use gixobj_base_tests::limited::{Limited, Stepping};
-use gixobj_loose::engine::{engine, run};
+use gixobj_show::engine::{engine, run};
 use std::io;
 use std::io::{ErrorKind, Read, Write};
 use std::test::Fail;

@@ -5,7 +5,7 @@ use super::{
     COMMIT, COMMIT_SHA256, HELLO, HELLO_SHA256, ONE_ENTRY, TAG, TAG_SHA256, TREE, TREE_SHA256,
 };
 use gixobj_base::hash;
-use gixobj_loose::show::show;
+use gixobj_show::show::show;
 use std::test::Fail;
 
 #[test]

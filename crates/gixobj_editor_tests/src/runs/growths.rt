@@ -7,7 +7,7 @@ use crate::samples::names;
 use gixobj_base::encode;
 use gixobj_editor::editor::{Editor, Error, WriteError, Written};
 use gixobj_find::{Keep, KeepError};
-use gixobj_runs::{EditReply, Reply};
+use gixobj_editor::{EditReply, Reply};
 use std::alloc::{AllocError, Global};
 use std::test::Fail;
 

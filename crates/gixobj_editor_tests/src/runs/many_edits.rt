@@ -5,7 +5,7 @@ use crate::runs::samples::{editor_over, run_on};
 use crate::samples::{FILE, names};
 use bstr::BString;
 use gixobj_base::tree::EntryKind;
-use gixobj_runs::{Command, Edit, EditReply, Reply};
+use gixobj_editor::{Command, Edit, EditReply, Reply};
 use std::alloc::{AllocError, Global};
 use std::test::Fail;
 

@@ -7,7 +7,7 @@ use gixobj_base::Tree;
 use gixobj_base::hash::ObjectId;
 use gixobj_base::tree::{Entry, EntryKind};
 use gixobj_editor::editor::Error;
-use gixobj_runs::{Command, Edit, EditReply, Reply};
+use gixobj_editor::{Command, Edit, EditReply, Reply};
 use std::alloc::{AllocError, Global};
 use std::test::Fail;
 

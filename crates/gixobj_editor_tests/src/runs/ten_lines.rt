@@ -5,7 +5,7 @@ use crate::runs::samples::{TEN_LINES, editor_over, replies_to, tells};
 use crate::samples::went_out;
 use gixobj_base::encode;
 use gixobj_editor::editor::Written;
-use gixobj_runs::{EditReply, Reply};
+use gixobj_editor::{EditReply, Reply};
 use std::alloc::Global;
 use std::test::Fail;
 

@@ -7,7 +7,7 @@ use gixobj_base::encode;
 use gixobj_base::hash::ObjectId;
 use gixobj_object::Find;
 use gixobj_find::KeepError;
-use gixobj_runs::{EditReply, Reply};
+use gixobj_editor::{EditReply, Reply};
 use std::alloc::Global;
 use std::test::Fail;
 

@@ -1,6 +1,6 @@
 -- The parts in front of what is left.
 use Rattle.std.proofs.Common.{length}
-use Rattle.gixobj_commands.specs.Views.{path_names}
+use Rattle.gixobj_editor.specs.Views.{path_names}
 use Rattle.gixobj_script.proofs.Cuts.{AreInFront}
 use Rattle.gixobj_script.proofs.path.parts_at.Given as goal
 

@@ -1,7 +1,7 @@
 -- The command of the line is put at the end.
 use Rattle.std.proofs.Common.{◌≢◌, ap, map, rules, [], ◌∙◌}
 use Rattle.std.proofs.lemmas.List.{map-append}
-use Rattle.gixobj_commands.specs.Views.{command_view}
+use Rattle.gixobj_editor.specs.Views.{command_view}
 use Rattle.gixobj_script.proofs.Reading.{a_command_put}
 use Rattle.gixobj_script.specs.Lines.{IsCommandText}
 use Rattle.gixobj_script.proofs.script.put_line.Goals as goal

@@ -1,7 +1,7 @@
 -- A line more is read; and the line in hand is reached, so what refuses it refuses the script.
 use Rattle.std.proofs.Common.{map}
 use Rattle.std.proofs.lemmas.Result.{err_from_is_err_and}
-use Rattle.gixobj_commands.specs.Views.{command_view}
+use Rattle.gixobj_editor.specs.Views.{command_view}
 use Rattle.gixobj_script.proofs.Reading.{all_read, last_reached, line_refused, one_line_more, reached}
 use Rattle.gixobj_script.proofs.script.read_script.Goals as goal
 

@@ -1,6 +1,6 @@
 -- The lines in front of what is left, and their commands.
 use Rattle.std.proofs.Common.{length, map}
-use Rattle.gixobj_commands.specs.Views.{command_view}
+use Rattle.gixobj_editor.specs.Views.{command_view}
 use Rattle.gixobj_script.proofs.Reading.{IsReadTo}
 use Rattle.gixobj_script.proofs.script.read_script.Given as goal
 

@@ -1,4 +1,0 @@
-mod FewWords
-pub mod Fitting
-pub mod Told
-pub mod Wider

@@ -1,6 +1,0 @@
-pub mod Digests
-pub mod Edits
-pub mod Engine
-pub mod Faults
-pub mod Telling
-pub mod Words

@@ -1,0 +1,74 @@
+-- Tables that agree with runs.
+use Rattle.std.proofs.Common.{◌≡◌, ◌≢◌, ◌⊎◌, inl, inr, ⊎_elim, All, ℕ, true, false, List, [], ◌∷◌, ◌∙◌, Some, ap, refl, subst, sym, take}
+use Rattle.std.proofs.lemmas.List.Elements.{All-head, All-tail, All-take}
+use Rattle.std.specs.Cmp.Lexicographic.{bytes_decides}
+use Rattle.gixobj_object.proofs.Keeping.{elsewhere, there}
+use Rattle.gixobj_object.specs.Stores.{Objects, StoredObject, named}
+use Rattle.gixobj_directories.specs.Openings.{AreTreesOf, NamesTree}
+use Rattle.gixobj_files.proofs.ListedTables.{fitting_table}
+use Rattle.gixobj_files.specs.Editing.{same_name}
+use Rattle.gixobj_files.specs.Files.{Table, Trees}
+use Rattle.gixobj_files.specs.Tables.{AgreesWithPairs, FitsBeside, IsEmptyId, Pair}
+use Rattle.gixobj_hash.specs.declared.hash.object_id.ObjectId.{ObjectId}
+use Rattle.gixobj_hash.specs.declared.hash.object_id.ObjectId.TheVariants as id
+use Rattle.gixobj_find.specs.Keeping.{tree_object, with_tree, with_trees}
+use Rattle.gixobj_tree.specs.TreeReading.{IsTreeText}
+use Rattle.gixobj_tree.specs.Entries.{EntryView}
+use Rattle.gixobj_editor.specs.Commands.{pairs_handed_out, pairs_kept}
+use Rattle.gixobj_editor.specs.RunTables.{AgreesWithObjects, AgreesWithRun, ReadsAsItself}
+use Rattle.gixobj_editor.specs.declared.reply.Reply.{Reply}
+use Rattle.gixobj_editor.proofs.KeptPairs.{kept_have}
+
+same_bytes : (xs ys : List ℕ) → (xs ≡ ys) ⊎ (xs ≢ ys)
+same_bytes xs ys = elim (same_name xs ys) as (λ b. same_name xs ys ≡ b → (xs ≡ ys) ⊎ (xs ≢ ys)) [
+  | true ↦ λ passes. inl ((bytes_decides xs ys).0 passes)
+  | false ↦ λ fails. inr (λ same. cc ((bytes_decides xs ys).1 same, fails))
+] refl
+
+same_ids : (x y : ObjectId) → (x ≡ y) ⊎ (x ≢ y)
+same_ids (id.Sha1 xs) (id.Sha1 ys) = ⊎_elim (λ same. inl (ap id.Sha1 same)) (λ other. inr (λ same. other (cc same))) (same_bytes xs ys)
+same_ids (id.Sha1 xs) (id.Sha256 ys) = inr (λ same. cc same)
+same_ids (id.Sha256 xs) (id.Sha1 ys) = inr (λ same. cc same)
+same_ids (id.Sha256 xs) (id.Sha256 ys) = ⊎_elim (λ same. inl (ap id.Sha256 same)) (λ other. inr (λ same. other (cc same))) (same_bytes xs ys)
+
+module _ (T : Table) where
+  abbrev Has : Pair → Type 0
+  Has pair = T.tree_at pair.0 ≡ Some pair.1
+
+  -- a table that agrees with a store, and has a tree, agrees with the store in which the tree is kept
+  module _ (objects : Objects) (pair : Pair) (agrees : AgreesWithObjects T objects) (has : Has pair) (reads : ReadsAsItself pair) where
+    abbrev kept_as : StoredObject
+    kept_as = tree_object pair.0 pair.1
+
+    at_tree : (it : ObjectId) (entries : List EntryView) → it ≡ pair.0 → NamesTree (with_tree pair objects) it entries → T.tree_at it ≡ Some entries
+    at_tree it entries is names =
+        let found : named (with_tree pair objects) it ≡ Some kept_as = ap (named (with_tree pair objects)) is ∙ there objects pair.0 kept_as in
+        let same : names.0.0 ≡ kept_as = cc (found, names.0.1) in
+        let text = subst (λ (o : StoredObject). IsTreeText o.object_hash o.bytes entries) same names.0.3 in
+        ap T.tree_at is ∙ has ∙ ap Some (sym (reads entries text names.1))
+
+    at_other : (it : ObjectId) (entries : List EntryView) → (IsEmptyId it → ⊥) → it ≢ pair.0 → NamesTree (with_tree pair objects) it entries → T.tree_at it ≡ Some entries
+    at_other it entries sought other names =
+        agrees it entries sought ((names.0.0, sym (elsewhere objects pair.0 it kept_as other) ∙ names.0.1, names.0.2, names.0.3), names.1)
+
+    agrees_with_tree : AgreesWithObjects T (with_tree pair objects)
+    agrees_with_tree it entries sought names = ⊎_elim (λ is. at_tree it entries is names) (λ other. at_other it entries sought other names) (same_ids it pair.0)
+
+  agrees_with_trees : (pairs : List Pair) (objects : Objects) → AgreesWithObjects T objects → AgreesWithPairs T pairs → All ReadsAsItself pairs → AgreesWithObjects T (with_trees pairs objects)
+  agrees_with_trees [] objects agrees has reads = agrees
+  agrees_with_trees (pair ∷ pairs) objects agrees has reads =
+      agrees_with_trees pairs (with_tree pair objects) (agrees_with_tree objects pair agrees (All-head Has pair pairs has) (All-head ReadsAsItself pair pairs reads))
+      (All-tail Has pair pairs has) (All-tail ReadsAsItself pair pairs reads)
+
+pub run_table : {E : Type 0} (replies : List (Reply E)) (objects : Objects) (trees : Trees) → AreTreesOf objects trees → FitsBeside (pairs_handed_out replies) trees → All ReadsAsItself (pairs_kept replies)
+    → (T : Table) × AgreesWithRun T objects replies
+run_table replies objects trees are fits reads =
+    let it = fitting_table (pairs_handed_out replies) trees fits in
+    let agrees : AgreesWithObjects it.0 objects = λ id entries sought names. it.1 id entries sought ((are id entries).1 names) in
+    let has = kept_have (Has it.0) replies it.2 in (
+      it.0,
+      record {
+        writes = it.2;
+        stores = λ count. agrees_with_trees it.0 (take count (pairs_kept replies)) objects agrees (All-take (Has it.0) count (pairs_kept replies) has) (All-take ReadsAsItself count (pairs_kept replies) reads);
+      },
+    )

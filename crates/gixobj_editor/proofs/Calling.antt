@@ -1,0 +1,90 @@
+-- Calls of a closure without a state, by reference.
+use Rattle.std.proofs.Common.{ℕ, ◌≡◌, ◌∙◌, List, [], ◌∷◌, Err, Ok, Result, refl, subst, sym}
+use Rattle.std.specs.Fn.{Called, CalledAt, FnReturnsAt, Mut, Shared}
+use Rattle.std.specs.List.{FoldsTo}
+use denote.Ref.{Bor}
+use Rattle.gixobj_directories.specs.Calls.{IsCallableOnTrees, IsStorable}
+use Rattle.gixobj_directories.specs.Handing.{Stopped}
+use Rattle.gixobj_directories.specs.declared.write.Written.{Written}
+use Rattle.gixobj_directories.specs.declared.write.WriteError.{WriteError}
+use Rattle.gixobj_directories.specs.declared.write.WriteError.TheVariants as write
+use Rattle.gixobj_editor.specs.Cursors.{IsWrittenBelow}
+use Rattle.gixobj_editor.specs.Writes.{IsWritten}
+use Rattle.gixobj_files.specs.Files.{Path}
+use Rattle.gixobj_files.specs.State.{State}
+use Rattle.gixobj_files.specs.Tables.{Pair}
+use Rattle.gixobj_hash.specs.declared.hash.object_id.ObjectId.{ObjectId}
+use Rattle.gixobj_tree.specs.Entries.{EntryView}
+use Rattle.gixobj_editor.specs.Replies.{Answers, Denies, Gives}
+
+-- the members of the closure, and those of a reference to it
+module _ {F E : Type 0} (of : Shared F (Bor (List EntryView) × Unit {0}) (Result ObjectId E)) (lent : Mut (Bor F) (Bor (List EntryView) × Unit {0}) (Result ObjectId E)) (out : Bor F) where
+  abbrev answers : Answers E
+  answers tree answer = FnReturnsAt of out.now tree answer
+
+  abbrev gave : Bor F → Pair → Bor F → Type 0
+  gave asked pair answered = CalledAt lent asked pair.1 (Ok pair.0) answered
+
+  abbrev denied : Bor F → List EntryView → E → Bor F → Type 0
+  denied asked tree error answered = CalledAt lent asked tree (Err error) answered
+
+  -- each call is one of the closure, which stays
+  abbrev pub AreCalls : Type 0
+  AreCalls = (asked : Bor F) (tree : Bor (List EntryView)) (answer : Result ObjectId E) (answered : Bor F) → Called lent asked (tree, tt) answer answered → (answered ≡ asked) × of.post asked.now (tree, tt) answer
+
+  answered_so : (asked answered : Bor F) (tree : List EntryView) (answer : Result ObjectId E) → asked ≡ out → CalledAt lent asked tree answer answered → AreCalls → (answered ≡ out) × answers tree answer
+  answered_so asked answered tree answer stays one calls =
+      let it = calls asked one.shown answer answered one.called in
+      (it.0 ∙ stays, record { shown = one.shown; shows = one.shows; says = record { met = subst (λ (f : Bor F). of.post f.now (one.shown, tt) answer) stays it.1 } })
+
+  folds : (asked : Bor F) (pairs : List Pair) (answered : Bor F) → asked ≡ out → FoldsTo gave asked pairs answered → AreCalls → FoldsTo (Gives answers) tt pairs tt × (answered ≡ out)
+  folds asked [] answered stays is calls = (refl, sym is ∙ stays)
+  folds asked (pair ∷ pairs) answered stays (next, one, rest) calls =
+      let now = answered_so asked next pair.1 (Ok pair.0) stays one calls in
+      let later = folds next pairs answered now.0 rest calls in
+      ((tt, now.1, later.0), later.1)
+
+  pub callable : (pre : Bor F → Bor (List EntryView) → Type 0) → ((tree : Bor (List EntryView)) → IsStorable tree.now → pre out tree) → AreCalls → IsCallableOnTrees pre (λ f p g. CalledAt lent f p.1 (Ok p.0) g) out
+  callable pre may calls = λ answered state folded tree storable. subst (λ (f : Bor F). pre f tree) (sym (folds out answered state refl folded calls).1) (may tree storable)
+
+  pub written : {S : Type 0} (old new : State S) (it : Written) → (last : Bor F) × IsWritten (λ f p g. CalledAt lent f p.1 (Ok p.0) g) out old it new last → AreCalls
+      → IsWritten (Gives answers) tt old it new tt
+  written old new it (last, wrote) calls = record {
+    handed_out = wrote.handed_out;
+    called = (folds out it.trees.items last refl wrote.called calls).0;
+    storable = wrote.storable;
+    below = wrote.below;
+    own = wrote.own;
+    last = wrote.last;
+    dirs = wrote.dirs;
+    bases = wrote.bases;
+    rest = wrote.rest;
+    files = wrote.files;
+    same_files = wrote.same_files;
+    has_bases = wrote.has_bases;
+  }
+
+  pub written_below : {S : Type 0} (old new : State S) (prefix : Path) (it : Written) → (last : Bor F) × IsWrittenBelow (λ f p g. CalledAt lent f p.1 (Ok p.0) g) out old prefix it new last → AreCalls
+      → IsWrittenBelow (Gives answers) tt old prefix it new tt
+  written_below old new prefix it (last, wrote) calls = record {
+    handed_out = wrote.handed_out;
+    called = (folds out it.trees.items last refl wrote.called calls).0;
+    storable = wrote.storable;
+    below = wrote.below;
+    own = wrote.own;
+    last = wrote.last;
+    dirs = wrote.dirs;
+    bases = wrote.bases;
+    rest = wrote.rest;
+    is_opened = wrote.is_opened;
+    files = wrote.files;
+    same_files = wrote.same_files;
+    has_bases = wrote.has_bases;
+  }
+
+  pub stopped : (goes_out : List Pair → Type 0) (error : WriteError E) → (last : Bor F) × Stopped (λ f p g. CalledAt lent f p.1 (Ok p.0) g) (λ f t e g. CalledAt lent f t (Err e) g) goes_out out last error → AreCalls
+      → Stopped (Gives answers) (Denies answers) goes_out tt tt error
+  stopped goes_out (write.Out e) (last, (before, tree, between, folded, one, goes)) calls =
+      let so_far = folds out before between refl folded calls in
+      (before, tree, tt, so_far.0, (answered_so between last tree (Err e) so_far.1 one calls).1, goes)
+  stopped goes_out write.OutOfMemory (last, (before, rest, folded, goes)) calls = (before, rest, (folds out before last refl folded calls).0, goes)

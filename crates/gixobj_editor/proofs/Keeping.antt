@@ -1,0 +1,46 @@
+-- Stores in which trees are kept, and tables that agree with them.
+use Rattle.std.proofs.Common.{◌≡◌, ◌+◌, ℕ, zero, suc, List, [], ◌∷◌, ◌++◌, Some, ap, length, refl, subst, sym, take, ◌∙◌}
+use Rattle.std.proofs.Math.Seq.{take-append-add}
+use Rattle.gixobj_object.specs.Stores.{Objects}
+use Rattle.gixobj_files.specs.Files.{Table}
+use Rattle.gixobj_files.specs.Tables.{AgreesWithPairs, Pair}
+use Rattle.gixobj_find.specs.Keeping.{with_tree, with_trees}
+use Rattle.gixobj_editor.specs.RunTables.{AgreesWithObjects}
+use Rattle.gixobj_editor.proofs.KeptPairs.{all_first, all_then}
+
+-- trees that are kept behind others
+pub kept_on : (first then : List Pair) (objects : Objects) → with_trees (first ++ then) objects ≡ with_trees then (with_trees first objects)
+kept_on [] then objects = refl
+kept_on (pair ∷ first) then objects = kept_on first then (with_tree pair objects)
+
+-- the store after these trees, and after those more
+pub then_kept : (first then : List Pair) (old between new : Objects) → between ≡ with_trees first old → new ≡ with_trees then between → new ≡ with_trees (first ++ then) old
+then_kept first then old between new before after = after ∙ ap (with_trees then) before ∙ sym (kept_on first then old)
+
+pub agrees_first : (T : Table) (first then : List Pair) → AgreesWithPairs T (first ++ then) → AgreesWithPairs T first
+agrees_first T = all_first (λ pair. T.tree_at pair.0 ≡ Some pair.1)
+
+pub agrees_then : (T : Table) (first then : List Pair) → AgreesWithPairs T (first ++ then) → AgreesWithPairs T then
+agrees_then T = all_then (λ pair. T.tree_at pair.0 ≡ Some pair.1)
+
+-- some number of first ones of the whole are these first ones of its front
+take_within : (xs ys : List Pair) (count : ℕ) → (some : ℕ) × (take some (xs ++ ys) ≡ take count xs)
+take_within [] ys zero = (zero, refl)
+take_within [] ys (suc count) = (zero, refl)
+take_within (x ∷ xs) ys zero = (zero, refl)
+take_within (x ∷ xs) ys (suc count) = let later = take_within xs ys count in (suc later.0, ap (λ (rest : List Pair). x ∷ rest) later.1)
+
+-- the table agrees with the store after each number of these trees is kept
+abbrev pub AgreesThroughout : Table → List Pair → Objects → Type 0
+AgreesThroughout T pairs objects = (count : ℕ) → AgreesWithObjects T (with_trees (take count pairs) objects)
+
+pub throughout_first : (T : Table) (first then : List Pair) (objects : Objects) → AgreesThroughout T (first ++ then) objects → AgreesThroughout T first objects
+throughout_first T first then objects agrees count =
+    let some = take_within first then count in
+    subst (λ (pairs : List Pair). AgreesWithObjects T (with_trees pairs objects)) some.1 (agrees some.0)
+
+pub throughout_then : (T : Table) (first then : List Pair) (old new : Objects) → new ≡ with_trees first old → AgreesThroughout T (first ++ then) old → AgreesThroughout T then new
+throughout_then T first then old new kept agrees count =
+    subst (λ (objects : Objects). AgreesWithObjects T (with_trees (take count then) objects)) (sym kept)
+    (subst (AgreesWithObjects T) (kept_on first (take count then) old)
+    (subst (λ (pairs : List Pair). AgreesWithObjects T (with_trees pairs old)) (take-append-add first then count) (agrees (length first + count))))

@@ -1,0 +1,32 @@
+use Rattle.std.proofs.Common.{List, Result, inr, rules, ◌≡◌}
+use Rattle.std.specs.Fn.{FnReturnsAt}
+use Rattle.gixobj_directories.specs.Calls.{names_of}
+use Rattle.gixobj_directories.specs.Openings.{AreTreesOf}
+use Rattle.gixobj_editor.specs.Cursors.{prefix_of}
+use Rattle.gixobj_editor.specs.Upserts.{IsForAName, IsRefused}
+use Rattle.gixobj_files.specs.Files.{Trees}
+use Rattle.gixobj_files.specs.State.{State}
+use Rattle.gixobj_files.specs.Unopened.{inside}
+use Rattle.gixobj_hash.specs.declared.hash.object_id.ObjectId.{ObjectId}
+use Rattle.gixobj_tree.specs.Entries.{EntryView}
+use Rattle.gixobj_editor.specs.Replies.{IsReplyAt, Meaning}
+use Rattle.gixobj_editor.specs.declared.reply.Reply.TheVariants as reply
+use Rattle.gixobj_editor.proofs.Replied.{done_at}
+use Rattle.gixobj_editor.proofs.by_cursor.do_edits_in.Goals as goal
+
+pub returns-in-Ok : goal.returns-in-Ok
+returns-in-Ok g c =
+    let means : Meaning g.row.S.Denot = record { objects = g.S.Store.objects; may_fail = g.S.Store.may_fail } in
+    let answers = λ (tree : List EntryView) (answer : Result ObjectId g.row.E.Denot). FnReturnsAt g.F.Fn c.args.out.now tree answer in
+    let made = c.in-Ok.ensures {u = tt} in
+    let left = c.do_edits.new.cursor.editor.now in
+    let done : (new : State g.row.S.Denot) → new ≡ left → IsReplyAt means answers (prefix_of (names_of c.args.prefix.now)) c.args.editor.now c.args.edits.items (reply.At c.do_edits.result) new =
+    λ new outside. done_at means answers (prefix_of (names_of c.args.prefix.now)) c.in-Ok.cursor.editor.now.prefix c.args.editor.now c.in-Ok.cursor.editor.now left new c.args.edits.items c.do_edits.result
+    made.prefix made.assured c.do_edits.ensures.replied outside in
+    record { replied = done _ (search rules) }
+
+pub returns-in-Err : goal.returns-in-Err
+returns-in-Err g c =
+    let left = c.cursor_at.follows.lender-at-none in
+    let refused : ((trees : Trees) → AreTreesOf (g.S.Store.objects c.args.editor.now.store) trees → IsRefused trees c.args.editor.now (inside (prefix_of (names_of c.args.prefix.now))) left) × (IsForAName c.in-Err.error → left ≡ c.args.editor.now) = search rules in
+    record { replied = inr (record { left = refused.0; refusal = (c.in-Err.ensures {u = tt}).refusal }, refused.1) }

@@ -1,0 +1,113 @@
+//! Edits and writes by a cursor, with their replies.
+ghost use Rattle.std.specs.Prelude.{◌≡◌, ◌+◌, ◌≤◌, ◌++◌, ◌∷◌, [], length, vec_capacity};
+ghost use Rattle.std.specs.Fn.{FnReturnsAt};
+ghost use Rattle.gixobj_directories.specs.Calls.{names_of};
+ghost use Rattle.gixobj_editor.specs.Cursors.{prefix_of};
+ghost use Rattle.gixobj_editor.specs.Commands.{at_cursor};
+ghost use Rattle.gixobj_editor.specs.Replies.{AreEditReplies, IsCallable, IsEditReply, IsReplyAt};
+
+use crate::edits::{push_reserved, reply_to_edit};
+use crate::reply::{EditReply, Reply};
+use bstr::BString;
+use crate::Edit;
+use crate::editor::{Cursor, Editor, Error};
+use gixobj_hash::hash::ObjectId;
+use gixobj_find::{Keep, keep_all};
+use gixobj_tree::Tree;
+use std::alloc::Global;
+
+/// Does edits at paths from one directory.
+pub(crate) fn do_edits_at<S: Keep, E: Drop, F: Fn(&Tree) -> Result<ObjectId, E>>(
+    alloc: Global,
+    editor: &mut Editor<S>,
+    prefix: &[BString],
+    edits: Vec<Edit>,
+    out: &F,
+) -> Reply<E>
+    requires callable { IsCallable F.pre out.now }
+    ensures replied { IsReplyAt (record { objects = S.objects; may_fail = S.may_fail }) (λ tree answer. FnReturnsAt F.Fn out.now tree answer) (prefix_of (names_of prefix.now)) editor.old edits.items result editor.new }
+{
+    match Vec::with_capacity(alloc, edits.len()) {
+        Ok(replies) => do_edits_in(editor, prefix, edits, replies, out),
+        Err(_) => Reply::AtRefused(Error::OutOfMemory),
+    }
+}
+
+/// Does edits at paths from one directory; there is room for their replies.
+fn do_edits_in<S: Keep, E: Drop, F: Fn(&Tree) -> Result<ObjectId, E>>(
+    editor: &mut Editor<S>,
+    prefix: &[BString],
+    edits: Vec<Edit>,
+    replies: Vec<EditReply<E>>,
+    out: &F,
+) -> Reply<E>
+    requires callable { IsCallable F.pre out.now }
+    requires empty { replies.items ≡ [] }
+    requires room { length edits.items ≤ vec_capacity replies }
+    ensures replied { IsReplyAt (record { objects = S.objects; may_fail = S.may_fail }) (λ tree answer. FnReturnsAt F.Fn out.now tree answer) (prefix_of (names_of prefix.now)) editor.old edits.items result editor.new }
+{
+    match editor.cursor_at(prefix) {
+        Ok(mut cursor) => Reply::At(do_edits(&mut cursor, edits, replies, out)),
+        Err(error) => Reply::AtRefused(error),
+    }
+}
+
+/// Does the edits in order. There is room for their replies.
+fn do_edits<S: Keep, E: Drop, F: Fn(&Tree) -> Result<ObjectId, E>>(
+    cursor: &mut Cursor<'_, S>,
+    edits: Vec<Edit>,
+    replies: Vec<EditReply<E>>,
+    out: &F,
+) -> Vec<EditReply<E>>
+    requires callable { IsCallable F.pre out.now }
+    requires empty { replies.items ≡ [] }
+    requires room { length edits.items ≤ vec_capacity replies }
+    ensures same_reference { cursor.new.editor.ghost_name ≡ cursor.old.editor.ghost_name }
+    ensures replied { AreEditReplies (record { objects = S.objects; may_fail = S.may_fail }) (λ tree answer. FnReturnsAt F.Fn out.now tree answer) (at_cursor cursor.old.editor.now.prefix) cursor.old.editor.now edits.items result.items cursor.new.editor.now }
+{
+    let mut replies = replies;
+    for edit in edits {
+        let reply = do_edit_by(cursor, edit, out);
+        push_reserved(&mut replies, reply);
+    }
+    replies
+}
+
+/// Does one edit, or a write, by the cursor.
+fn do_edit_by<S: Keep, E, F: Fn(&Tree) -> Result<ObjectId, E>>(
+    cursor: &mut Cursor<'_, S>,
+    edit: Edit,
+    out: &F,
+) -> EditReply<E>
+    requires callable { IsCallable F.pre out.now }
+    ensures same_reference { cursor.new.editor.ghost_name ≡ cursor.old.editor.ghost_name }
+    ensures prefix { cursor.new.editor.now.prefix ≡ cursor.old.editor.now.prefix }
+    ensures replied { IsEditReply (record { objects = S.objects; may_fail = S.may_fail }) (λ tree answer. FnReturnsAt F.Fn out.now tree answer) (at_cursor cursor.old.editor.now.prefix) cursor.old.editor.now edit result cursor.new.editor.now }
+{
+    match edit {
+        Edit::Upsert { path, kind, id } => reply_to_edit(cursor.try_upsert(&path, kind, id)),
+        Edit::Remove { path } => reply_to_edit(cursor.try_remove(&path)),
+        Edit::RemoveLeaf { path } => reply_to_edit(cursor.try_remove_leaf(&path)),
+        Edit::Write => do_write_by(cursor, out),
+    }
+}
+
+/// Writes the directory of the cursor, and has what was handed out kept by the store.
+fn do_write_by<S: Keep, E, F: Fn(&Tree) -> Result<ObjectId, E>>(
+    cursor: &mut Cursor<'_, S>,
+    out: &F,
+) -> EditReply<E>
+    requires callable { IsCallable F.pre out.now }
+    ensures same_reference { cursor.new.editor.ghost_name ≡ cursor.old.editor.ghost_name }
+    ensures prefix { cursor.new.editor.now.prefix ≡ cursor.old.editor.now.prefix }
+    ensures replied { IsEditReply (record { objects = S.objects; may_fail = S.may_fail }) (λ tree answer. FnReturnsAt F.Fn out.now tree answer) (at_cursor cursor.old.editor.now.prefix) cursor.old.editor.now Edit.Write result cursor.new.editor.now }
+{
+    let written = match cursor.write(out) {
+        Ok(written) => written,
+        Err(error) => return EditReply::WriteRefused(error),
+    };
+    match keep_all(cursor.store_mut(), &written.trees) {
+        Ok(()) => EditReply::Written(written),
+        Err((count, error)) => EditReply::NotKept(written, count, error),
+    }
+}

@@ -1,6 +1,0 @@
--- The answers of the whole program.
-use Rattle.std.proofs.Common.{rules}
-use Rattle.gixobj_loose.proofs.engine.engine.Goals as goal
-
-pub returns-clause-answer : goal.returns-clause-answer
-returns-clause-answer g c = search rules

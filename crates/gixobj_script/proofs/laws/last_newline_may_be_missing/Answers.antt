@@ -1,5 +1,0 @@
-use Rattle.gixobj_script.proofs.Readings as law
-use Rattle.gixobj_script.proofs.laws.last_newline_may_be_missing.Goals as goal
-
-pub returns : goal.returns
-returns c = law.newline_or_not

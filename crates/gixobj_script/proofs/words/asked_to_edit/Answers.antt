@@ -1,0 +1,17 @@
+-- The words, seen as bytes.
+use Rattle.std.proofs.Common.{◌≡◌, arith, rules, ◌∙◌}
+use Rattle.std.specs.Prelude.{codes}
+use Rattle.std.specs.String.{string_bytes}
+use Rattle.gixobj_script.proofs.FewWords.{map_one, map_two}
+use Rattle.gixobj_script.proofs.words.asked_to_edit.Goals as goal
+
+pub returns-in-len1-clause-found : goal.returns-in-len1-clause-found
+returns-in-len1-clause-found c =
+    let word : string_bytes c.word-item.result ≡ codes "edit" = search rules in
+    map_one string_bytes c.args.words.now c.word-item.result (omega arith) c.word-item.is ∙ cc word
+
+pub returns-in-len2-clause-found : goal.returns-in-len2-clause-found
+returns-in-len2-clause-found c =
+    let word : string_bytes c.word-item-then-words-lt3.result ≡ codes "edit" = search rules in
+    let second : string_bytes c.sha256-item.result ≡ codes "sha256" = search rules in
+    map_two string_bytes c.args.words.now c.word-item-then-words-lt3.result c.sha256-item.result (omega arith) c.word-item-then-words-lt3.is c.sha256-item.is ∙ cc (word, second)

@@ -1,0 +1,27 @@
+-- What the program says where nothing is told of a script.
+use Rattle.std.specs.Prelude.{ℕ, List, ◌++◌, codes, decimal}
+use Rattle.gixobj_script.specs.declared.editing.EditError.{EditError}
+use Rattle.gixobj_script.specs.declared.editing.EditError.TheVariants as editing
+use Rattle.gixobj_script.specs.declared.fault.Fault.{Fault}
+use Rattle.gixobj_script.specs.declared.fault.Fault.TheVariants as fault
+use Rattle.gixobj_show.specs.Refusal.{line, line_of, status_of}
+use Rattle.gixobj_show.specs.declared.refusal.Refusal.TheVariants as refusal
+
+-- the fault of a refusal to run a script
+abbrev pub fault_of : EditError → Fault
+fault_of (editing.BadLine number) = fault.BadLine number
+fault_of editing.OutOfMemory = fault.Refused refusal.OutOfMemory
+
+-- the line that tells of a bad one
+abbrev pub bad_line : ℕ → List ℕ
+bad_line number = line (codes "gixobj: line " ++ decimal number)
+
+-- the line for standard error
+abbrev pub fault_line : Fault → List ℕ
+fault_line (fault.BadLine number) = bad_line number
+fault_line (fault.Refused it) = line_of it
+
+-- the exit status
+abbrev pub fault_status : Fault → ℕ
+fault_status (fault.BadLine number) = 1
+fault_status (fault.Refused it) = status_of it

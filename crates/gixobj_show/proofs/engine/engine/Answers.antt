@@ -1,0 +1,6 @@
+-- The answers of the whole program.
+use Rattle.std.proofs.Common.{rules}
+use Rattle.gixobj_show.proofs.engine.engine.Goals as goal
+
+pub returns-clause-answer : goal.returns-clause-answer
+returns-clause-answer g c = search rules

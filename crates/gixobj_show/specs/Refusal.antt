@@ -1,0 +1,31 @@
+-- What the program says where it gives no answer.
+use Rattle.std.specs.Prelude.{ℕ, List, [], ◌∷◌, ◌++◌, codes}
+use Rattle.gixobj_show.specs.declared.refusal.Refusal.{Refusal}
+use Rattle.gixobj_show.specs.declared.refusal.Refusal.TheVariants.{Usage, InputFailed, OutputFailed, OutOfMemory, BadHeader, ShortData, NotATree, BadTree}
+use Rattle.gixobj_base.specs.Bytes.{newline}
+
+-- a text and a newline
+abbrev pub line : List ℕ → List ℕ
+line text = text ++ newline ∷ []
+
+-- the line for standard error
+abbrev pub line_of : Refusal → List ℕ
+line_of Usage = line (codes "usage: gixobj show|tree|edit [sha256]")
+line_of InputFailed = line (codes "gixobj: input failed")
+line_of OutputFailed = line (codes "gixobj: output failed")
+line_of OutOfMemory = line (codes "gixobj: out of memory")
+line_of BadHeader = line (codes "gixobj: bad header")
+line_of ShortData = line (codes "gixobj: short data")
+line_of NotATree = line (codes "gixobj: not a tree")
+line_of BadTree = line (codes "gixobj: bad tree")
+
+-- the exit status
+abbrev pub status_of : Refusal → ℕ
+status_of Usage = 2
+status_of InputFailed = 1
+status_of OutputFailed = 1
+status_of OutOfMemory = 1
+status_of BadHeader = 1
+status_of ShortData = 1
+status_of NotATree = 1
+status_of BadTree = 1

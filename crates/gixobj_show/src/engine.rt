@@ -1,0 +1,122 @@
+//! The program, over any reader and any two writers.
+ghost use Rattle.std.specs.Prelude.{◌≡◌, ◌≢◌, map, OnOk, IfErr, IfOk, ⊤};
+ghost use Rattle.std.specs.String.{string_bytes};
+ghost use Rattle.gixobj_show.specs.Engine.{Answered, IsTextFor, Refuses, RefusesText, Told, Unread, Unwritten};
+ghost use Rattle.gixobj_base.specs.Streams.{writer_view};
+ghost use Rattle.gixobj_show.specs.Refusal.{line_of, status_of};
+ghost use Rattle.gixobj_show.specs.declared.refusal.Refusal.{Refusal};
+
+use crate::input::read_all;
+use crate::refusal::Refusal;
+use crate::show::show;
+use crate::tree::listing;
+use crate::words::{Command, asked};
+use gixobj_base::hash;
+use gixobj_base::streams::{FromRead, Sink, Source, ToWrite};
+use smallvec::SmallVec;
+use std::alloc::Global;
+use std::io::{Read, Write};
+
+/// Does what the words after the program's name ask for, and answers the exit status.
+///
+/// `show` and `tree` read all of the input, by SHA-1, or with a second word `sha256` by SHA-256.
+/// `show` writes the line `<kind> <size> <id>` of the loose object that the input begins with, and
+/// `tree` a line `<mode> <kind> <id> <name>` for each entry of the loose tree: status 0. Any other
+/// words: a line on how to use the program, status 2, with nothing read. Else a line that says what
+/// is wrong, status 1: `bad header`, `short data`, for `tree` also `not a tree` and `bad tree`,
+/// `input failed`, `output failed` or `out of memory`.
+pub fn engine<R: Read, O: Write, E: Write>(
+    alloc: Global,
+    words: &[String],
+    input: &mut R,
+    output: &mut O,
+    errors: &mut E,
+) -> u8
+    ensures answer { result ≡ 0 → Answered (map string_bytes words.now) (R.remaining input.old) (R.remaining input.new) (writer_view (O.contents output.old)) (writer_view (O.contents output.new)) }
+    ensures no_error { result ≡ 0 → errors.new ≡ errors.old }
+    ensures refusal { result ≢ 0 → (refusal : Refusal) × (result ≡ status_of refusal)
+        × Refuses (map string_bytes words.now) (R.remaining input.old) (R.remaining input.new) ⊤ (writer_view (O.contents output.old)) (writer_view (O.contents output.new)) refusal
+        × Told (writer_view (E.contents errors.old)) (writer_view (E.contents errors.new)) (line_of refusal)
+        × Unread (input.new ≡ input.old) refusal × Unwritten (output.new ≡ output.old) refusal }
+{
+    run(
+        alloc,
+        words,
+        &mut FromRead(input),
+        &mut ToWrite(output),
+        &mut ToWrite(errors),
+    )
+}
+
+/// [`engine`] over a source and two sinks, which say when they may fail: over a slice and two
+/// vectors with room, the input never fails and each line is written.
+pub fn run<S: Source, O: Sink, E: Sink>(
+    alloc: Global,
+    words: &[String],
+    input: &mut S,
+    output: &mut O,
+    errors: &mut E,
+) -> u8
+    ensures answer { result ≡ 0 → Answered (map string_bytes words.now) (S.rest input.old) (S.rest input.new) (O.view output.old) (O.view output.new) }
+    ensures no_error { result ≡ 0 → errors.new ≡ errors.old }
+    ensures refusal { result ≢ 0 → (refusal : Refusal) × (result ≡ status_of refusal)
+        × Refuses (map string_bytes words.now) (S.rest input.old) (S.rest input.new) (S.may_fail input.old) (O.view output.old) (O.view output.new) refusal
+        × Told (E.view errors.old) (E.view errors.new) (line_of refusal)
+        × Unread (input.new ≡ input.old) refusal × Unwritten (output.new ≡ output.old) refusal }
+    ensures same_loans { (S.loan input.new ≡ S.loan input.old) × (O.loan output.new ≡ O.loan output.old) × (E.loan errors.new ≡ E.loan errors.old) }
+{
+    match answer(alloc, words, input, output) {
+        Ok(()) => 0,
+        Err(refusal) => tell(refusal, errors),
+    }
+}
+
+/// Reads the input, and writes the text that the words ask for.
+fn answer<S: Source, O: Sink>(
+    alloc: Global,
+    words: &[String],
+    input: &mut S,
+    output: &mut O,
+) -> Result<(), Refusal>
+    ensures answer { OnOk result (Answered (map string_bytes words.now) (S.rest input.old) (S.rest input.new) (O.view output.old) (O.view output.new)) }
+    ensures refusal { IfErr result (Refuses (map string_bytes words.now) (S.rest input.old) (S.rest input.new) (S.may_fail input.old) (O.view output.old) (O.view output.new)) }
+    ensures unread { IfErr result (Unread (input.new ≡ input.old)) }
+    ensures unwritten { IfErr result (Unwritten (output.new ≡ output.old)) }
+    ensures same_loans { (S.loan input.new ≡ S.loan input.old) × (O.loan output.new ≡ O.loan output.old) }
+{
+    let Some((command, hash)) = asked(words) else {
+        return Err(Refusal::Usage);
+    };
+    let bytes = read_all(alloc, input)?;
+    let text = text_for(alloc, command, hash, bytes.as_slice())?;
+    match output.put(text.as_slice()) {
+        Ok(()) => Ok(()),
+        Err(_) => Err(Refusal::OutputFailed),
+    }
+}
+
+/// What a command makes of its input, by this kind of digest. The line of `show` takes no memory.
+fn text_for(
+    alloc: Global,
+    command: Command,
+    hash: hash::Kind,
+    input: &[u8],
+) -> Result<SmallVec<u8, 96>, Refusal>
+    ensures text { IfOk result (λ text. IsTextFor command hash input.now text.items) }
+    ensures refusal { IfErr result (RefusesText command hash input.now) }
+{
+    match command {
+        Command::Show => Ok(show(alloc, hash, input)?.line(alloc)),
+        Command::Tree => Ok(SmallVec::from_vec(listing(alloc, hash, input)?)),
+    }
+}
+
+/// Says what is wrong, and answers the exit status. Where that can't be said, the status alone says it.
+pub fn tell<E: Sink>(refusal: Refusal, errors: &mut E) -> u8
+    ensures status { result ≡ status_of refusal }
+    ensures told { Told (E.view errors.old) (E.view errors.new) (line_of refusal) }
+    ensures same_loan { E.loan errors.new ≡ E.loan errors.old }
+{
+    let _ = errors.put(refusal.line());
+    refusal.status()
+}

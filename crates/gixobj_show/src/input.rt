@@ -1,0 +1,34 @@
+//! Standard input, read whole.
+ghost use Rattle.std.specs.Prelude.{◌≡◌, IfOk, IfErr, OnOk};
+ghost use Rattle.std.specs.Io.KnownBytes.{Consumes, IsAtEnd};
+ghost use Rattle.gixobj_show.specs.Input.{RefusesInput};
+
+use crate::refusal::Refusal;
+use gixobj_base::streams::Source;
+use std::alloc::Global;
+
+/// All the bytes that are left of a source.
+///
+/// The refusals are `InputFailed`, where the source fails, and `OutOfMemory`, where the bytes find
+/// no memory.
+pub fn read_all<S: Source>(alloc: Global, source: &mut S) -> Result<Vec<u8>, Refusal>
+    ensures all { IfOk result (λ bytes. Consumes (S.rest source.old) (S.rest source.new) bytes.items) }
+    ensures end { OnOk result (IsAtEnd (S.rest source.new)) }
+    ensures refusal { IfErr result (RefusesInput (S.may_fail source.old)) }
+    ensures same_loan { S.loan source.new ≡ S.loan source.old }
+{
+    let mut bytes = Vec::new(alloc);
+    let mut chunk = [0u8; 4096];
+    'chunks: loop {
+        let count = match source.read_some(&mut chunk) {
+            Ok(count) => count,
+            Err(_) => return Err(Refusal::InputFailed),
+        };
+        if count == 0 {
+            return Ok(bytes);
+        }
+        if bytes.extend_from_slice(&chunk[..count]).is_err() {
+            return Err(Refusal::OutOfMemory);
+        }
+    }
+}
