@@ -12,6 +12,8 @@ mod editor;
 #[cfg(test)]
 mod history;
 #[cfg(test)]
+mod import;
+#[cfg(test)]
 mod listing;
 #[cfg(test)]
 mod public_paths;

@@ -19,6 +19,7 @@ mod objects;
 mod public_paths;
 #[cfg(test)]
 mod signed;
+pub mod signing;
 #[cfg(test)]
 mod spaced_encoding;
 #[cfg(test)]

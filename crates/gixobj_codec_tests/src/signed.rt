@@ -14,7 +14,7 @@ use gixobj_signature::signature::sign::{Error, Options};
 use gixobj_signature::signature::words::text;
 use gixobj_signature::signature::{Call, Output, verify};
 use gixobj_text::signature::Format;
-use gixobj_signing_tests::played::Played;
+use crate::signing::played::Played;
 use std::alloc::Global;
 use std::test::Fail;
 

@@ -1,8 +1,8 @@
 //! Commits that are signed, and signatures that are found in their texts.
 
-use crate::calls::Told;
-use crate::objects::{Comes, Row, gpg, is_so, runner_of_row};
-use crate::signing::CREATED;
+use crate::signing::calls::Told;
+use crate::signing::objects::{Comes, Row, gpg, is_so, runner_of_row};
+use crate::signing::signing::CREATED;
 use gixobj_commit::{Commit, CommitRef, CommitRefIter};
 use gixobj_fields::WriteTo;
 use gixobj_hash::hash::Kind::{self, Sha1, Sha256};

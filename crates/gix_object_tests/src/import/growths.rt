@@ -1,7 +1,7 @@
 //! The three steps, where a growth is refused on the way: the steps before it are imported as ever, and a new importer
 //! imports all of them.
 
-use crate::samples::{COMMITS, are_commits, kept_commit, number, plain_steps, step};
+use crate::import::samples::{COMMITS, are_commits, kept_commit, number, plain_steps, step};
 use gixobj_editor::editor::{Error, WriteError};
 use gixobj_fields::encode;
 use gixobj_hash::hash::Kind as HashKind;

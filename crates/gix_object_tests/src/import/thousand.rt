@@ -1,7 +1,7 @@
 //! A history of 1,000 steps of three edits, as `git fast-import` makes it: `examples/imports.py` has the rule of its steps and
 //! prints the ids. Each commit names the one before it, so the last id alone tells of all of them.
 
-use crate::samples::{id, path_of};
+use crate::import::samples::{id, path_of};
 use bstr::BString;
 use gixobj_actor::actor::Signature;
 use gixobj_actor::date::Time;

@@ -1,5 +1,4 @@
 //! Tests of `gixobj_signature`, and of commits and tags that are signed.
-#![tactic(auto)]
 
 #[cfg(test)]
 mod calls;

@@ -1,8 +1,8 @@
 //! What the tests of signed commits and tags share: `gpg`, without further words, and what comes of it.
 
-use crate::calls::{Step, Told, environment_of, runner_of, text};
-use crate::played::Played;
-use crate::signing::name_of;
+use crate::signing::calls::{Step, Told, environment_of, runner_of, text};
+use crate::signing::played::Played;
+use crate::signing::signing::name_of;
 use gixobj_fields::encode;
 use gixobj_hash::hash::Kind;
 use gixobj_hash::{OutOfMemory, decode};

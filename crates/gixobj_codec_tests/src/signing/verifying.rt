@@ -1,8 +1,6 @@
 //! Verifying: the words of each call, and what comes of each answer.
 
-use crate::calls::{
-    PROGRAM, Step, Told, WHY, environment_of, runner_of, text, text_if_some, texts_of, time,
-};
+use crate::signing::calls::{PROGRAM, Step, Told, WHY, environment_of, runner_of, text, text_if_some, texts_of, time};
 use bstr::{BStr, BString};
 use gixobj_hash::OutOfMemory;
 use gixobj_text::signature::Format;

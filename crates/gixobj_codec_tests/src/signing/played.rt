@@ -13,7 +13,7 @@ pub struct Played {
 }
 
 impl Runner for Played {
-    ghost use Rattle.gixobj_signing_tests.specs.Playing.{Gives};
+    ghost use Rattle.gixobj_codec_tests.specs.Playing.{Gives};
 
     ghost runs = { λ old _ answer new. Gives old.steps.items answer new.steps.items };
 

@@ -1,7 +1,7 @@
 //! Each call to keep a tree or a commit refused in turn.
 
-use crate::failing::Failing;
-use crate::samples::{COMMITS, are_commits, kept_commit, number, plain_steps, step};
+use crate::import::failing::Failing;
+use crate::import::samples::{COMMITS, are_commits, kept_commit, number, plain_steps, step};
 use gixobj_hash::hash::Kind as HashKind;
 use gixobj_import::{Importer, import_all};
 use std::alloc::Global;

@@ -1,6 +1,6 @@
 //! Calls and answers, as the rows of tests spell them.
 
-use crate::played::Played;
+use crate::signing::played::Played;
 use bstr::BString;
 use gixobj_actor::date::Time;
 use gixobj_hash::OutOfMemory;

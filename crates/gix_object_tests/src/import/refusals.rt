@@ -1,6 +1,6 @@
 //! Every refusal of a step, and what comes behind it.
 
-use crate::samples::{COMMITS, are_commits, number, path_of, plain_steps, step, step_by, upsert};
+use crate::import::samples::{COMMITS, are_commits, number, path_of, plain_steps, step, step_by, upsert};
 use gixobj_editor::Edit;
 use gixobj_editor::editor::Error;
 use gixobj_hash::hash::{Kind as HashKind, ObjectId};

@@ -1,8 +1,8 @@
 //! Tags that are signed, and signatures that are found in their texts.
 
-use crate::calls::{Step, Told, environment_of, runner_of, text};
-use crate::objects::{Comes, Row, gpg, is_so, runner_of_row};
-use crate::signing::CREATED;
+use crate::signing::calls::{Step, Told, environment_of, runner_of, text};
+use crate::signing::objects::{Comes, Row, gpg, is_so, runner_of_row};
+use crate::signing::signing::CREATED;
 use bstr::BStr;
 use gixobj_fields::WriteTo;
 use gixobj_hash::OutOfMemory;

@@ -1,6 +1,6 @@
 //! Signing: the words of each call, and what comes of each answer.
 
-use crate::calls::{PROGRAM, Step, Told, WHY, environment_of, runner_of, text, texts_of};
+use crate::signing::calls::{PROGRAM, Step, Told, WHY, environment_of, runner_of, text, texts_of};
 use gixobj_hash::OutOfMemory;
 use gixobj_signature::signature::sign::{Error, Options, is_literal_ssh_key, sign_payload};
 use gixobj_text::signature::Format::{self, OpenPgp, Ssh, X509};
