@@ -1,12 +1,11 @@
 -- Lines that name an actor and a time (git-commit-tree, "Commit Information"; git-fast-import, "author").
 use Rattle.std.specs.Prelude.{◌≡◌, ◌≢◌, ◌⊎◌, ◌||◌, ◌==◌, ℕ, Bool, List, [], ◌∷◌, ◌++◌, IsFalse, pos, ⊤, codes}
-use Rattle.std.specs.Char.{is_ascii_digit, is_whitespace}
+use Rattle.std.specs.Char.{is_ascii_digit}
 use Rattle.std.specs.List.{AllPass}
 use Rattle.bstr.specs.BStr.{bstr_bytes}
 use Rattle.bstr.specs.Owned.{bstring_bytes}
-use Rattle.bstr.specs.Trim.{trim_end_by, trim_start_by}
 use Rattle.gixobj_actor.specs.Date.{IsNoTimeText, IsTimeText}
-use Rattle.gixobj_hash.specs.Texts.{IsFree}
+use Rattle.gixobj_hash.specs.Texts.{IsFree, trimmed}
 use Rattle.gixobj_actor.specs.declared.actor.Signature.{Signature}
 use Rattle.gixobj_actor.specs.declared.actor.SignatureRef.{SignatureRef}
 use Rattle.gixobj_actor.specs.declared.date.Time.{Time}
@@ -49,10 +48,6 @@ IsNoActorLine line = (name email time rest : List ℕ) → ¬ IsActorLine line n
 -- the line begins with an actor; bytes may follow its time
 abbrev pub BeginsWithActor : List ℕ → Type 0
 BeginsWithActor line = (name email time rest : List ℕ) × IsActorLine line name email time rest
-
--- the bytes without white space at either end
-abbrev pub trimmed : List ℕ → List ℕ
-trimmed text = trim_end_by is_whitespace (trim_start_by is_whitespace text)
 
 -- the time that the text says; where it says none, the start of 1970 in UTC
 abbrev pub IsTimeOrDefault : List ℕ → Time → Type 0

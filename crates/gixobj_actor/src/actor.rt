@@ -6,14 +6,14 @@ ghost use Rattle.std.specs.List.{AllPass};
 ghost use Rattle.std.specs.Option.{SomeIff};
 ghost use Rattle.bstr.specs.BStr.{bstr_bytes};
 ghost use Rattle.bstr.specs.Owned.{bstring_bytes};
-ghost use Rattle.gixobj_actor.specs.Actor.{EndsTime, IsActorLine, IsGap, IsNameOf, IsNoActorLine, IsTimeOrDefault, IsWritable, actor_text, is_time_byte as is_time_byte_of, trimmed};
+ghost use Rattle.gixobj_actor.specs.Actor.{EndsTime, IsActorLine, IsGap, IsNameOf, IsNoActorLine, IsTimeOrDefault, IsWritable, actor_text, is_time_byte as is_time_byte_of};
 ghost use Rattle.gixobj_actor.specs.ActorWriting.{IsLegalActor, RefusesActor, borrowed_text, owned_text};
 ghost use Rattle.gixobj_actor.specs.Date.{IsNoTimeText, IsTimeText, time_text};
 ghost use Rattle.gixobj_fields.specs.Streams.{Puts, PutsFront, PutsOrFails, writer_view};
 ghost use Rattle.gixobj_hash.specs.declared.decode.Error.TheVariants.{Malformed};
 ghost use Rattle.gixobj_fields.specs.Writing.{IsSize};
 ghost use Rattle.gixobj_hash.specs.Bytes.{newline};
-ghost use Rattle.gixobj_hash.specs.Texts.{IsFree};
+ghost use Rattle.gixobj_hash.specs.Texts.{IsFree, trimmed};
 
 use crate::date::{Time, TimeBuf, parse_header};
 use bstr::{BStr, BString, ByteSlice};

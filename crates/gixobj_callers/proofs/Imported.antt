@@ -4,7 +4,7 @@ use Rattle.std.specs.FinMap as map
 use Rattle.std.specs.Prelude.{MatchOption}
 use Rattle.std.proofs.lemmas.List.Elements.{All-contains, Contains-push}
 use Rattle.gixobj_base.specs.Entries.{EntryView}
-use Rattle.gixobj_callers.specs.Imports.{AreDone, Decides, IsWriteBehind, import_steps, steps_if_done}
+use Rattle.gixobj_callers.specs.Imports.{AreDone, Decides, IsWriteBehind, import_steps}
 use Rattle.gixobj_callers.proofs.Alone.{root_files}
 use Rattle.gixobj_callers.proofs.Histories.{history_append, same_history, same_refl, same_sym, same_trans}
 use Rattle.gixobj_editor.specs.declared.command.Edit.{Edit}
@@ -24,6 +24,7 @@ use Rattle.gixobj_editor.specs.Replies.{Answers, IsEditReply, Meaning}
 use Rattle.gixobj_editor.specs.RunTables.{AgreesWithObjects}
 use Rattle.gixobj_editor.specs.declared.reply.EditReply.{EditReply}
 use Rattle.gixobj_editor.specs.declared.reply.EditReply.TheVariants as edit_reply
+use Rattle.gixobj_import.specs.Edited.{steps_if_done}
 
 -- what agrees with the objects agrees with their trees
 agrees_with_trees : (T : Table) (objects : Objects) (trees : Trees) → AreTreesOf objects trees → AgreesWithObjects T objects → AgreesWithStore T trees

@@ -7,12 +7,13 @@ use Rattle.std.specs.Prelude.{◌<◌, ◌↔◌, IfSome, IsNone, IsSome, slice_
 use Rattle.gixobj_base.specs.hash.hash.kind.Kind as hash
 use Rattle.gixobj_base.specs.hash.hash.object_id.ObjectId.{ObjectId}
 use Rattle.gixobj_codec.specs.Stores.{Objects}
-use Rattle.gixobj_import.specs.Imports.{AreCommitsOf, HaveFilesOfNothing, edits_of, no_files}
+use Rattle.gixobj_import.specs.Imports.{AreCommitsOf, HaveFilesOfNothing, edits_of}
 use Rattle.gixobj_import.specs.declared.import.Imported.{Imported}
 use Rattle.gixobj_import.specs.declared.import.Step.{Step}
 use Rattle.gixobj_callers.specs.Archives.{IsOfStep, IsTip}
 use Rattle.gixobj_files.specs.Files.{NamedFiles, SameFiles}
 use Rattle.gixobj_files.specs.History.{History}
+use Rattle.gixobj_files.specs.PlainHistory.{NoFiles}
 
 pub as_many : (hash : hash.Kind) (parent : Option ObjectId) (steps : List Step) (imported : List Imported) (final : Objects) → AreCommitsOf hash parent steps imported final → length imported ≡ length steps
 as_many hash parent [] [] final are = refl
@@ -54,7 +55,7 @@ is_tip objects final hash steps imported earlier tip is commits files =
       one_each = last.one_each;
       commit = last.commit;
       files = λ T n agrees.
-          subst (λ (ss : List Step). SameFiles (NamedFiles T n tip.written.id) (History T n (edits_of ss) no_files)) (take_all (suc (length earlier)) steps (omega (arith, count)))
+          subst (λ (ss : List Step). SameFiles (NamedFiles T n tip.written.id) (History T n (edits_of ss) NoFiles)) (take_all (suc (length earlier)) steps (omega (arith, count)))
           (subst (λ (all : List Imported). HaveFilesOfNothing objects steps all) is files T n agrees (length earlier) tip (found_last earlier tip));
     }
 

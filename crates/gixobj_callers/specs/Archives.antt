@@ -9,9 +9,10 @@ use Rattle.gixobj_codec.specs.Stores.{Objects}
 use Rattle.gixobj_files.specs.Files.{NamedFiles, SameFiles, Table}
 use Rattle.gixobj_files.specs.History.{History}
 use Rattle.gixobj_import.specs.Commits.{step_commit, step_text}
-use Rattle.gixobj_import.specs.Imports.{AgreesWithImports, edits_of, no_files}
+use Rattle.gixobj_import.specs.Imports.{AgreesWithImports, edits_of}
 use Rattle.gixobj_import.specs.declared.import.Imported.{Imported}
 use Rattle.gixobj_import.specs.declared.import.Step.{Step}
+use Rattle.gixobj_files.specs.PlainHistory.{NoFiles}
 
 -- the commit's id is the digest of a text that is this step's, with its tree and a parent or none
 pub record IsOfStep (hash : hash.Kind) (step : Step) (it : Imported) : Type 0 where
@@ -30,4 +31,4 @@ pub record IsTip (objects : Objects) (hash : hash.Kind) (steps : List Step) (tip
   pub one_each : length earlier ≡ length before
   pub commit : IsOfStep hash last tip
   pub files : (T : Table) (n : ℕ) → AgreesWithImports T objects None steps (earlier ++ tip ∷ [])
-      → SameFiles (NamedFiles T n tip.written.id) (History T n (edits_of steps) no_files)
+      → SameFiles (NamedFiles T n tip.written.id) (History T n (edits_of steps) NoFiles)

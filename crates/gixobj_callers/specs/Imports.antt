@@ -1,15 +1,13 @@
 -- Imports: edits that all come through, one after the other, and then a write, all of whose trees the store keeps.
 use Rattle.std.specs.Prelude.{◌≡◌, ◌++◌, ◌∷◌, ℕ, Bool, true, false, Contains, List, [], flat_map, length, map}
-use Rattle.gixobj_base.specs.Mode.{mode_of_kind}
 use Rattle.gixobj_callers.specs.declared.importer.ImportError.{ImportError}
 use Rattle.gixobj_callers.specs.declared.importer.ImportError.TheVariants as import
 use Rattle.gixobj_editor.specs.declared.command.Command.{Command}
 use Rattle.gixobj_editor.specs.declared.command.Command.TheVariants as command
 use Rattle.gixobj_editor.specs.declared.command.Edit.{Edit}
 use Rattle.gixobj_editor.specs.declared.command.Edit.TheVariants as edit
-use Rattle.gixobj_directories.specs.Calls.{names_of}
 use Rattle.gixobj_editor.specs.declared.editor.error.Error.{Error}
-use Rattle.gixobj_files.specs.History.{Step, remove, upsert}
+use Rattle.gixobj_files.specs.History.{Step}
 use Rattle.gixobj_files.specs.State.{State}
 use Rattle.gixobj_editor.specs.Commands.{at_root}
 use Rattle.gixobj_editor.specs.Replies.{Answers, AreEditReplies, IsEditReply, IsRun, Meaning}
@@ -17,13 +15,7 @@ use Rattle.gixobj_editor.specs.declared.reply.EditReply.{EditReply}
 use Rattle.gixobj_editor.specs.declared.reply.EditReply.TheVariants as edit_reply
 use Rattle.gixobj_editor.specs.declared.reply.Reply.{Reply}
 use Rattle.gixobj_editor.specs.declared.reply.Reply.TheVariants as reply
-
--- what an edit that comes through does to the files; a write does nothing
-abbrev pub steps_if_done : Edit → List Step
-steps_if_done (edit.Upsert path kind id) = upsert (names_of path.items) (mode_of_kind kind) id ∷ []
-steps_if_done (edit.Remove path) = remove (names_of path.items) ∷ []
-steps_if_done (edit.RemoveLeaf path) = remove (names_of path.items) ∷ []
-steps_if_done edit.Write = []
+use Rattle.gixobj_import.specs.Edited.{steps_if_done}
 
 -- what all of the edits do, in order
 abbrev pub import_steps : List Edit → List Step

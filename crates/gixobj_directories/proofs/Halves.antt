@@ -7,7 +7,7 @@ use Rattle.std.specs.List.Sorted.{IsBinarySearchResult, IsSearchInRange, IsSorte
 use Rattle.std.specs.Ordering.{is_eq, is_gt, is_lt, nat_cmp, ordering_reverse}
 use Rattle.std.proofs.lemmas.Bool.{le-ltb, lt-ltb, ltb-false}
 use Rattle.std.proofs.lemmas.Bool.Decides.{leb_tells}
-use Rattle.std.proofs.lemmas.Cmp.{nat_list_cmp_total, tied_itself}
+use Rattle.std.proofs.lemmas.Cmp.{nat_list_cmp_total}
 use Rattle.std.proofs.lemmas.List.{get_or_default}
 use Rattle.std.proofs.lemmas.List.Elements.{All-from_recursion}
 use Rattle.std.proofs.lemmas.List.Folds.{find_at}
@@ -15,7 +15,7 @@ use Rattle.std.proofs.lemmas.List.Quantifiers.{position-Some}
 use Rattle.std.proofs.lemmas.List.Sorted.{searchable_from_sorted}
 use Rattle.std.proofs.lemmas.List.Sums.{prefix_len_is}
 use Rattle.std.proofs.lemmas.Option.{slice_get-get_or, slice_get_past}
-use Rattle.gixobj_tree.proofs.WellFormed.{same_key}
+use Rattle.gixobj_tree.proofs.WellFormed.{same_key, tied}
 use Rattle.gixobj_tree.specs.Entries.{EachLater}
 
 -- the first place at which a test passes, and where there is none
@@ -80,9 +80,6 @@ gt_is Less h = absurd (true≢false h)
 gt_is Equal h = absurd (true≢false h)
 gt_is Greater h = refl
 
-pub tied_keys : (key sought : List ℕ) → key ≡ sought → slice_cmp nat_cmp key sought ≡ Equal
-tied_keys key sought is = rw is (tied_itself nat_list_cmp_total sought)
-
 -- elements with keys that ascend
 module _ {X : Type 0} (key : X → List ℕ) where
   abbrev pub Ascends : List X → Type 0
@@ -142,7 +139,7 @@ module _ {X : Type 0} (key : X → List ℕ) where
   pub halved_none : (xs : List X) → Ascends xs → (sought : List ℕ) (i : ℕ) → IsBinarySearchResult (compared sought) xs (Err i) → (k : ℕ) (d : X) → k < length xs → key (get_or xs k d) ≢ sought
   halved_none xs up sought i is k d low same =
       let split = is (searchable_from_sorted nat_list_cmp_total key xs sought (sorted xs up)) in
-      let tie : slice_cmp nat_cmp (key (get_or xs k d)) sought ≡ Equal = tied_keys (key (get_or xs k d)) sought same in
+      let tie : slice_cmp nat_cmp (key (get_or xs k d)) sought ≡ Equal = tied (key (get_or xs k d)) sought same in
       elim (leb_tells i k) [
         | inl behind ↦ greater_only _ (split.1 k d behind.1 low) tie
         | inr ahead ↦ less_only _ (split.0 k d (omega arith) ahead.1) tie

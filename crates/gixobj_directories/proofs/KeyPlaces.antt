@@ -8,35 +8,28 @@ use Rattle.std.specs.List.{position, prefix_len}
 use Rattle.std.specs.List.Sorted.{IsBinarySearchResult, IsSearchInRange}
 use Rattle.std.specs.Ordering.{is_lt, nat_cmp, ordering_reverse}
 use Rattle.std.specs.Result.{result_ok}
-use Rattle.std.proofs.lemmas.Bool.{false_from_ne_true}
+use Rattle.std.proofs.lemmas.Bool.{and_parts, false_from_ne_true}
 use Rattle.std.proofs.lemmas.Cmp.{nat_list_cmp_total}
 use Rattle.std.proofs.lemmas.List.{append_cancel_right, get_or_default}
-use Rattle.std.proofs.lemmas.List.Elements.{All-contains, All-from_recursion, Contains-get_or, Contains-push}
+use Rattle.std.proofs.lemmas.List.Elements.{All-contains, All-from_recursion, Contains-get_or}
 use Rattle.std.proofs.lemmas.List.Folds.{list_any_at, list_any_none}
 use Rattle.std.proofs.lemmas.List.Quantifiers.{position-Some}
 use Rattle.std.proofs.lemmas.List.Sums.{prefix_len-le-length, prefix_len_passes, prefix_len_stops}
 use Rattle.gixobj_files.specs.Editing.{has_tree, same_name}
 use Rattle.gixobj_hash.specs.Texts.{IsFree}
 use Rattle.gixobj_tree.proofs.NameKeys.{by_keys}
-use Rattle.gixobj_tree.proofs.WellFormed.{found, same_key}
+use Rattle.gixobj_tree.proofs.WellFormed.{found, same_key, slash_ends}
 use Rattle.gixobj_tree.specs.Entries.{EntryView, IsEntryName, IsWellFormed, entry_key, key_of, name_cmp}
 use Rattle.gixobj_tree.specs.Mode.{is_tree_mode}
 use Rattle.gixobj_tree.specs.WellFormed.{HasKey}
 use Rattle.gixobj_directories.proofs.Halves.{IsNarrowed, compared, first, greater_from, halved_key, halved_place, is_before, later_at, less_to, lt_is, narrowed_none, position_at, position_none}
 
 -- a key has one name and one kind
-slash_ends : (name : List ℕ) → IsFree 47 (name ++ 47 ∷ []) → ⊥
-slash_ends name free = All-contains (λ it. it ≢ 47) (name ++ 47 ∷ []) 47 free (Contains-push name 47) refl
-
 same_parts : (xs : List ℕ) (t : Bool) (ys : List ℕ) (u : Bool) → IsFree 47 xs → IsFree 47 ys → key_of xs t ≡ key_of ys u → (xs ≡ ys) × (t ≡ u)
 same_parts xs true ys true a b e = (append_cancel_right xs ys (47 ∷ []) e, refl)
 same_parts xs false ys false a b e = (e, refl)
 same_parts xs true ys false a b e = absurd (slash_ends xs (subst (IsFree 47) (sym e) b))
 same_parts xs false ys true a b e = absurd (slash_ends ys (subst (IsFree 47) e a))
-
-both : (a b : Bool) → (a && b) ≡ true → (a ≡ true) × (b ≡ true)
-both true b h = (refl, h)
-both false b h = absurd (true≢false (sym h))
 
 -- whether a tree's entry was found
 pub tree_told : (name : List ℕ) (es : List EntryView) (r : Result ℕ ℕ) → IfOk r (λ i. position (λ (e : EntryView). same_name e.name name) es ≡ Some i) → IfOk r (HoldsAt (λ (e : EntryView). is_tree_mode e.mode ≡ true) es)
@@ -48,7 +41,7 @@ tree_told name (e ∷ es) (Ok i) place kind none =
 tree_told name es (Err i) place kind none =
     let is_such : EntryView → Bool = λ x. same_name x.name name && is_tree_mode x.mode in
     sym (list_any_none is_such es (λ k d low. false_from_ne_true (is_such (get_or es k d)) (λ such.
-    let parts = both (same_name (get_or es k d).name name) (is_tree_mode (get_or es k d).mode) such in
+    let parts = and_parts (same_name (get_or es k d).name name) (is_tree_mode (get_or es k d).mode) such in
     let named : (get_or es k d).name ≡ name = (bytes_decides (get_or es k d).name name).0 parts.0 in
     none (get_or es k d, Contains-get_or es k d low, ap (key_of (get_or es k d).name) parts.1 ∙ ap (λ (n : List ℕ). key_of n true) named))))
 

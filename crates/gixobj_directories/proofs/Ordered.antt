@@ -12,11 +12,11 @@ use Rattle.std.proofs.lemmas.List.{append_cancel_right}
 use Rattle.bstr.specs.Owned.{bstring_bytes}
 use Rattle.gixobj_files.proofs.Sublists.{all_weaker}
 use Rattle.gixobj_files.specs.Editing.{same_name}
-use Rattle.gixobj_tree.proofs.WellFormed.{same_key}
+use Rattle.gixobj_tree.proofs.WellFormed.{same_key, tied}
 use Rattle.gixobj_tree.specs.Entries.{EachLater, EntryView, key_of}
 use Rattle.gixobj_directories.specs.declared.open.Child.{Child}
 use Rattle.gixobj_directories.specs.Nested.{AreOrdered, IsLevel, Part, is_child_before, is_part_before, part, part_key, parts, with_part}
-use Rattle.gixobj_directories.proofs.Halves.{Ascends, compared, first, halved_key, halved_none, halved_place, later_at, lt_is, position_at, position_none, tied_keys}
+use Rattle.gixobj_directories.proofs.Halves.{Ascends, compared, first, halved_key, halved_none, halved_place, later_at, lt_is, position_at, position_none}
 
 abbrev pub Before : Part → Part → Type 0
 Before p q = slice_cmp nat_cmp (part_key p) (part_key q) ≡ Less
@@ -26,7 +26,7 @@ same_part : (p q : Part) → slice_cmp nat_cmp (part_key p) (part_key q) ≡ Equ
 same_part p q tie = append_cancel_right p.0 q.0 (47 ∷ []) (same_key (part_key p) (part_key q) tie)
 
 pub differ : (p q : Part) → Before p q → p.0 ≢ q.0
-differ p q before same = true≢false (ap is_lt (sym before ∙ tied_keys (part_key p) (part_key q) (ap (λ (n : List ℕ). key_of n true) same)))
+differ p q before same = true≢false (ap is_lt (sym before ∙ tied (part_key p) (part_key q) (ap (λ (n : List ℕ). key_of n true) same)))
 
 -- of two names, where the first doesn't come before the second
 later : (p q : Part) → is_part_before q p ≡ false → q.0 ≢ p.0 → Before p q
@@ -96,7 +96,7 @@ module _ (cs : List Child) (up : AreOrdered (parts cs)) (name : List ℕ) where
       let here : child_key (get_or cs i d) ≡ key_of name true = halved_key child_key cs (key_of name true) i d is in
       sym (position_at is_called cs i d range ((bytes_decides (bstring_bytes (get_or cs i d).name) name).1 (append_cancel_right (bstring_bytes (get_or cs i d).name) name (47 ∷ []) here))
       (λ k low. false_from_ne_true (is_called (get_or cs k d)) (λ named. true≢false (ap is_lt
-      (sym (later_at (λ x y. slice_cmp nat_cmp (child_key x) (child_key y) ≡ Less) cs (ascends_of cs up) k i d low range) ∙ tied_keys (child_key (get_or cs k d)) (child_key (get_or cs i d)) (keyed (get_or cs k d) named ∙ sym here))))))
+      (sym (later_at (λ x y. slice_cmp nat_cmp (child_key x) (child_key y) ≡ Less) cs (ascends_of cs up) k i d low range) ∙ tied (child_key (get_or cs k d)) (child_key (get_or cs i d)) (keyed (get_or cs k d) named ∙ sym here))))))
   child_found (Err i) range is = sym (position_none is_called cs (λ k d low. false_from_ne_true (is_called (get_or cs k d)) (λ named. halved_none child_key cs (ascends_of cs up) (key_of name true) i is k d low (keyed (get_or cs k d) named))))
 
   pub child_before : (r : Result ℕ ℕ) → IsSearchInRange r (length cs) → IsBinarySearchResult by_key cs r

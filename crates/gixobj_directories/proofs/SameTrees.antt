@@ -1,11 +1,10 @@
 -- Trees that compare as the same are the same.
 use mathlib.Core.Bool.{true≢false}
-use Rattle.std.proofs.Common.{◌≡◌, ◌≢◌, ◌⊎◌, inl, inr, ◌∙◌, ℕ, Bool, true, false, List, [], ◌∷◌, refl, sym, ap}
-use Rattle.std.specs.Prelude.{◌&&◌}
+use Rattle.std.proofs.Common.{◌≡◌, ◌≢◌, ◌⊎◌, inl, inr, ◌∙◌, ℕ, true, false, List, [], ◌∷◌, refl, sym, ap}
 use Rattle.std.specs.Cmp.{tied_then}
 use Rattle.std.specs.Cmp.Lexicographic.{bytes_decides, slice_cmp, texts_ties}
 use Rattle.std.specs.Ordering.{is_eq, nat_cmp}
-use Rattle.std.proofs.lemmas.Bool.{eqb-true}
+use Rattle.std.proofs.lemmas.Bool.{and_parts, eqb-true}
 use Rattle.gixobj_hash.specs.Hash.Order.{id_cmp}
 use Rattle.gixobj_hash.specs.declared.hash.object_id.ObjectId.{ObjectId}
 use Rattle.gixobj_hash.specs.declared.hash.object_id.ObjectId.TheVariants.{Sha1, Sha256}
@@ -13,30 +12,26 @@ use Rattle.gixobj_tree.specs.Entries.{EntryView, entry_of}
 use Rattle.gixobj_tree.specs.EntryOrder.{same_entry, same_tree}
 use Rattle.gixobj_tree.specs.EntryOrderLaws.{tree_equiv}
 
-both : (a b : Bool) → (a && b) ≡ true → (a ≡ true) × (b ≡ true)
-both true b h = (refl, h)
-both false b h = absurd (true≢false (sym h))
-
 same_id : (x y : ObjectId) → is_eq (id_cmp x y) ≡ true → x ≡ y
-same_id (Sha1 a) (Sha1 b) h = ap Sha1 ((bytes_decides a b).0 (texts_ties a b ∙ (both _ _ (tied_then (slice_cmp nat_cmp a b) (nat_cmp 20 20) ∙ h)).0))
-same_id (Sha256 a) (Sha256 b) h = ap Sha256 ((bytes_decides a b).0 (texts_ties a b ∙ (both _ _ (tied_then (slice_cmp nat_cmp a b) (nat_cmp 32 32) ∙ h)).0))
-same_id (Sha1 a) (Sha256 b) h = absurd (true≢false (sym (both _ _ (tied_then (slice_cmp nat_cmp a b) (nat_cmp 20 32) ∙ h)).1))
-same_id (Sha256 a) (Sha1 b) h = absurd (true≢false (sym (both _ _ (tied_then (slice_cmp nat_cmp a b) (nat_cmp 32 20) ∙ h)).1))
+same_id (Sha1 a) (Sha1 b) h = ap Sha1 ((bytes_decides a b).0 (texts_ties a b ∙ (and_parts _ _ (tied_then (slice_cmp nat_cmp a b) (nat_cmp 20 20) ∙ h)).0))
+same_id (Sha256 a) (Sha256 b) h = ap Sha256 ((bytes_decides a b).0 (texts_ties a b ∙ (and_parts _ _ (tied_then (slice_cmp nat_cmp a b) (nat_cmp 32 32) ∙ h)).0))
+same_id (Sha1 a) (Sha256 b) h = absurd (true≢false (sym (and_parts _ _ (tied_then (slice_cmp nat_cmp a b) (nat_cmp 20 32) ∙ h)).1))
+same_id (Sha256 a) (Sha1 b) h = absurd (true≢false (sym (and_parts _ _ (tied_then (slice_cmp nat_cmp a b) (nat_cmp 32 20) ∙ h)).1))
 
 alike : (m m' : ℕ) (n n' : List ℕ) (i i' : ObjectId) → m ≡ m' → n ≡ n' → i ≡ i' → entry_of m n i ≡ entry_of m' n' i'
 alike m m' n n' i i' a b c = cc (a, b, c)
 
 pub one_entry : (x y : EntryView) → same_entry x y ≡ true → x ≡ y
 one_entry x y h =
-    let mode = both _ _ h in
-    let rest = both _ _ mode.1 in
+    let mode = and_parts _ _ h in
+    let rest = and_parts _ _ mode.1 in
     alike x.mode y.mode x.name y.name x.id y.id (eqb-true x.mode y.mode mode.0) ((bytes_decides x.name y.name).0 rest.0) (same_id x.id y.id rest.1)
 
 pub one_tree : (xs ys : List EntryView) → same_tree xs ys ≡ true → xs ≡ ys
 one_tree [] [] h = refl
 one_tree [] (y ∷ ys) h = absurd (true≢false (sym h))
 one_tree (x ∷ xs) [] h = absurd (true≢false (sym h))
-one_tree (x ∷ xs) (y ∷ ys) h = let parts = both _ _ h in let head = one_entry x y parts.0 in let rest = one_tree xs ys parts.1 in cc (head, rest)
+one_tree (x ∷ xs) (y ∷ ys) h = let parts = and_parts _ _ h in let head = one_entry x y parts.0 in let rest = one_tree xs ys parts.1 in cc (head, rest)
 
 pub other_tree : (xs ys : List EntryView) → same_tree xs ys ≡ false → xs ≢ ys
 other_tree xs ys h same = true≢false (sym (tree_equiv.refl xs) ∙ ap (same_tree xs) same ∙ h)

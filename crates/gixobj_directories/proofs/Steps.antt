@@ -18,6 +18,7 @@ use Rattle.gixobj_directories.specs.Nested.{Opened, Part, base_side, bases_of, d
 use Rattle.gixobj_files.specs.Opening.{Dirs, in_dir}
 use Rattle.gixobj_directories.specs.declared.open.Child.{Child}
 use Rattle.gixobj_directories.proofs.Levels.{Becomes, at_name, based_at, called, found, found_by, level_at, level_root, not_found}
+use Rattle.gixobj_files.proofs.RemovedFiles.{removed_none}
 
 -- a path of one name, and one of more
 pub one_left : (path : List BString) (name : BString) (rest : List BString) → path ≡ name ∷ rest → true ≡ (length rest == 0) → names_of path ≡ bstring_bytes name ∷ []
@@ -76,15 +77,6 @@ module _ (old : Opened) (es es' : List EntryView) (ps ps' : List Part) {base : L
   pub replaced : es' ≡ es → (at : Path) → dirs_of (opened es' [] ps') at ≡ with_dir name next (dirs_of old) at
   replaced is [] = ap Some is ∙ sym (level_root old es ps view)
   replaced is (first ∷ path) = elsewhere first path
-
--- where nothing is open, nothing is taken out
-pub removed_none : (path : Path) (dirs : Dirs) → ((at : Path) → dirs at ≡ None) → (at : Path) → removed_dirs path dirs at ≡ None
-removed_none [] dirs none at = none at
-removed_none (name ∷ []) dirs none [] = ap (option_map (without name)) (none [])
-removed_none (name ∷ []) dirs none (first ∷ at) = elim (same_name name first) as (λ b. cond b None (dirs (first ∷ at)) ≡ None) [ true ↦ refl | false ↦ none (first ∷ at) ]
-removed_none (name ∷ next ∷ rest) dirs none [] = none []
-removed_none (name ∷ next ∷ rest) dirs none (first ∷ at) =
-    elim (same_name name first) as (λ b. cond b (removed_dirs (next ∷ rest) (in_dir name dirs) at) (dirs (first ∷ at)) ≡ None) [ true ↦ removed_none (next ∷ rest) (in_dir name dirs) (λ q. none (name ∷ q)) at | false ↦ none (first ∷ at) ]
 
 -- a removal below a name that isn't open changes nothing
 pub taken_nothing : (old : Opened) (es : List EntryView) (ps : List Part) {base : List EntryView} → opened es base ps ≡ old → EachLater (λ x y. x.0 ≢ y.0) ps → (name second : List ℕ) (rest : Path) → ((path : Path) → in_part name ps path ≡ None)

@@ -1,16 +1,13 @@
 -- Tables that agree with runs.
-use Rattle.std.proofs.Common.{◌≡◌, ◌≢◌, ◌⊎◌, inl, inr, ⊎_elim, All, ℕ, true, false, List, [], ◌∷◌, ◌∙◌, Some, ap, refl, subst, sym, take}
+use Rattle.std.proofs.Common.{◌≡◌, ◌≢◌, ◌⊎◌, ⊎_elim, All, List, [], ◌∷◌, ◌∙◌, Some, ap, subst, sym, take}
 use Rattle.std.proofs.lemmas.List.Elements.{All-head, All-tail, All-take}
-use Rattle.std.specs.Cmp.Lexicographic.{bytes_decides}
 use Rattle.gixobj_object.proofs.Keeping.{elsewhere, there}
 use Rattle.gixobj_object.specs.Stores.{Objects, StoredObject, named}
 use Rattle.gixobj_directories.specs.Openings.{AreTreesOf, NamesTree}
 use Rattle.gixobj_files.proofs.ListedTables.{fitting_table}
-use Rattle.gixobj_files.specs.Editing.{same_name}
 use Rattle.gixobj_files.specs.Files.{Table, Trees}
 use Rattle.gixobj_files.specs.Tables.{AgreesWithPairs, FitsBeside, IsEmptyId, Pair}
 use Rattle.gixobj_hash.specs.declared.hash.object_id.ObjectId.{ObjectId}
-use Rattle.gixobj_hash.specs.declared.hash.object_id.ObjectId.TheVariants as id
 use Rattle.gixobj_find.specs.Keeping.{tree_object, with_tree, with_trees}
 use Rattle.gixobj_tree.specs.TreeReading.{IsTreeText}
 use Rattle.gixobj_tree.specs.Entries.{EntryView}
@@ -18,18 +15,7 @@ use Rattle.gixobj_editor.specs.Commands.{pairs_handed_out, pairs_kept}
 use Rattle.gixobj_editor.specs.RunTables.{AgreesWithObjects, AgreesWithRun, ReadsAsItself}
 use Rattle.gixobj_editor.specs.declared.reply.Reply.{Reply}
 use Rattle.gixobj_editor.proofs.KeptPairs.{kept_have}
-
-same_bytes : (xs ys : List ℕ) → (xs ≡ ys) ⊎ (xs ≢ ys)
-same_bytes xs ys = elim (same_name xs ys) as (λ b. same_name xs ys ≡ b → (xs ≡ ys) ⊎ (xs ≢ ys)) [
-  | true ↦ λ passes. inl ((bytes_decides xs ys).0 passes)
-  | false ↦ λ fails. inr (λ same. cc ((bytes_decides xs ys).1 same, fails))
-] refl
-
-same_ids : (x y : ObjectId) → (x ≡ y) ⊎ (x ≢ y)
-same_ids (id.Sha1 xs) (id.Sha1 ys) = ⊎_elim (λ same. inl (ap id.Sha1 same)) (λ other. inr (λ same. other (cc same))) (same_bytes xs ys)
-same_ids (id.Sha1 xs) (id.Sha256 ys) = inr (λ same. cc same)
-same_ids (id.Sha256 xs) (id.Sha1 ys) = inr (λ same. cc same)
-same_ids (id.Sha256 xs) (id.Sha256 ys) = ⊎_elim (λ same. inl (ap id.Sha256 same)) (λ other. inr (λ same. other (cc same))) (same_bytes xs ys)
+use Rattle.gixobj_hash.proofs.SameIds.{same_ids}
 
 module _ (T : Table) where
   abbrev Has : Pair → Type 0

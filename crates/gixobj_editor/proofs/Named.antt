@@ -25,7 +25,7 @@ use Rattle.gixobj_editor.specs.declared.reply.EditReply.{EditReply}
 use Rattle.gixobj_editor.specs.declared.reply.EditReply.TheVariants as edit_reply
 use Rattle.gixobj_editor.specs.declared.reply.Reply.{Reply}
 use Rattle.gixobj_editor.specs.declared.reply.Reply.TheVariants as reply
-use Rattle.gixobj_editor.proofs.Histories.{then_steps}
+use Rattle.gixobj_files.proofs.Histories.{then_steps}
 use Rattle.gixobj_editor.proofs.Keeping.{AgreesThroughout, agrees_first, agrees_then, then_kept, throughout_first, throughout_then}
 
 -- what is said of a store's trees is said of some

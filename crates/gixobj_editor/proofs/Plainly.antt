@@ -1,6 +1,6 @@
 -- In a run that puts in no tree, and starts with nothing, each tree that goes out is built up from what went out.
 use mathlib.Core.Bool.{true≢false}
-use Rattle.std.proofs.Common.{append-nil, ◌≡◌, ◌≢◌, ◌∙◌, ◌⊎◌, inl, inr, ⊎_elim, ℕ, zero, suc, true, false, List, [], ◌∷◌, ◌++◌, All, Contains, Some, None, refl, sym, ap, subst}
+use Rattle.std.proofs.Common.{append-nil, ◌≡◌, ◌≢◌, ◌∙◌, inl, inr, ⊎_elim, ℕ, zero, suc, true, false, List, [], ◌∷◌, ◌++◌, All, Contains, Some, None, refl, sym, ap, subst}
 use Rattle.std.specs.FinMap as map
 use Rattle.std.specs.Prelude.{IsFalse}
 use Rattle.std.specs.List.{AllByRecursion, flat_map}
@@ -36,18 +36,8 @@ use Rattle.gixobj_hash.specs.Hash.{null_id}
 use Rattle.gixobj_hash.specs.declared.hash.object_id.ObjectId.{ObjectId}
 use Rattle.gixobj_tree.specs.Entries.{EntryView}
 use Rattle.gixobj_tree.specs.Mode.{is_tree_mode}
-
-directory_is : (front : Path) (last : List ℕ) → directory_of (front ++ last ∷ []) ≡ front
-directory_is [] last = refl
-directory_is (name ∷ []) last = refl
-directory_is (name ∷ next ∷ rest) last = ap (λ p. name ∷ p) (directory_is (next ∷ rest) last)
-
-path_ends : (path : Path) → (path ≡ []) ⊎ ((front : Path) × (last : List ℕ) × (path ≡ front ++ last ∷ []))
-path_ends [] = inl refl
-path_ends (name ∷ path) = elim (path_ends path) [
-  | inl none ↦ inr ([], name, ap (λ p. name ∷ p) none)
-  | inr ends ↦ inr (name ∷ ends.0, ends.1, ap (λ p. name ∷ p) ends.2)
-]
+use Rattle.gixobj_editor.proofs.Paths.{directory_is}
+use Rattle.gixobj_editor.proofs.Removing.{path_ends}
 
 abbrev no_trees : Trees
 no_trees = λ id. None

@@ -1,8 +1,7 @@
 -- The base of each open directory is what the id of its entry stands for, in every table that has agreed with the store, and that of a
 -- null id is empty.
-use Rattle.std.proofs.Common.{◌≡◌, inl, inr, true, false, List, [], refl, sym, ap, subst, ◌∙◌, Option, Some}
+use Rattle.std.proofs.Common.{◌≡◌, inl, inr, true, false, List, [], refl, sym, subst, ◌∙◌, Some}
 use Rattle.gixobj_tree.specs.Entries.{EntryView}
-use Rattle.gixobj_hash.specs.Hash.{id_kind}
 use Rattle.gixobj_hash.specs.declared.hash.object_id.ObjectId.{ObjectId}
 use Rattle.gixobj_files.specs.Edits.{Finds}
 use Rattle.gixobj_files.specs.Files.{Table, Trees, is_null}
@@ -11,17 +10,13 @@ use Rattle.gixobj_files.specs.Tables.{AgreesWithStore}
 use Rattle.gixobj_files.proofs.OpenedFiles.{Stands}
 use Rattle.gixobj_files.proofs.Everywhere.{Everywhere, Lasts, OfEntry}
 use Rattle.gixobj_files.specs.Bases.{AreNullBased, HasBases}
+use Rattle.gixobj_files.proofs.OpeningFiles.{stands}
 
 -- the base is what the id of the entry stands for
 abbrev pub Based : Table → OfEntry
 Based T e here base = (list : List EntryView) → base ≡ Some list → Stands T e.id list
 
-stands : (T : Table) (trees : Trees) → AgreesWithStore T trees → (id : ObjectId) (entries : List EntryView) (asked : List ObjectId) → Finds trees id entries asked → Stands T id entries
-stands T trees agrees id entries asked (formed, inl (inl null, empty, none)) = inl (null, empty)
-stands T trees agrees id entries asked (formed, inl (inr is, empty, none)) = inr (subst (λ (o : Option (List EntryView)). o ≡ Some entries) (sym (ap T.tree_at is ∙ T.none_in_empty (id_kind id))) (ap Some (sym empty)))
-stands T trees agrees id entries asked (formed, inr (filled, is, asks)) = inr (agrees id entries filled is)
-
-some_list : (x y : List EntryView) → Some x ≡ Some y → x ≡ y
+pub some_list : (x y : List EntryView) → Some x ≡ Some y → x ≡ y
 some_list x y e = cc e
 
 pub based_lasts : (T : Table) (trees : Trees) (null : ObjectId) → AgreesWithStore T trees → is_null null ≡ true → Lasts (Based T) trees null

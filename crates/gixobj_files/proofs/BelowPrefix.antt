@@ -13,7 +13,7 @@ use Rattle.gixobj_files.proofs.StillOpenedOpenings.{opened_in_dir, opened_only, 
 use Rattle.gixobj_files.proofs.UpsertedFiles.{begins_more}
 
 -- an open directory has a list, and one that has an entry is open
-list_at : (here : Option (List EntryView)) → here ≢ None → (es : List EntryView) × (here ≡ Some es)
+pub list_at : (here : Option (List EntryView)) → here ≢ None → (es : List EntryView) × (here ≡ Some es)
 list_at None some = absurd (some refl)
 list_at (Some es) some = (es, refl)
 

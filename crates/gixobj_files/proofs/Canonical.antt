@@ -9,8 +9,8 @@ use Rattle.gixobj_tree.specs.Mode.{is_tree_mode, tree_type}
 use Rattle.gixobj_hash.specs.declared.hash.object_id.ObjectId.{ObjectId}
 use Rattle.gixobj_files.specs.Files.{Below, Files, Has, Path, SameFiles, Table, is_null}
 use Rattle.gixobj_files.specs.Tables.{AgreesWithPairs, HasOneId, Pair}
-use Rattle.gixobj_files.proofs.KeyOrder.{before_trans}
 use Rattle.gixobj_files.proofs.OpenedFiles.{below_stands}
+use Rattle.gixobj_tree.proofs.WellFormed.{comes_trans}
 
 -- an entry comes before those that come after it, and never before itself
 later_has : (x : EntryView) (ys : List EntryView) (y : EntryView) → AllByRecursion (ComesBefore x) ys → Has ys y → ComesBefore x y
@@ -27,7 +27,7 @@ same_lists [] [] a b f g = refl
 same_lists [] (y ∷ ys) a b f g = absurd (g y (inl refl))
 same_lists (x ∷ xs) [] a b f g = absurd (f x (inl refl))
 same_lists (x ∷ xs) (y ∷ ys) a b f g =
-    let head : x ≡ y = ⊎_elim (λ s. sym s) (λ k. ⊎_elim (λ s. s) (λ l. absurd (never_before_itself x (before_trans x y x (later_has x xs y a.0 l) (later_has y ys x b.0 k)))) (g y (inl refl))) (f x (inl refl)) in
+    let head : x ≡ y = ⊎_elim (λ s. sym s) (λ k. ⊎_elim (λ s. s) (λ l. absurd (never_before_itself x (comes_trans x y x (later_has x xs y a.0 l) (later_has y ys x b.0 k)))) (g y (inl refl))) (f x (inl refl)) in
     let rest : xs ≡ ys = same_lists xs ys a.1 b.1
     (λ e h. ⊎_elim (λ s. absurd (never_before_itself x (subst (ComesBefore x) (sym s ∙ sym head) (later_has x xs e a.0 h)))) (λ k. k) (f e (inr h)))
     (λ e h. ⊎_elim (λ s. absurd (never_before_itself y (subst (ComesBefore y) (sym s ∙ head) (later_has y ys e b.0 h)))) (λ k. k) (g e (inr h))) in

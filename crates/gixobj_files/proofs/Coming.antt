@@ -24,7 +24,7 @@ entry_below : (name : List ℕ) (rest : Path) (last : List ℕ) (behind : Path) 
 entry_below name [] last behind dirs none = entry_nowhere (last ∷ behind) (in_dir name dirs) none
 entry_below name (next ∷ rest) last behind dirs none = entry_nowhere (next ∷ (rest ++ last ∷ behind)) (in_dir name dirs) none
 
-entry_inside : (name : List ℕ) (rest : Path) (last : List ℕ) (behind : Path) (dirs : Dirs) → entry_at (name ∷ (rest ++ last ∷ behind)) dirs ≡ entry_at (rest ++ last ∷ behind) (in_dir name dirs)
+pub entry_inside : (name : List ℕ) (rest : Path) (last : List ℕ) (behind : Path) (dirs : Dirs) → entry_at (name ∷ (rest ++ last ∷ behind)) dirs ≡ entry_at (rest ++ last ∷ behind) (in_dir name dirs)
 entry_inside name [] last behind dirs = refl
 entry_inside name (next ∷ rest) last behind dirs = refl
 

@@ -77,7 +77,7 @@ has_still x es e h n =
     ⊎_elim (λ l. Has-left (filter (λ y. comes_before y x) (without x.name es)) _ e (Has-keeps (λ y. comes_before y x) (without x.name es) e left l))
     (λ g. Has-right (filter (λ y. comes_before y x) (without x.name es)) _ e (inr (Has-keeps (λ y. not (comes_before y x)) (without x.name es) e left g))) (either (comes_before e x))
 
-one_less : (n : ℕ) (name : List ℕ) → suc n - length (name ∷ []) ≡ n
+pub one_less : (n : ℕ) (name : List ℕ) → suc n - length (name ∷ []) ≡ n
 one_less n name = omega arith
 
 pub files_put : (T : Table) (n : ℕ) (x : EntryView) (es : List EntryView) → SameFiles (Files T n (with_entry x es)) (Upserted T n (x.name ∷ []) x.mode x.id (Files T n es))

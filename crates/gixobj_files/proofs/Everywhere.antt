@@ -11,14 +11,15 @@ use Rattle.gixobj_files.specs.Edits.{Finds, Opens, arrived, assured_dirs, down, 
 use Rattle.gixobj_files.specs.Files.{Has, Path, Trees}
 use Rattle.gixobj_files.specs.Opening.{Dirs, HasAt, in_dir}
 use Rattle.gixobj_files.proofs.AssuredFiles.{IsOpenAlong, assured_beside, assured_in}
-use Rattle.gixobj_files.proofs.EditedFiles.{has_put, has_without}
+use Rattle.gixobj_files.proofs.EditedFiles.{has_put}
 use Rattle.gixobj_files.proofs.HasTrees.{directory_same, has_tree_of, of_has_tree}
-use Rattle.gixobj_files.proofs.OpenedFiles.{name_itself, name_other, same_names}
+use Rattle.gixobj_files.proofs.OpenedFiles.{name_itself, same_names}
 use Rattle.gixobj_files.proofs.OpeningFiles.{beside_is, inside_is, opens_root}
-use Rattle.gixobj_files.proofs.RemovedFiles.{removed_in, taken_beside}
+use Rattle.gixobj_files.proofs.RemovedFiles.{removed_beside, removed_in, taken_beside, taken_has}
 use Rattle.gixobj_files.proofs.StillOpened.{AreAbove}
 use Rattle.gixobj_files.proofs.UpsertedFiles.{IsReady, has_directory, or_empty_has, put_beside, put_in, upserted_beside, upserted_in, upserted_root}
 use Rattle.gixobj_files.specs.Bases.{base_edited, base_opened, edited_bases, opened_bases}
+use Rattle.gixobj_files.proofs.BelowPrefix.{list_at}
 
 -- what is said of an entry, of what is open at its name, and of the base there
 abbrev pub OfEntry : Type 1
@@ -219,10 +220,6 @@ module _ (P : OfEntry) (trees : Trees) (null : ObjectId) (lasts : Lasts P trees 
       (everywhere_assured rest (in_dir name dirs) (in_dir name bases) (along_below name rest dirs along) (λ q. above (name ∷ q)) (λ q. all (name ∷ q))) all
 
   -- a removal
-  taken_has : (name : List ℕ) (o : Option (List EntryView)) (e : EntryView) → HasAt (option_map (without name) o) e → HasAt o e × (e.name ≢ name)
-  taken_has name None e h = absurd h
-  taken_has name (Some es) e h = has_without name es e h
-
   -- an open directory that loses an entry is open, and one that isn't open stays so
   removed_here : (path : Path) (dirs : Dirs) (e : EntryView) (base : Option (List EntryView)) → P e (dirs []) base → P e (removed_dirs path dirs []) (base_edited (dirs []) (removed_dirs path dirs []) base)
   removed_here [] dirs e base p = edited e (dirs []) base p
@@ -236,9 +233,6 @@ module _ (P : OfEntry) (trees : Trees) (null : ObjectId) (lasts : Lasts P trees 
   taken_in : (name : List ℕ) (dirs : Dirs) → in_dir name (removed_dirs (name ∷ []) dirs) ≡ (λ _. None)
   taken_in name dirs = ap (λ b path. cond b None (dirs (name ∷ path))) (name_itself name)
 
-  removed_beside : (name first next : List ℕ) (rest : Path) (dirs : Dirs) → name ≢ first → in_dir first (removed_dirs (name ∷ next ∷ rest) dirs) ≡ in_dir first dirs
-  removed_beside name first next rest dirs differ = ap (λ b path. cond b (removed_dirs (next ∷ rest) (in_dir name dirs) path) (dirs (first ∷ path))) (name_other name first differ)
-
   pub everywhere_removed : (path : Path) (dirs bases : Dirs) → Everywhere P dirs bases → Everywhere P (removed_dirs path dirs) (edited_bases dirs (removed_dirs path dirs) bases)
   everywhere_removed [] dirs bases all = all_edited dirs bases all
   everywhere_removed (name ∷ []) dirs bases all =
@@ -250,12 +244,8 @@ module _ (P : OfEntry) (trees : Trees) (null : ObjectId) (lasts : Lasts P trees 
       (λ e h other. h) (everywhere_removed (next ∷ rest) (in_dir name dirs) (in_dir name bases) (λ q. all (name ∷ q))) all
 
   -- the directory at a path in place of which its written tree is open alone
-  open_list : (o : Option (List EntryView)) → o ≢ None → (es : List EntryView) × (o ≡ Some es)
-  open_list None some = absurd (some refl)
-  open_list (Some es) some = (es, refl)
-
   replaced_here : (rest : Path) (own : List EntryView) (dirs : Dirs) (e : EntryView) (base : Option (List EntryView)) → dirs rest ≢ None → P e (dirs []) base → P e (with_path rest (only own) dirs []) (base_edited (dirs []) (with_path rest (only own) dirs []) base)
-  replaced_here [] own dirs e base there p = let was = open_list (dirs []) there in stays_open e (dirs []) (Some own) base was.0 own was.1 refl p
+  replaced_here [] own dirs e base there p = let was = list_at (dirs []) there in stays_open e (dirs []) (Some own) base was.0 own was.1 refl p
   replaced_here (name ∷ rest) own dirs e base there p = edited e (dirs []) base p
 
   pub everywhere_written : (prefix : Path) (own : List EntryView) (dirs bases : Dirs) → dirs prefix ≢ None → ((e : EntryView) → Has own e → P e None None) → Everywhere P dirs bases

@@ -11,8 +11,9 @@ use Rattle.gixobj_files.specs.Editing.{comes_before, kept, same_name, with_entry
 use Rattle.gixobj_files.specs.Files.{Path, is_null}
 use Rattle.gixobj_files.specs.Opening.{IsOpened}
 use Rattle.gixobj_files.specs.State.{root_alone}
-use Rattle.gixobj_files.proofs.KeyOrder.{before_other, before_passing, before_trans}
+use Rattle.gixobj_files.proofs.KeyOrder.{before_other, before_passing}
 use Rattle.gixobj_files.proofs.Sublists.{all_append, all_both, all_kept, all_pass, all_weaker, later_append, later_kept, later_parted}
+use Rattle.gixobj_tree.proofs.WellFormed.{comes_trans}
 
 -- any sublist that a test keeps
 pub well_formed_filtered : (p : EntryView → Bool) (es : List EntryView) → IsWellFormed es → IsWellFormed (filter p es)
@@ -68,7 +69,7 @@ module _ (x : EntryView) (es : List EntryView) (formed : IsWellFormed es) (name 
       later_append ComesBefore lower (x ∷ upper) (later_kept ComesBefore (λ e. comes_before e x) es formed.ascending)
       (upper_above, later_kept ComesBefore (λ e. not (comes_before e x)) es formed.ascending)
       (all_weaker (λ (e : EntryView). ComesBefore e x) (λ (e : EntryView). ComesBefore e x × AllByRecursion (ComesBefore e) upper)
-      (λ e below. (below, all_weaker (ComesBefore x) (ComesBefore e) (λ z above. before_trans e x z below above) upper upper_above)) lower lower_below)
+      (λ e below. (below, all_weaker (ComesBefore x) (ComesBefore e) (λ z above. comes_trans e x z below above) upper upper_above)) lower lower_below)
 
   put_formed : IsWellFormed (lower ++ x ∷ upper)
   put_formed = record { names = put_names; apart = put_apart; ascending = put_ascending }

@@ -4,11 +4,11 @@ use mathlib.Core.Bool.{true≢false}
 use Rattle.std.specs.Cmp.Lexicographic.{bytes_decides, slice_cmp, texts_ties}
 use Rattle.std.specs.Ordering.{is_eq, is_lt, nat_cmp, ordering_reverse}
 use Rattle.std.proofs.lemmas.Cmp.{nat_list_cmp_total}
-use Rattle.std.proofs.lemmas.List.Elements.{All-contains, Contains-push}
 use Rattle.gixobj_tree.specs.Entries.{ComesBefore, EntryView, entry_key, key_of}
 use Rattle.gixobj_tree.specs.Mode.{is_tree_mode}
 use Rattle.gixobj_hash.specs.Texts.{IsFree}
 use Rattle.gixobj_files.specs.Editing.{comes_before}
+use Rattle.gixobj_tree.proofs.WellFormed.{comes_trans, slash_ends}
 
 less : (o : Ordering) → is_lt o ≡ true → o ≡ Less
 less Less h = refl
@@ -17,12 +17,6 @@ less Greater h = absurd (true≢false (sym h))
 
 pub before_passing : (x y : EntryView) → comes_before x y ≡ true → ComesBefore x y
 before_passing x y = less (slice_cmp nat_cmp (entry_key x) (entry_key y))
-
-pub before_trans : (x y z : EntryView) → ComesBefore x y → ComesBefore y z → ComesBefore x z
-before_trans x y z = nat_list_cmp_total.trans (entry_key x) (entry_key y) (entry_key z)
-
-slash_ends : (name : List ℕ) → IsFree 47 (name ++ 47 ∷ []) → ⊥
-slash_ends name free = All-contains (λ it. it ≢ 47) (name ++ 47 ∷ []) 47 free (Contains-push name 47) refl
 
 same_front : (xs ys : List ℕ) → xs ++ 47 ∷ [] ≡ ys ++ 47 ∷ [] → xs ≡ ys
 same_front [] [] e = refl

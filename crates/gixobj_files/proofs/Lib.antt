@@ -10,6 +10,7 @@ pub mod Everywhere
 pub mod Formed
 pub mod Halted
 pub mod HasTrees
+pub mod Histories
 pub mod KeyOrder
 pub mod Lasting
 pub mod ListedTables

@@ -1,6 +1,5 @@
 -- Tables that have chosen trees: those of a list, of a store, and of both.
-use Rattle.std.proofs.Common.{All, ◌≡◌, ◌≢◌, ◌⊎◌, inl, inr, ⊎_elim, ℕ, Bool, true, false, List, [], ◌∷◌, ◌∙◌, refl, sym, ap, subst, Option, Some, None}
-use Rattle.std.specs.Cmp.Lexicographic.{bytes_decides}
+use Rattle.std.proofs.Common.{All, ◌≡◌, ◌≢◌, ◌⊎◌, inl, inr, ⊎_elim, Bool, true, false, List, [], ◌∷◌, ◌∙◌, refl, sym, ap, subst, Option, Some, None}
 use Rattle.std.specs.Fmt.{digits}
 use Rattle.std.specs.List.{AllByRecursion}
 use Rattle.std.proofs.lemmas.List.Elements.{All-from_recursion, recursion_from_All}
@@ -11,11 +10,10 @@ use Rattle.gixobj_hash.specs.Hash.{id_kind, id_of}
 use Rattle.gixobj_hash.specs.declared.hash.kind.Kind.{Kind}
 use Rattle.gixobj_hash.specs.declared.hash.kind.Kind.TheVariants as hash
 use Rattle.gixobj_hash.specs.declared.hash.object_id.ObjectId.{ObjectId}
-use Rattle.gixobj_hash.specs.declared.hash.object_id.ObjectId.TheVariants as id
 use Rattle.gixobj_hash.specs.declared.kind.Kind.TheVariants.{Tree}
-use Rattle.gixobj_files.specs.Editing.{same_name}
 use Rattle.gixobj_files.specs.Files.{Table, Trees, is_null}
 use Rattle.gixobj_files.specs.Tables.{AgreesWithPairs, AgreesWithStore, FitsBeside, IsEmptyId, IsFirst, IsOwnTable, IsTableOf, Pair}
+use Rattle.gixobj_hash.proofs.SameIds.{same_ids}
 
 -- the ids of the empty tree, computed, aren't null
 sha1_not_null : is_null (id_of hash.Sha1 Tree []) ≡ false
@@ -29,19 +27,6 @@ sha256_not_null = refl
 empty_not_null : (hash : Kind) → is_null (id_of hash Tree []) ≡ false
 empty_not_null hash.Sha1 = sha1_not_null
 empty_not_null hash.Sha256 = sha256_not_null
-
--- two ids are the same, or not
-same_bytes : (xs ys : List ℕ) → (xs ≡ ys) ⊎ (xs ≢ ys)
-same_bytes xs ys = elim (same_name xs ys) as (λ b. same_name xs ys ≡ b → (xs ≡ ys) ⊎ (xs ≢ ys)) [
-  | true ↦ λ passes. inl ((bytes_decides xs ys).0 passes)
-  | false ↦ λ fails. inr (λ same. cc ((bytes_decides xs ys).1 same, fails))
-] refl
-
-same_ids : (x y : ObjectId) → (x ≡ y) ⊎ (x ≢ y)
-same_ids (id.Sha1 xs) (id.Sha1 ys) = ⊎_elim (λ same. inl (ap id.Sha1 same)) (λ other. inr (λ same. other (cc same))) (same_bytes xs ys)
-same_ids (id.Sha1 xs) (id.Sha256 ys) = inr (λ same. cc same)
-same_ids (id.Sha256 xs) (id.Sha1 ys) = inr (λ same. cc same)
-same_ids (id.Sha256 xs) (id.Sha256 ys) = ⊎_elim (λ same. inl (ap id.Sha256 same)) (λ other. inr (λ same. other (cc same))) (same_bytes xs ys)
 
 abbrev IsEmpty : ObjectId → Type 0
 IsEmpty it = (hash : Kind) × (it ≡ id_of hash Tree [])

@@ -12,7 +12,7 @@ use Rattle.gixobj_files.proofs.EditedFiles.{same_refl}
 use Rattle.gixobj_files.proofs.UpsertedFiles.{IsReady}
 use Rattle.gixobj_files.proofs.OpenedFiles.{Stands, below_stands, elsewhere, from_open, from_shut, into_open, into_shut, name_itself, name_other, root_only, same_names}
 
-stands : (T : Table) (trees : Trees) → AgreesWithStore T trees → (id : ObjectId) (entries : List EntryView) (asked : List ObjectId) → Finds trees id entries asked → Stands T id entries
+pub stands : (T : Table) (trees : Trees) → AgreesWithStore T trees → (id : ObjectId) (entries : List EntryView) (asked : List ObjectId) → Finds trees id entries asked → Stands T id entries
 stands T trees agrees id entries asked (formed, inl (inl null, empty, none)) = inl (null, empty)
 stands T trees agrees id entries asked (formed, inl (inr is, empty, none)) = inr (subst (λ (o : Option (List EntryView)). o ≡ Some entries) (sym (ap T.tree_at is ∙ T.none_in_empty (id_kind id))) (ap Some (sym empty)))
 stands T trees agrees id entries asked (formed, inr (filled, is, asks)) = inr (agrees id entries filled is)

@@ -8,14 +8,15 @@ use Rattle.std.proofs.lemmas.List.Elements.{All-from_recursion}
 use Rattle.gixobj_tree.specs.Entries.{ComesBefore, EachLater, EntryView, IsEntryName}
 use Rattle.gixobj_hash.specs.Texts.{IsFree}
 use Rattle.gixobj_files.specs.Editing.{comes_before, same_name, with_entry, without}
-use Rattle.gixobj_files.proofs.KeyOrder.{before_passing, before_trans}
+use Rattle.gixobj_files.proofs.KeyOrder.{before_passing}
 use Rattle.gixobj_files.proofs.Sublists.{all_kept, all_weaker, later_kept}
+use Rattle.gixobj_tree.proofs.WellFormed.{comes_trans}
 
 none_before : (x e : EntryView) (es : List EntryView) → comes_before e x ≡ false → AllByRecursion (ComesBefore e) es
     → (filter (λ y. comes_before y x) es ≡ []) × (filter (λ y. not (comes_before y x)) es ≡ es)
 none_before x e [] fails above = (refl, refl)
 none_before x e (y ∷ ys) fails above =
-    let also : comes_before y x ≡ false = false_from_ne_true (comes_before y x) (λ passes. true≢false (sym (ap is_lt (before_trans e y x above.0 (before_passing y x passes))) ∙ fails)) in
+    let also : comes_before y x ≡ false = false_from_ne_true (comes_before y x) (λ passes. true≢false (sym (ap is_lt (comes_trans e y x above.0 (before_passing y x passes))) ∙ fails)) in
     let rest = none_before x e ys fails above.1 in
     (rw also rest.0, rw also (ap (λ l. y ∷ l) rest.1))
 

@@ -14,6 +14,7 @@ use Rattle.gixobj_files.proofs.Canonical.{IsBuilt, IsClean, built}
 use Rattle.gixobj_files.proofs.Everywhere.{Everywhere, Lasts, OfEntry}
 use Rattle.gixobj_files.proofs.WrittenFiles.{kept_has}
 use Rattle.gixobj_files.specs.HandingOut.{Leaves, Walks, emptied, end, entry_with, leaves, shut, unchanged, written}
+use Rattle.gixobj_files.proofs.Based.{some_list}
 
 -- the id of the entry is that of a pair with such a tree, which isn't empty
 pub record IsOfPair (pairs : List Pair) (id : ObjectId) : Type 0 where
@@ -30,9 +31,6 @@ pub record IsPlain (pairs : List Pair) (e : EntryView) (here base : Option (List
 
 abbrev pub Plain : List Pair → OfEntry
 Plain pairs e here base = IsPlain pairs e here base
-
-some_list : (x y : List EntryView) → Some x ≡ Some y → x ≡ y
-some_list x y e = cc e
 
 -- an entry that isn't open
 abbrev pub RestsOn : List Pair → List EntryView → Type 0

@@ -9,6 +9,7 @@ use Rattle.gixobj_files.proofs.AssuredFiles.{assured_in}
 use Rattle.gixobj_files.proofs.RemovedFiles.{removed_in}
 use Rattle.gixobj_files.proofs.StillOpenedRemovals.{still_root}
 use Rattle.gixobj_files.proofs.UpsertedFiles.{upserted_in, upserted_root}
+use Rattle.gixobj_files.proofs.Coming.{entry_inside}
 
 -- an upsert below a name is one in the directories of that name
 upserted_below : (first : List ℕ) (rest : Path) (name : List ℕ) (path : Path) (mode : ℕ) (id null : ObjectId) (dirs : Dirs)
@@ -38,12 +39,7 @@ pub assured_stays : (path : Path) (null : ObjectId) (dirs : Dirs) → assured_di
 assured_stays [] null dirs = λ none. cc none
 assured_stays (name ∷ rest) null dirs = λ none. assured_stays rest null (in_dir name dirs) (sym (ap (λ (d : Dirs). d rest) (assured_in name rest null dirs)) ∙ none)
 
--- the entry at a path, from one directory further down
-entry_deeper : (first : List ℕ) (rest : Path) (name : List ℕ) (path : Path) (dirs : Dirs) → entry_at (first ∷ (rest ++ name ∷ path)) dirs ≡ entry_at (rest ++ name ∷ path) (in_dir first dirs)
-entry_deeper first [] name path dirs = refl
-entry_deeper first (next ∷ rest) name path dirs = refl
-
 -- the entry at a path below a directory is the one at the path from there
 pub entry_below : (prefix : Path) (name : List ℕ) (path : Path) (dirs : Dirs) → entry_at (prefix ++ name ∷ path) dirs ≡ entry_at (name ∷ path) (in_path prefix dirs)
 entry_below [] name path dirs = refl
-entry_below (first ∷ rest) name path dirs = entry_deeper first rest name path dirs ∙ entry_below rest name path (in_dir first dirs)
+entry_below (first ∷ rest) name path dirs = entry_inside first rest name path dirs ∙ entry_below rest name path (in_dir first dirs)

@@ -42,7 +42,7 @@ bare_below T k e (inr (inr empty)) path mode id h =
     (subst (λ (o : Option (List EntryView)). MatchOption (cond (is_tree_mode e.mode) o None) ((path ≡ []) × (mode ≡ e.mode) × (id ≡ e.id)) (λ es. Files T k es path mode id) → path ≡ []) (sym empty)
     (elim (is_tree_mode e.mode) as (λ b. MatchOption (cond b (Some []) None) ((path ≡ []) × (mode ≡ e.mode) × (id ≡ e.id)) (λ es. Files T k es path mode id) → path ≡ []) [ true ↦ λ l. absurd (no_entries T k path mode id l) | false ↦ λ l. l.0 ])) h.1
 
-taken_has : (name : List ℕ) (o : Option (List EntryView)) (e : EntryView) → HasAt (option_map (without name) o) e → HasAt o e × (e.name ≢ name)
+pub taken_has : (name : List ℕ) (o : Option (List EntryView)) (e : EntryView) → HasAt (option_map (without name) o) e → HasAt o e × (e.name ≢ name)
 taken_has name None e h = absurd h
 taken_has name (Some es) e h = has_without name es e h
 
@@ -53,7 +53,7 @@ has_taken name (Some es) e h differ = has_other name es e h differ
 pub removed_in : (name next : List ℕ) (rest : Path) (dirs : Dirs) → in_dir name (removed_dirs (name ∷ next ∷ rest) dirs) ≡ removed_dirs (next ∷ rest) (in_dir name dirs)
 removed_in name next rest dirs = ap (λ b path. cond b (removed_dirs (next ∷ rest) (in_dir name dirs) path) (dirs (name ∷ path))) (name_itself name)
 
-removed_beside : (name first next : List ℕ) (rest : Path) (dirs : Dirs) → name ≢ first → in_dir first (removed_dirs (name ∷ next ∷ rest) dirs) ≡ in_dir first dirs
+pub removed_beside : (name first next : List ℕ) (rest : Path) (dirs : Dirs) → name ≢ first → in_dir first (removed_dirs (name ∷ next ∷ rest) dirs) ≡ in_dir first dirs
 removed_beside name first next rest dirs differ = ap (λ b path. cond b (removed_dirs (next ∷ rest) (in_dir name dirs) path) (dirs (first ∷ path))) (name_other name first differ)
 
 pub taken_beside : (name first : List ℕ) (dirs : Dirs) → name ≢ first → in_dir first (removed_dirs (name ∷ []) dirs) ≡ in_dir first dirs

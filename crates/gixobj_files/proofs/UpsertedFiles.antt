@@ -7,7 +7,7 @@ use Rattle.gixobj_files.specs.Editing.{has_tree, with_entry}
 use Rattle.gixobj_files.specs.Edits.{or_empty, upserted_dirs, with_directory}
 use Rattle.gixobj_files.specs.Files.{Begins, Below, FileSet, Files, Has, Path, Placed, SameFiles, Table, Upserted}
 use Rattle.gixobj_files.specs.Opening.{Dirs, HasAt, OpenFiles, in_dir}
-use Rattle.gixobj_files.proofs.EditedFiles.{has_new, has_put, has_still, same_refl}
+use Rattle.gixobj_files.proofs.EditedFiles.{has_new, has_put, has_still, one_less, same_refl}
 use Rattle.gixobj_files.proofs.HasTrees.{has_tree_of, tree_there}
 use Rattle.gixobj_files.proofs.OpenedFiles.{elsewhere, from_open, from_shut, into_open, into_shut, name_itself, name_other, no_tree_below, none_open, same_names}
 
@@ -56,9 +56,6 @@ begins_name name first p q b = head b.1
 -- what is placed, one name less
 less_deep : (k : ℕ) (name : List ℕ) (p : Path) → suc k - length (name ∷ p) ≡ k - length p
 less_deep k name p = omega arith
-
-no_less : (k : ℕ) (name : List ℕ) → suc k - length (name ∷ []) ≡ k
-no_less k name = omega arith
 
 placed_more : (T : Table) (k : ℕ) (name : List ℕ) (p : Path) (m : ℕ) (named : ObjectId) (path : Path) (mode : ℕ) (id : ObjectId) → Placed T k p m named path mode id → Placed T (suc k) (name ∷ p) m named (name ∷ path) mode id
 placed_more T k name p m named path mode id h =
@@ -115,7 +112,7 @@ upserted_files T (suc k) (name ∷ []) m named null dirs ready (first ∷ path) 
       | inl same ↦ subst (λ f. (OpenFiles T (suc k) new (f ∷ path) mode id → Upserted T (suc k) (name ∷ []) m named (OpenFiles T (suc k) dirs) (f ∷ path) mode id) × (Upserted T (suc k) (name ∷ []) m named (OpenFiles T (suc k) dirs) (f ∷ path) mode id → OpenFiles T (suc k) new (f ∷ path) mode id)) same
           (let gone : new (name ∷ []) ≡ None = ap (λ (d : Dirs). d []) (put_in name m named null dirs) in (
             (λ h. let s = into_shut T k new name gone path mode id h in
-                ⊎_elim (λ is. inr (omega arith, path, refl, subst (λ j. Below T (Files T j) m named path mode id) (sym (no_less k name)) (subst (λ (e : EntryView). Below T (Files T k) e.mode e.id path mode id) (sym is) s.3)))
+                ⊎_elim (λ is. inr (omega arith, path, refl, subst (λ j. Below T (Files T j) m named path mode id) (sym (one_less k name)) (subst (λ (e : EntryView). Below T (Files T k) e.mode e.id path mode id) (sym is) s.3)))
                 (λ old. absurd (old.1 s.2)) (has_put x (or_empty (dirs [])) s.0 s.1)),
             ⊎_elim (λ h. absurd (h.1 (path, refl)))
                 (λ h. from_shut T k new name gone x (has_new x (or_empty (dirs []))) refl path mode id (at_rest h)),
@@ -133,7 +130,7 @@ upserted_files T (suc k) (name ∷ []) m named null dirs ready (first ∷ path) 
     ]
   where
     at_rest : Placed T (suc k) (name ∷ []) m named (name ∷ path) mode id → Below T (Files T k) m named path mode id
-    at_rest h = let tail : path ≡ h.1 = cc (h.2) in subst (λ p. Below T (Files T k) m named p mode id) (sym tail) (subst (λ j. Below T (Files T j) m named h.1 mode id) (no_less k name) h.3)
+    at_rest h = let tail : path ≡ h.1 = cc (h.2) in subst (λ p. Below T (Files T k) m named p mode id) (sym tail) (subst (λ j. Below T (Files T j) m named h.1 mode id) (one_less k name) h.3)
 upserted_files T (suc k) (name ∷ next ∷ rest) m named null dirs ready (first ∷ path) mode id =
     let new : Dirs = upserted_dirs (name ∷ next ∷ rest) m named null dirs in
     let below : Dirs = upserted_dirs (next ∷ rest) m named null (in_dir name dirs) in

@@ -1,8 +1,8 @@
 -- The files of the tree that a write hands out for a directory are those of the open directories.
-use Rattle.std.proofs.Common.{◌≡◌, ◌≢◌, ◌⊎◌, inl, inr, ⊎_elim, ℕ, zero, suc, true, false, cond, List, [], ◌∷◌, ◌++◌, refl, sym, ap, subst, ◌∙◌, Option, Some, None}
+use Rattle.std.proofs.Common.{◌≡◌, ◌⊎◌, inl, inr, ⊎_elim, ℕ, zero, suc, true, false, cond, List, [], ◌∷◌, ◌++◌, refl, sym, ap, subst, ◌∙◌, Option, Some, None}
 use Rattle.std.specs.Prelude.{MatchOption}
 use Rattle.std.specs.List.{AllByRecursion}
-use Rattle.gixobj_tree.specs.Entries.{EachLater, EntryView}
+use Rattle.gixobj_tree.specs.Entries.{EntryView}
 use Rattle.gixobj_tree.specs.Mode.{is_tree_mode}
 use Rattle.gixobj_hash.specs.declared.hash.object_id.ObjectId.{ObjectId}
 use Rattle.gixobj_files.specs.Files.{Below, Files, Has, Path, SameFiles, Table, is_null, stands_for}
@@ -12,6 +12,7 @@ use Rattle.gixobj_files.specs.HandingOut.{Leaves, Walks, emptied, end, entry_wit
 use Rattle.gixobj_files.specs.Opening.{Dirs, HasAt, IsOpened, OpenFiles, in_dir}
 use Rattle.gixobj_files.specs.Tables.{Pair}
 use Rattle.gixobj_files.proofs.OpenedFiles.{Stands, no_entries}
+use Rattle.gixobj_files.proofs.Canonical.{one_entry}
 
 -- the entries of open directories are trees'
 abbrev pub AreTrees : Dirs → Type 0
@@ -137,19 +138,6 @@ mutual
       let root = root_of (in_dir e.name d) (in_dir e.name b) inner (first ∷ more_own) m found in
       let lower = leaves_files T (in_dir e.name d) (in_dir e.name b) inner (first ∷ more_own) m found (deeper e.name) (basing e.name) (known_left T inner ((named_id, first ∷ more_own) ∷ below) known) k path mode id in
       handed T k d e rest os (first ∷ more_own) root.0 named_id pair.0 (trees e root.0 (inl refl) root.1) root.1 name path mode id lower w
-
--- two entries of one name are one
-differs : (x : EntryView) (ys : List EntryView) (y : EntryView) → AllByRecursion (λ z. x.name ≢ z.name) ys → Has ys y → x.name ≢ y.name
-differs x [] y h k = absurd k
-differs x (z ∷ ys) y h (inl same) = λ q. h.0 (q ∙ ap (λ (w : EntryView). w.name) (sym same))
-differs x (z ∷ ys) y h (inr k) = differs x ys y h.1 k
-
-one_entry : (es : List EntryView) → EachLater (λ x y. x.name ≢ y.name) es → (x y : EntryView) → Has es x → Has es y → x.name ≡ y.name → x ≡ y
-one_entry [] apart x y h k q = absurd h
-one_entry (e ∷ es) apart x y (inl s) (inl t) q = sym s ∙ t
-one_entry (e ∷ es) apart x y (inl s) (inr k) q = absurd (differs e es y apart.0 k (ap (λ (w : EntryView). w.name) s ∙ q))
-one_entry (e ∷ es) apart x y (inr h) (inl t) q = absurd (differs e es x apart.0 h (ap (λ (w : EntryView). w.name) t ∙ sym q))
-one_entry (e ∷ es) apart x y (inr h) (inr k) q = one_entry es apart.1 x y h k q
 
 at_some : (o : Option (List EntryView)) (e : EntryView) → HasAt o e → (es : List EntryView) × (o ≡ Some es) × Has es e
 at_some None e h = absurd h

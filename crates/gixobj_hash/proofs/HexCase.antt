@@ -1,58 +1,29 @@
 -- The hex text of an id that was read is what was read, in lower case.
-use Rattle.std.proofs.Common.{◌≡◌, ◌<◌, ◌+◌, ◌*◌, ◌/◌, ◌%◌, ◌==◌, ◌||◌, ◌&&◌, ℕ, zero, suc, Bool, true, false, not, List, [], ◌∷◌, slice_index, unwrap_or, inl, inr, Option, Some, None, is_some, Result, Ok, Err, arith, refl, ap, sym, ◌∙◌}
-use Rattle.std.proofs.lemmas.Bool.{and_parts, cases_lt, eqb-true}
+use Rattle.std.proofs.Common.{◌≡◌, ◌<◌, ◌+◌, ◌*◌, ◌/◌, ◌%◌, ◌==◌, ◌||◌, ℕ, Bool, true, not, List, [], ◌∷◌, slice_index, unwrap_or, Some, is_some, Ok, arith, refl, ap, sym, ◌∙◌}
+use Rattle.std.proofs.lemmas.Bool.{eqb-true}
 use Rattle.std.proofs.lemmas.List.Elements.{All-head, All-tail}
 use Rattle.std.specs.Char.{to_ascii_lowercase}
 use Rattle.std.specs.List.{AllPass}
 use Rattle.std.specs.Str.{str_to_ascii_lowercase}
 use Rattle.hex.proofs.HexLemmas.{decode_of-even, decode_of-ok}
-use Rattle.hex.specs.Hex.{decode_pairs, digit_or_error, encode_lower, encode_with, hex_digit_value, is_hex_digit, lower_digits, pair_value, value_at, ◌>>=◌}
-use Rattle.hex.specs.declared.error.FromHexError.{FromHexError}
+use Rattle.hex.specs.Hex.{decode_pairs, encode_lower, encode_with, hex_digit_value, is_hex_digit, lower_digits, pair_value, value_at}
 use Rattle.gixobj_hash.specs.Hash.{Spells, hex_text, id_bytes, is_lower_hex_digit}
 use Rattle.gixobj_hash.specs.declared.hash.object_id.ObjectId.{ObjectId}
+use Rattle.gixobj_hash.proofs.HexSteps.{IsLower, at_number, bound, chosen, digit_value_of, value_small}
 
 -- a digit of either case, in lower case, is the one that is written for its value
 abbrev is_written : ℕ → Bool
 is_written byte = not (is_hex_digit byte) || (slice_index lower_digits (unwrap_or (hex_digit_value byte) 0) == to_ascii_lowercase byte)
 
-abbrev written_below : ℕ → Bool
-written_below zero = true
-written_below (suc n) = is_written n && written_below n
-
-written_at : (n byte : ℕ) → written_below n ≡ true → byte < n → is_written byte ≡ true
-written_at zero byte all low = absurd (omega arith)
-written_at (suc n) byte all low =
-    let parts = and_parts (is_written n) (written_below n) all in
-    elim (cases_lt byte n) [
-      | inl below ↦ written_at n byte parts.1 below
-      | inr top ↦ (let same : byte ≡ n = omega arith in rw same parts.0)
-    ]
-
-chosen : (a b : Bool) → (not a || b) ≡ true → a ≡ true → b ≡ true
-chosen true b either first = either
-chosen false b either first = cc first
-
 digit_small : (byte value : ℕ) → hex_digit_value byte ≡ Some value → byte < 103
 digit_small byte value reads = grind arith
 
-value_small : (byte value : ℕ) → hex_digit_value byte ≡ Some value → value < 16
-value_small byte value reads = grind arith
-
 digit_written : (byte value : ℕ) → hex_digit_value byte ≡ Some value → slice_index lower_digits value ≡ to_ascii_lowercase byte
 digit_written byte value reads =
-    let written = written_at 103 byte refl (digit_small byte value reads) in
+    let written = at_number is_written 103 byte refl (digit_small byte value reads) in
     let digit : is_hex_digit byte ≡ true = ap is_some reads in
     let same = eqb-true (slice_index lower_digits (unwrap_or (hex_digit_value byte) 0)) (to_ascii_lowercase byte) (chosen (is_hex_digit byte) _ written digit) in
     ap (λ it. slice_index lower_digits (unwrap_or it 0)) (sym reads) ∙ same
-
--- the parts of a step that succeeded
-bound : {A B : Type 0} (r : Result A FromHexError) (f : A → Result B FromHexError) (y : B) → (r >>= f) ≡ Ok y → (x : A) × (r ≡ Ok x) × (f x ≡ Ok y)
-bound (Ok x) f y ok = (x, refl, ok)
-bound (Err e) f y ok = cc ok
-
-digit_value_of : (byte i value : ℕ) (o : Option ℕ) → digit_or_error byte i o ≡ Ok value → o ≡ Some value
-digit_value_of byte i value (Some v) ok = cc ok
-digit_value_of byte i value None ok = cc ok
 
 written_in_lower_case : (i : ℕ) (text bytes : List ℕ) → decode_pairs i text ≡ Ok bytes → encode_lower bytes ≡ str_to_ascii_lowercase text
 unfolding decode_pairs encode_with
@@ -87,9 +58,6 @@ hex_in_lower_case text id spells =
 -- a hex text in lower case stays as it is
 lower_stays : (byte : ℕ) → is_lower_hex_digit byte ≡ true → to_ascii_lowercase byte ≡ byte
 lower_stays byte lower = grind (arith, lower)
-
-abbrev IsLower : ℕ → Type 0
-IsLower byte = is_lower_hex_digit byte ≡ true
 
 pub lower_case_stays : (text : List ℕ) → AllPass is_lower_hex_digit text → str_to_ascii_lowercase text ≡ text
 lower_case_stays [] lower = refl

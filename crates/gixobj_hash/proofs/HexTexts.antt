@@ -1,31 +1,18 @@
 -- Hex text written is in lower case and reads back, and text in lower case that was read is written back.
-use Rattle.std.proofs.Common.{◌≡◌, ◌<◌, ◌+◌, ◌*◌, ◌/◌, ◌%◌, ◌==◌, ◌||◌, ◌&&◌, ℕ, zero, suc, Bool, true, false, not, List, [], ◌∷◌, length, slice_index, unwrap_or, ◌⊎◌, inl, inr, Option, Some, None, Result, Ok, Err, arith, refl, ap, sym, ◌∙◌}
-use Rattle.std.proofs.lemmas.Bool.{and_parts, cases_lt, eqb-true}
+use Rattle.std.proofs.Common.{◌≡◌, ◌<◌, ◌+◌, ◌*◌, ◌/◌, ◌%◌, ◌==◌, ◌||◌, ℕ, suc, Bool, true, not, List, [], ◌∷◌, length, slice_index, unwrap_or, ◌⊎◌, inl, inr, Some, Ok, arith, refl, ap, sym, ◌∙◌}
+use Rattle.std.proofs.lemmas.Bool.{eqb-true}
 use Rattle.std.proofs.lemmas.List.Elements.{All-cons, All-head, All-nil, All-tail}
 use Rattle.std.specs.List.{AllPass}
 use Rattle.hex.proofs.HexLemmas.{decode_of-encode_lower, decode_of-even, decode_of-ok, length-encode_with}
-use Rattle.hex.specs.Hex.{IsBytes, decode_pairs, digit_or_error, encode_lower, encode_with, hex_digit_value, lower_digits, pair_value, value_at, ◌>>=◌}
-use Rattle.hex.specs.declared.error.FromHexError.{FromHexError}
+use Rattle.hex.specs.Hex.{IsBytes, decode_pairs, encode_lower, encode_with, hex_digit_value, lower_digits, pair_value, value_at}
 use Rattle.gixobj_hash.specs.Hash.{IsHexOfAnId, IsId, Spells, hash_len, hex_text, id_bytes, id_kind, is_lower_hex_digit}
 use Rattle.gixobj_hash.specs.declared.hash.object_id.ObjectId.{ObjectId}
 use Rattle.gixobj_hash.specs.declared.hash.object_id.ObjectId.TheVariants.{Sha1, Sha256}
+use Rattle.gixobj_hash.proofs.HexSteps.{IsLower, at_number, bound, chosen, digit_value_of, value_small}
 
 -- what is written is in lower case: each of the sixteen digits is
-abbrev lower_below : ℕ → Bool
-lower_below zero = true
-lower_below (suc n) = is_lower_hex_digit (slice_index lower_digits n) && lower_below n
-
-lower_at : (n digit : ℕ) → lower_below n ≡ true → digit < n → is_lower_hex_digit (slice_index lower_digits digit) ≡ true
-lower_at zero digit all low = absurd (omega arith)
-lower_at (suc n) digit all low =
-    let parts = and_parts (is_lower_hex_digit (slice_index lower_digits n)) (lower_below n) all in
-    elim (cases_lt digit n) [
-      | inl below ↦ lower_at n digit parts.1 below
-      | inr top ↦ (let same : digit ≡ n = omega arith in rw same parts.0)
-    ]
-
-abbrev IsLower : ℕ → Type 0
-IsLower byte = is_lower_hex_digit byte ≡ true
+abbrev is_lower_at : ℕ → Bool
+is_lower_at n = is_lower_hex_digit (slice_index lower_digits n)
 
 bytes-head : (byte : ℕ) (bytes : List ℕ) → IsBytes (byte ∷ bytes) → byte < 256
 bytes-head byte bytes small = small 0
@@ -38,8 +25,8 @@ unfolding encode_with
 lower_written [] small = All-nil IsLower
 lower_written (byte ∷ bytes) small =
     let low = bytes-head byte bytes small in
-    let high_digit = lower_at 16 (byte / 16) refl (omega arith) in
-    let low_digit = lower_at 16 (byte % 16) refl (omega arith) in
+    let high_digit = at_number is_lower_at 16 (byte / 16) refl (omega arith) in
+    let low_digit = at_number is_lower_at 16 (byte % 16) refl (omega arith) in
     All-cons IsLower (slice_index lower_digits (byte / 16)) (slice_index lower_digits (byte % 16) ∷ encode_lower bytes) high_digit
     (All-cons IsLower (slice_index lower_digits (byte % 16)) (encode_lower bytes) low_digit (lower_written bytes (bytes-tail byte bytes small)))
 
@@ -47,43 +34,14 @@ lower_written (byte ∷ bytes) small =
 abbrev is_written : ℕ → Bool
 is_written byte = not (is_lower_hex_digit byte) || (slice_index lower_digits (unwrap_or (hex_digit_value byte) 0) == byte)
 
-abbrev written_below : ℕ → Bool
-written_below zero = true
-written_below (suc n) = is_written n && written_below n
-
-written_at : (n byte : ℕ) → written_below n ≡ true → byte < n → is_written byte ≡ true
-written_at zero byte all low = absurd (omega arith)
-written_at (suc n) byte all low =
-    let parts = and_parts (is_written n) (written_below n) all in
-    elim (cases_lt byte n) [
-      | inl below ↦ written_at n byte parts.1 below
-      | inr top ↦ (let same : byte ≡ n = omega arith in rw same parts.0)
-    ]
-
-chosen : (a b : Bool) → (not a || b) ≡ true → a ≡ true → b ≡ true
-chosen true b either first = either
-chosen false b either first = cc first
-
 lower_small : (byte : ℕ) → is_lower_hex_digit byte ≡ true → byte < 103
 lower_small byte lower = grind (arith, lower)
 
 digit_written : (byte value : ℕ) → is_lower_hex_digit byte ≡ true → hex_digit_value byte ≡ Some value → slice_index lower_digits value ≡ byte
 digit_written byte value lower reads =
-    let written = written_at 103 byte refl (lower_small byte lower) in
+    let written = at_number is_written 103 byte refl (lower_small byte lower) in
     let same = eqb-true (slice_index lower_digits (unwrap_or (hex_digit_value byte) 0)) byte (chosen (is_lower_hex_digit byte) _ written lower) in
     ap (λ it. slice_index lower_digits (unwrap_or it 0)) (sym reads) ∙ same
-
-value_small : (byte value : ℕ) → hex_digit_value byte ≡ Some value → value < 16
-value_small byte value reads = grind arith
-
--- the parts of a step that succeeded
-bound : {A B : Type 0} (r : Result A FromHexError) (f : A → Result B FromHexError) (y : B) → (r >>= f) ≡ Ok y → (x : A) × (r ≡ Ok x) × (f x ≡ Ok y)
-bound (Ok x) f y ok = (x, refl, ok)
-bound (Err e) f y ok = cc ok
-
-digit_value_of : (byte i value : ℕ) (o : Option ℕ) → digit_or_error byte i o ≡ Ok value → o ≡ Some value
-digit_value_of byte i value (Some v) ok = cc ok
-digit_value_of byte i value None ok = cc ok
 
 pub written_back : (i : ℕ) (text bytes : List ℕ) → AllPass is_lower_hex_digit text → decode_pairs i text ≡ Ok bytes → encode_lower bytes ≡ text
 unfolding decode_pairs encode_with

@@ -4,7 +4,9 @@ pub mod Headers
 pub mod HexCase
 mod HexDigits
 pub mod HexIds
+mod HexSteps
 mod HexTests
 pub mod HexTexts
+pub mod SameIds
 pub mod SizeTexts
 pub mod Splits

@@ -19,8 +19,9 @@ use Rattle.gixobj_find.specs.Keeping.{with_trees}
 use Rattle.gixobj_editor.specs.Replies.{Meaning}
 use Rattle.gixobj_editor.specs.RunTables.{AgreesWithObjects}
 use Rattle.gixobj_editor.specs.declared.reply.EditReply.TheVariants as reply
-use Rattle.gixobj_import.specs.Edited.{AreDone, IsRefusedAt, IsReplied, IsWriteBehind, steps_of_edit}
-use Rattle.gixobj_import.proofs.Sets.{history_append, same_history, same_refl, same_sym, same_trans}
+use Rattle.gixobj_import.specs.Edited.{AreDone, IsRefusedAt, IsReplied, IsWriteBehind, steps_if_done}
+use Rattle.gixobj_files.proofs.EditedFiles.{same_refl, same_sym, same_trans}
+use Rattle.gixobj_files.proofs.Histories.{history_append, same_history}
 
 -- what agrees with the objects agrees with their trees
 agrees_with_trees : (T : Table) (objects : Objects) (trees : Trees) → AreTreesOf objects trees → AgreesWithObjects T objects → AgreesWithStore T trees
@@ -95,7 +96,7 @@ module _ {S : Type 0} (means : Meaning S) where
 
       module _ (n : ℕ) where
         edit_files : (old new : State S) (it : Edit) → IsReplied means old it reply.Done new → AgreesWithObjects T (means.objects old.store)
-            → SameFiles (EditorFiles T n new) (History T n (steps_of_edit it) (EditorFiles T n old))
+            → SameFiles (EditorFiles T n new) (History T n (steps_if_done it) (EditorFiles T n old))
         edit_files old new (edit.Upsert path kind id) done agrees =
             let trees = trees_of (means.objects old.store) in (done trees.0 trees.1).files T n (agrees_with_trees T (means.objects old.store) trees.0 trees.1 agrees)
         edit_files old new (edit.Remove path) done agrees =
@@ -106,13 +107,13 @@ module _ {S : Type 0} (means : Meaning S) where
 
         -- the files are those of the steps
         edits_files : (old new : State S) (edits : List Edit) → AreDone means old edits new → AgreesWithObjects T (means.objects old.store)
-            → SameFiles (EditorFiles T n new) (History T n (flat_map steps_of_edit edits) (EditorFiles T n old))
+            → SameFiles (EditorFiles T n new) (History T n (flat_map steps_if_done edits) (EditorFiles T n old))
         edits_files old new [] done agrees = subst (λ (s : State S). SameFiles (EditorFiles T n s) (EditorFiles T n old)) (sym done) (same_refl (EditorFiles T n old))
         edits_files old new (it ∷ edits) (between, first, done) agrees =
             let later = edits_files between new edits done (subst (λ (s : S). AgreesWithObjects T (means.objects s)) (sym (edit_stays old between it first)) agrees) in
             same_trans _ _ _ later
-            (same_trans _ _ _ (same_history T n (flat_map steps_of_edit edits) (EditorFiles T n between) (History T n (steps_of_edit it) (EditorFiles T n old)) (edit_files old between it first agrees))
-            (same_sym _ _ (history_append T n (steps_of_edit it) (flat_map steps_of_edit edits) (EditorFiles T n old))))
+            (same_trans _ _ _ (same_history T n (flat_map steps_if_done edits) (EditorFiles T n between) (History T n (steps_if_done it) (EditorFiles T n old)) (edit_files old between it first agrees))
+            (same_sym _ _ (history_append T n (steps_if_done it) (flat_map steps_if_done edits) (EditorFiles T n old))))
 
     -- a write behind them, whose trees the store has kept
     module _ (hash : hash.Kind) (old new : State S) (edits : List Edit) (it : Written) (behind : IsWriteBehind means hash old edits (reply.Written it) new) where
@@ -129,7 +130,7 @@ module _ {S : Type 0} (means : Meaning S) where
         based = edits_based T old behind.edited edits behind.done agrees has
 
         -- the tree that is named has the files of the edits
-        pub named_files : SameFiles (NamedFiles T n it.id) (History T n (flat_map steps_of_edit edits) (EditorFiles T n old))
+        pub named_files : SameFiles (NamedFiles T n it.id) (History T n (flat_map steps_if_done edits) (EditorFiles T n old))
         named_files = same_trans _ _ _ (behind.write.written.files T n pairs based) (edits_files T n old behind.edited edits behind.done agrees)
 
         -- and the editor goes on with these

@@ -14,8 +14,8 @@ use Rattle.gixobj_find.specs.Keeping.{with_commit, with_trees}
 use Rattle.gixobj_editor.specs.Replies.{Meaning}
 use Rattle.gixobj_editor.specs.RunTables.{AgreesWithObjects}
 use Rattle.gixobj_import.specs.Commits.{step_text}
-use Rattle.gixobj_import.specs.Edited.{steps_of_edit}
-use Rattle.gixobj_import.specs.Imports.{AgreesWithImports, AgreesWithStep, HasFilesOf, HaveFiles, HaveFilesOfNothing, IsNew, edits_of, no_files, pairs_of_imports, with_imports}
+use Rattle.gixobj_import.specs.Edited.{steps_if_done}
+use Rattle.gixobj_import.specs.Imports.{AgreesWithImports, AgreesWithStep, HasFilesOf, HaveFiles, HaveFilesOfNothing, IsNew, edits_of, pairs_of_imports, with_imports}
 use Rattle.gixobj_import.specs.Steps.{AreImported, IsImported}
 use Rattle.gixobj_import.specs.declared.import.Imported.{Imported}
 use Rattle.gixobj_import.specs.declared.import.Importer.{Importer}
@@ -23,7 +23,10 @@ use Rattle.gixobj_import.specs.declared.import.Step.{Step}
 use Rattle.gixobj_import.proofs.Adding.{kept_so, objects_of}
 use Rattle.gixobj_import.proofs.Doing.{bases_left, files_left, named_files}
 use Rattle.gixobj_import.proofs.Known.{OfStores}
-use Rattle.gixobj_import.proofs.Sets.{history_append, nothing_based, nothing_open, same_history, same_sym, same_trans}
+use Rattle.gixobj_import.proofs.Sets.{nothing_based, nothing_open}
+use Rattle.gixobj_files.proofs.EditedFiles.{same_sym, same_trans}
+use Rattle.gixobj_files.proofs.Histories.{history_append, same_history}
+use Rattle.gixobj_files.specs.PlainHistory.{NoFiles}
 
 all_first : (T : Table) (first then : List Pair) → AgreesWithPairs T (first ++ then) → AgreesWithPairs T first
 all_first T [] then all = All-nil (λ (pair : Pair). T.tree_at pair.0 ≡ Some pair.1)
@@ -45,7 +48,7 @@ module _ {S : Type 0} (means : Meaning S) (laws : OfStores) where
 
     module _ (T : Table) (n : ℕ) (agrees : AgreesWithStep T (objects_of means laws old) old.editor it) where
       abbrev first_edits : List history.Step
-      first_edits = flat_map steps_of_edit step.edits.items
+      first_edits = flat_map steps_if_done step.edits.items
 
       step_named : SameFiles (NamedFiles T n it.written.id) (History T n first_edits (EditorFiles T n old.editor))
       step_named = named_files means laws.trees_of old.hash old.editor one.between step.edits.items it.written one.trees T n agrees.writes agrees.stores agrees.bases
@@ -93,7 +96,7 @@ module _ {S : Type 0} (means : Meaning S) (laws : OfStores) where
         let next = agrees_later (objects_of means laws old) (objects_of means laws between) old.last between.last step steps first imported agrees (kept_so means laws old step first between one)
         (ap (λ (i : Importer S). i.last) one.rest) in
         let later = files between new steps imported done next (step_bases old step first between one T) k it at in
-        let edits = flat_map steps_of_edit step.edits.items in
+        let edits = flat_map steps_if_done step.edits.items in
         let more = edits_of (take (suc k) steps) in
         same_trans _ _ _ later
         (same_trans _ _ _ (same_history T n more (EditorFiles T n between.editor) (History T n edits (EditorFiles T n old.editor)) (step_left old step first between one T n (agrees_first old step steps first imported agrees has)))
@@ -106,5 +109,5 @@ module _ {S : Type 0} (means : Meaning S) (laws : OfStores) where
   pub files_of_new : (old new : Importer S) (steps : List Step) (imported : List Imported) → AreImported means old steps imported new → IsNew old → HaveFilesOfNothing (objects_of means laws old) steps imported
   files_of_new old new steps imported done is T n agrees =
       let alone = ap (λ (s : State S). s.dirs) is.editor in
-      same_have T n (EditorFiles T n old.editor) no_files steps imported (nothing_open old.editor alone T n)
+      same_have T n (EditorFiles T n old.editor) NoFiles steps imported (nothing_open old.editor alone T n)
       (files T n old new steps imported done (subst (λ (parent : Option ObjectId). AgreesWithImports T (objects_of means laws old) parent steps imported) (sym is.last) agrees) (nothing_based old.editor alone T))

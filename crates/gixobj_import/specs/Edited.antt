@@ -22,11 +22,11 @@ use Rattle.gixobj_tree.specs.Mode.{mode_of_kind}
 use Rattle.gixobj_tree.specs.TreeText.{tree_text}
 
 -- what an edit does to the files; a write does nothing
-abbrev pub steps_of_edit : Edit → List Step
-steps_of_edit (edit.Upsert path kind id) = upsert (names_of path.items) (mode_of_kind kind) id ∷ []
-steps_of_edit (edit.Remove path) = remove (names_of path.items) ∷ []
-steps_of_edit (edit.RemoveLeaf path) = remove (names_of path.items) ∷ []
-steps_of_edit edit.Write = []
+abbrev pub steps_if_done : Edit → List Step
+steps_if_done (edit.Upsert path kind id) = upsert (names_of path.items) (mode_of_kind kind) id ∷ []
+steps_if_done (edit.Remove path) = remove (names_of path.items) ∷ []
+steps_if_done (edit.RemoveLeaf path) = remove (names_of path.items) ∷ []
+steps_if_done edit.Write = []
 
 -- the answer to a tree is the digest of its written bytes; or there was no memory for them, or it
 -- can't be written

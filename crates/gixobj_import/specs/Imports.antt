@@ -17,14 +17,11 @@ use Rattle.gixobj_commit.specs.Commit.{IsCommitText}
 use Rattle.gixobj_editor.specs.RunTables.{AgreesWithObjects}
 use Rattle.gixobj_import.specs.ByDigest.{NamesCommit}
 use Rattle.gixobj_import.specs.Commits.{NamesSignature, step_commit, step_text}
-use Rattle.gixobj_import.specs.Edited.{steps_of_edit}
+use Rattle.gixobj_import.specs.Edited.{steps_if_done}
 use Rattle.gixobj_import.specs.declared.import.Imported.{Imported}
 use Rattle.gixobj_import.specs.declared.import.Importer.{Importer}
 use Rattle.gixobj_import.specs.declared.import.Step.{Step}
-
--- nothing
-abbrev pub no_files : FileSet
-no_files path mode id = ⊥
+use Rattle.gixobj_files.specs.PlainHistory.{NoFiles}
 
 -- a new editor without files
 abbrev pub without_files : {S : Type 0} → S → hash.Kind → State S
@@ -38,7 +35,7 @@ pub record IsNew {S : Type 0} (importer : Importer S) : Type 0 where
 
 -- what the edits of these steps do to the files, in order
 abbrev pub edits_of : List Step → List history.Step
-edits_of steps = flat_map (λ step. flat_map steps_of_edit step.edits.items) steps
+edits_of steps = flat_map (λ step. flat_map steps_if_done step.edits.items) steps
 
 -- ---- a step
 
@@ -101,7 +98,7 @@ HaveFiles T n files steps imported =
 abbrev pub HaveFilesOfNothing : Objects → List Step → List Imported → Type 0
 HaveFilesOfNothing objects steps imported =
     (T : Table) (n : ℕ) → AgreesWithImports T objects None steps imported
-    → HaveFiles T n no_files steps imported
+    → HaveFiles T n NoFiles steps imported
 
 -- the steps before the one that was refused
 abbrev pub before : List Imported → List Step → List Step

@@ -3,7 +3,6 @@ mod Contents
 pub mod Keeping
 mod PathTexts
 mod Paths
-mod SameIds
 mod Seeking
 mod Steps
 mod Walks

@@ -1,5 +1,4 @@
 mod Cuts
-mod FewWords
 pub mod Fitting
 mod LineTexts
 mod Reading

@@ -1,8 +1,13 @@
--- A list of two items, seen by a function.
+-- A list of one item or two, seen by a function.
 use Rattle.std.proofs.Common.{◌≡◌, List, [], ◌∷◌, length, map, get_or, arith}
 
-pub map-two : {X Y : Type 0} (f : X → Y) (xs : List X) (x y : X) → length xs ≡ 2 → x ≡ get_or xs 0 x → y ≡ get_or xs 1 y → map f xs ≡ f x ∷ f y ∷ []
-map-two f [] x y len first second = absurd (omega arith)
-map-two f (a ∷ []) x y len first second = absurd (omega arith)
-map-two f (a ∷ b ∷ []) x y len first second = cc (first, second)
-map-two f (a ∷ b ∷ c ∷ xs) x y len first second = absurd (omega arith)
+pub map_one : {X Y : Type 0} (f : X → Y) (xs : List X) (x : X) → length xs ≡ 1 → x ≡ get_or xs 0 x → map f xs ≡ f x ∷ []
+map_one f [] x len first = absurd (omega arith)
+map_one f (a ∷ []) x len first = cc first
+map_one f (a ∷ b ∷ xs) x len first = absurd (omega arith)
+
+pub map_two : {X Y : Type 0} (f : X → Y) (xs : List X) (x y : X) → length xs ≡ 2 → x ≡ get_or xs 0 x → y ≡ get_or xs 1 y → map f xs ≡ f x ∷ f y ∷ []
+map_two f [] x y len first second = absurd (omega arith)
+map_two f (a ∷ []) x y len first second = absurd (omega arith)
+map_two f (a ∷ b ∷ []) x y len first second = cc (first, second)
+map_two f (a ∷ b ∷ c ∷ xs) x y len first second = absurd (omega arith)

@@ -1,3 +1,3 @@
-mod FewItems
+pub mod FewItems
 mod FirstEntry
 mod Refused

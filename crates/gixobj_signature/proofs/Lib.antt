@@ -1,6 +1,6 @@
 mod FieldPlaces
 mod LastPlaces
 mod Rows
-mod Steps
+pub mod Steps
 mod Told
 mod Unmarked

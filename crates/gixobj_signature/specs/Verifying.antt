@@ -1,12 +1,10 @@
 -- What comes of verifying: the plan of calls, and what their answers make.
-use Rattle.std.specs.Prelude.{ℕ, Bool, true, false, List, [], ◌∷◌, ◌++◌, Option, Some, None, Result, Ok, Err, cond, codes, filter, map, nat_eq, ◌&&◌}
-use Rattle.std.specs.Char.{is_whitespace}
+use Rattle.std.specs.Prelude.{ℕ, Bool, false, List, [], ◌∷◌, ◌++◌, Option, Some, None, Result, Ok, Err, cond, codes, filter, map, nat_eq, ◌&&◌}
 use Rattle.std.specs.List.{starts_with}
 use Rattle.std.specs.Str.{encode_utf8_all}
 use Rattle.bstr.specs.BStr.{bstr_bytes}
 use Rattle.bstr.specs.Owned.{bstring_bytes}
 use Rattle.bstr.specs.Text.{lines_of, without_terminator}
-use Rattle.bstr.specs.Trim.{trim_end_by, trim_start_by}
 use Rattle.bstr.specs.Utf8.{lossy_chars}
 use Rattle.bstr.specs.declared.bstr.BStr.{BStr}
 use Rattle.gixobj_signature.specs.Calls.{Answer, CallView, Failure, OutputView, failed, no_file, no_memory, no_time, not_spawned, not_told, output_view, ran}
@@ -30,6 +28,7 @@ use Rattle.gixobj_signature.specs.declared.signature.signed_data.SignedData.{Sig
 use Rattle.gixobj_signature.specs.declared.signature.verify.Error.{Error}
 use Rattle.gixobj_signature.specs.declared.signature.verify.Error.TheVariants as verify
 use Rattle.gixobj_signature.specs.declared.signature.verify.Options.{Options}
+use Rattle.gixobj_hash.specs.Texts.{is_filled, trimmed}
 
 -- what comes of verifying: an outcome; no marker; the formats of the program and of the signature; a program that didn't run
 pub data Verified : Type 0 where
@@ -61,18 +60,11 @@ gpg_verify_plan format by call = ask call (λ answer. on_output answer (λ it. d
 
 -- the principals that are named: the lines without white space at their ends, but for empty ones; bytes that are no
 -- UTF-8 are replaced
-abbrev pub is_filled : List ℕ → Bool
-is_filled [] = false
-is_filled (byte ∷ rest) = true
-
 abbrev pub lossy : List ℕ → List ℕ
 lossy bytes = encode_utf8_all (lossy_chars bytes)
 
-abbrev pub trimmed_line : List ℕ → List ℕ
-trimmed_line line = trim_end_by is_whitespace (trim_start_by is_whitespace line)
-
 abbrev pub principals_in : List ℕ → List (List ℕ)
-principals_in stdout = map lossy (filter is_filled (map trimmed_line (map without_terminator (lines_of stdout))))
+principals_in stdout = map lossy (filter is_filled (map trimmed (map without_terminator (lines_of stdout))))
 
 -- what people are told
 abbrev pub human : OutputView → List ℕ

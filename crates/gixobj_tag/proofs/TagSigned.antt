@@ -2,7 +2,7 @@
 use Rattle.std.proofs.Common.{◌≡◌, ◌∙◌, ap, inl, inr, subst, sym, refl, IfErr, IfOk, List, [], ◌∷◌, ◌++◌, ℕ, Some, Result, Ok, Err}
 use Rattle.gixobj_fields.specs.Writing.{RefusesNothing}
 use Rattle.gixobj_signature.specs.Calls.{Answer, CallView}
-use Rattle.gixobj_signature.specs.Plans.{Begins, Carries, Goes, Plan, ask, done, no_more}
+use Rattle.gixobj_signature.specs.Plans.{Carries, Goes}
 use Rattle.gixobj_signature.specs.Signing.{options_view, sign_plan, signature, signer_refusal}
 use Rattle.gixobj_signature.specs.declared.signature.sign.Error.{Error}
 use Rattle.gixobj_signature.specs.declared.signature.sign.Options.{Options}
@@ -13,12 +13,7 @@ use Rattle.gixobj_tag.specs.TagViews.{owned_lines}
 use Rattle.gixobj_tag.specs.TagWriting.{RefusesOwned, tag_text}
 use Rattle.gixobj_tag.specs.declared.tag.Tag.{Tag}
 use Rattle.gixobj_hash.specs.Bytes.{newline}
-
--- any plan may be left before its first call
-begins_at_once : {S R : Type 0} (runs : S → CallView → Answer → S → Type 0) (plan : Plan R) (s : S) → Begins runs plan s s
-begins_at_once runs (done it) s = refl
-begins_at_once runs (ask call next) s = inl refl
-begins_at_once runs no_more s = refl
+use Rattle.gixobj_signature.proofs.Steps.{begins_at_once}
 
 -- a tag that has no payload is refused before any call
 pub refused_unwritten : {S : Type 0} (runs : S → CallView → Answer → S → Type 0) (options : Options) (tag without : Tag) → without ≡ unsigned tag → (old : S) (error : Error)

@@ -1,17 +1,10 @@
 -- The rows of blocks of messages, of the definitions.
 use Rattle.std.proofs.Common.{◌∷◌, refl, List, [], ℕ, codes}
 use Rattle.std.proofs.lemmas.List.Elements.{All-cons, All-nil}
-use Rattle.std.specs.Prelude.{◌||◌, IsFalse, IsTrue}
 use Rattle.bstr.proofs.Computing.{computing}
 use Rattle.gixobj_text.specs.Blocks.{AreBlocksFrom, BlockView}
 use Rattle.gixobj_text.specs.Blocks.AreBlocksFrom.{block, none}
-use Rattle.gixobj_text.specs.BodyLines.{is_folded, is_trailer_line}
-
-abbrev NoTrailer : List ℕ → Type 0
-NoTrailer line = IsFalse (is_trailer_line line)
-
-abbrev GoesOn : List ℕ → Type 0
-GoesOn line = IsTrue (is_trailer_line line || is_folded line)
+use Rattle.gixobj_text.specs.Steps.{GoesOn, NoTrailer}
 
 abbrev of : List ℕ → List ℕ → BlockView
 of message trailers = record { message = message; trailers = trailers }

@@ -1,6 +1,6 @@
 -- Where two breaks of lines first follow each other.
 use Rattle.std.proofs.lemmas.Bool.{eqb-true}
-use Rattle.std.proofs.Common.{◌≡◌, ◌≢◌, ◌≤◌, ◌+◌, inl, inr, length-append, ◌++◌, ◌∷◌, ◌∙◌, ap, arith, subst, sym, refl, ℕ, zero, suc, Bool, true, false, cond, not, List, [], Option, Some, None, length}
+use Rattle.std.proofs.Common.{◌++◌, ◌+◌, ◌∙◌, ◌∷◌, ◌≡◌, ◌≢◌, ◌≤◌, Bool, List, None, Option, Some, [], ap, append-nil, append_assoc, arith, cond, false, inl, inr, length, length-append, not, refl, subst, suc, sym, true, zero, ℕ}
 use Rattle.std.specs.Prelude.{is_some, ◌&&◌, ◌==◌, ◌-◌, take}
 use Rattle.bstr.specs.BStr.{bstr_bytes}
 use Rattle.bstr.specs.declared.bstr.BStr.{BStr}
@@ -49,10 +49,6 @@ never (byte ∷ text) (one ∷ front) rest none it =
 
 -- ---- the walk to the cut
 
-append_apart : (a b c : List ℕ) → (a ++ b) ++ c ≡ a ++ (b ++ c)
-append_apart [] b c = refl
-append_apart (byte ∷ a) b c = ap (λ (bytes : List ℕ). byte ∷ bytes) (append_apart a b c)
-
 -- a break at the start
 abbrev IsBroken : List ℕ → List ℕ → Type 0
 IsBroken text rest = (first : List ℕ) × IsBreak first × (text ≡ first ++ rest)
@@ -85,7 +81,7 @@ twice_by text body None first second = cc second
 twice_by text body (Some rest) first second =
     let one : IsBroken text rest = broken text rest first in
     let two : IsBroken rest body = broken rest body second in
-    record { first = one.0; second = two.0; breaks = (one.1, two.1); joined = one.2 ∙ ap (λ (bytes : List ℕ). one.0 ++ bytes) two.2 ∙ sym (append_apart one.0 two.0 body) }
+    record { first = one.0; second = two.0; breaks = (one.1, two.1); joined = one.2 ∙ ap (λ (bytes : List ℕ). one.0 ++ bytes) two.2 ∙ sym (append_assoc one.0 two.0 body) }
 
 twice : (text body : List ℕ) → Some body ≡ behind_two text → HasBreaks text [] body
 twice text body is = twice_by text body (behind_break text) refl (sym is)
@@ -109,7 +105,7 @@ uncut_more message rest byte behind it is none =
     let not : are_two (byte ∷ behind) ≡ false = ap are_two (sym is) ∙ sym (ap is_some none) in
     record {
       front = it.front ++ byte ∷ [];
-      joined = joined ∙ sym (append_apart it.front (byte ∷ []) behind);
+      joined = joined ∙ sym (append_assoc it.front (byte ∷ []) behind);
       none = ap (none_before (length (it.front ++ byte ∷ []))) joined ∙ none_more it.front byte behind (ap (none_before (length it.front)) (sym joined) ∙ it.none) not;
     }
 
@@ -123,13 +119,9 @@ nowhere_all (byte ∷ front) is =
     both true b is so = cc is
     both false b is so = so
 
-nothing_behind : (a : List ℕ) → a ++ [] ≡ a
-nothing_behind [] = refl
-nothing_behind (byte ∷ a) = ap (λ (bytes : List ℕ). byte ∷ bytes) (nothing_behind a)
-
 pub all_title : (message rest title : List ℕ) → IsUncut message rest → rest ≡ [] → title ≡ message → SplitsTitle message title None
 all_title message rest title it none all =
-    let is : message ≡ it.front = it.joined ∙ ap (λ (bytes : List ℕ). it.front ++ bytes) none ∙ nothing_behind it.front in
+    let is : message ≡ it.front = it.joined ∙ ap (λ (bytes : List ℕ). it.front ++ bytes) none ∙ append-nil it.front in
     let so : none_before (length message) message ≡ true = ap (λ (n : ℕ). none_before n message) (ap length is) ∙ it.none in
     inr (all, λ front rest. never message front rest (nowhere_all message so))
 
@@ -153,8 +145,8 @@ cut_here message rest body title it two is =
         first = at.first;
         second = at.second;
         breaks = at.breaks;
-        joined = it.joined ∙ ap (λ (bytes : List ℕ). it.front ++ bytes) at.joined ∙ sym (append_apart it.front (at.first ++ at.second) body)
-            ∙ ap (λ (bytes : List ℕ). bytes ++ body) (sym (append_apart it.front at.first at.second));
+        joined = it.joined ∙ ap (λ (bytes : List ℕ). it.front ++ bytes) at.joined ∙ sym (append_assoc it.front (at.first ++ at.second) body)
+            ∙ ap (λ (bytes : List ℕ). bytes ++ body) (sym (append_assoc it.front at.first at.second));
       };
       least = λ other behind others. least (length it.front) message other behind it.none others;
     })

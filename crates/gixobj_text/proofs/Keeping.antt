@@ -1,5 +1,5 @@
 -- Trailers that a filter passes over.
-use Rattle.std.proofs.Common.{Bool, true, false, cond, filter, ◌≡◌, ◌++◌, ◌∷◌, ◌∙◌, ap, sym, refl, All, List, []}
+use Rattle.std.proofs.Common.{◌++◌, ◌∙◌, ◌∷◌, ◌≡◌, All, Bool, List, [], ap, append_assoc, cond, false, filter, refl, sym, true}
 use Rattle.std.proofs.lemmas.List.Elements.{All-nil, All-cons, All-head, All-tail}
 use Rattle.std.specs.Prelude.{IsFalse}
 use Rattle.gixobj_text.specs.Filters.{PassesOthers, is_kept}
@@ -19,15 +19,11 @@ all_more : (P : TrailerView → Type 0) (trailers : List TrailerView) (one : Tra
 all_more P [] one all it = All-cons P one [] it (All-nil P)
 all_more P (first ∷ trailers) one all it = All-cons P first (trailers ++ one ∷ []) (All-head P first trailers all) (all_more P trailers one (All-tail P first trailers all) it)
 
-apart : (a b c : List TrailerView) → (a ++ b) ++ c ≡ a ++ (b ++ c)
-apart [] b c = refl
-apart (one ∷ a) b c = ap (λ (ts : List TrailerView). one ∷ ts) (apart a b c)
-
 pub passes_more : (by : Filter) (before middle after : Trailers) (trailer : TrailerRef) → PassesOthers by before middle → trailers_left middle ≡ trailer_view trailer ∷ trailers_left after
     → is_kept by (trailer_view trailer).token ≡ false → PassesOthers by before after
 passes_more by before middle after trailer it left other = record {
   skipped = it.skipped ++ trailer_view trailer ∷ [];
-  joined = it.joined ∙ ap (λ (ts : List TrailerView). it.skipped ++ ts) left ∙ sym (apart it.skipped (trailer_view trailer ∷ []) (trailers_left after));
+  joined = it.joined ∙ ap (λ (ts : List TrailerView). it.skipped ++ ts) left ∙ sym (append_assoc it.skipped (trailer_view trailer ∷ []) (trailers_left after));
   all = all_more (Other by) it.skipped (trailer_view trailer) it.all other;
 }
 

@@ -1,12 +1,10 @@
 -- A list of lines has one last run.
-use Rattle.std.proofs.Common.{◌≡◌, ◌≢◌, inl, inr, ◌++◌, ◌∷◌, ◌∙◌, ap, sym, subst, refl, ℕ, All, Bool, true, false, not, cond, List, []}
+use Rattle.std.proofs.Common.{◌++◌, ◌∙◌, ◌∷◌, ◌≡◌, ◌≢◌, All, Bool, List, [], ap, append_assoc, cond, false, inl, inr, not, refl, subst, sym, true, ℕ}
 use Rattle.std.proofs.lemmas.List.Elements.{All-head, All-tail}
-use Rattle.std.specs.Prelude.{IsFalse, IsTrue, ◌&&◌}
+use Rattle.std.specs.Prelude.{◌&&◌}
 use Rattle.gixobj_text.specs.BodyLines.{is_blank}
 use Rattle.gixobj_text.specs.TrailerBlocks.{EndsBlank, HasNoBlock, IsTrailerBlock, IsLastRun}
-
-abbrev Lines : Type 0
-Lines = List (List ℕ)
+use Rattle.gixobj_text.proofs.OneLine.{Blank, Filled, Lines}
 
 -- what stands before the last run, the run, and what stands behind it
 pub record Parts : Type 0 where
@@ -28,12 +26,6 @@ in_front line blank it =
 abbrev pub parts_of : Lines → Parts
 parts_of [] = record { before = []; run = []; after = [] }
 parts_of (line ∷ lines) = in_front line (is_blank line) (parts_of lines)
-
-abbrev Blank : List ℕ → Type 0
-Blank line = IsTrue (is_blank line)
-
-abbrev Filled : List ℕ → Type 0
-Filled line = IsFalse (is_blank line)
 
 in_so : (line : List ℕ) (b : Bool) (before run after lines : Lines) → is_blank line ≡ b → parts_of lines ≡ record { before = before; run = run; after = after }
     → parts_of (line ∷ lines) ≡ in_front line b (record { before = before; run = run; after = after })
@@ -71,14 +63,10 @@ of_all (line ∷ next ∷ before) [] after ends some filled blank = absurd (some
 of_all (line ∷ next ∷ before) (first ∷ run) after ends some filled blank =
     in_so line (is_blank line) (next ∷ before) (first ∷ run) after ((next ∷ before) ++ ((first ∷ run) ++ after)) refl (of_all (next ∷ before) (first ∷ run) after (ends_behind line next before ends) some filled blank)
 
-append_apart : (a b c : Lines) → (a ++ b) ++ c ≡ a ++ (b ++ c)
-append_apart [] b c = refl
-append_apart (line ∷ a) b c = ap (λ (lines : Lines). line ∷ lines) (append_apart a b c)
-
 -- the parts of lines are those of their last run
 pub parts_are : (lines before run after : Lines) → IsLastRun lines before run after → parts_of lines ≡ record { before = before; run = run; after = after }
 parts_are lines before run after last =
-    ap parts_of (last.joined ∙ append_apart before run after) ∙ of_all before run after last.ends last.some last.none_blank last.all_blank
+    ap parts_of (last.joined ∙ append_assoc before run after) ∙ of_all before run after last.ends last.some last.none_blank last.all_blank
 
 pub no_block : (lines : Lines) → ¬ IsTrailerBlock (parts_of lines).run → HasNoBlock lines
 no_block lines other before run after last block =

@@ -1,5 +1,5 @@
 -- A message has one title, one body and one list of trailers; a body has one block start.
-use Rattle.std.proofs.Common.{◌≡◌, ◌≢◌, ◌+◌, ◌≤◌, ◌++◌, ◌∷◌, ◌∙◌, inl, inr, ap, arith, sym, subst, refl, ℕ, List, [], Option, Some, None, length, length-append, drop, zero-add}
+use Rattle.std.proofs.Common.{◌++◌, ◌+◌, ◌∙◌, ◌∷◌, ◌≡◌, ◌≢◌, ◌≤◌, List, None, Option, Some, [], ap, append_assoc, arith, drop, inl, inr, length, length-append, refl, subst, sym, zero-add, ℕ}
 use Rattle.std.specs.List.{concat}
 use Rattle.bstr.specs.Text.{lines_of}
 use Rattle.gixobj_text.specs.Breaks.{behind_two}
@@ -15,10 +15,6 @@ abbrev Lines : Type 0
 Lines = List (List ℕ)
 
 -- ---- title and body
-
-append_apart : (a b c : List ℕ) → (a ++ b) ++ c ≡ a ++ (b ++ c)
-append_apart [] b c = refl
-append_apart (byte ∷ a) b c = ap (λ (bytes : List ℕ). byte ∷ bytes) (append_apart a b c)
 
 same_front : (a b x y : List ℕ) → length a ≡ length b → a ++ x ≡ b ++ y → (a ≡ b) × (x ≡ y)
 same_front [] [] x y long is = (refl, is)
@@ -37,8 +33,8 @@ behind first second rest after_return after_return = refl
 
 regrouped : (message title body : List ℕ) → (it : HasBreaks message title body) → message ≡ title ++ (it.first ++ it.second ++ body)
 regrouped message title body it =
-    it.joined ∙ append_apart (title ++ it.first) it.second body ∙ append_apart title it.first (it.second ++ body)
-    ∙ ap (λ (bytes : List ℕ). title ++ bytes) (sym (append_apart it.first it.second body))
+    it.joined ∙ append_assoc (title ++ it.first) it.second body ∙ append_assoc title it.first (it.second ++ body)
+    ∙ ap (λ (bytes : List ℕ). title ++ bytes) (sym (append_assoc it.first it.second body))
 
 one_cut : (message title body title2 body2 : List ℕ) → IsCut message title body → IsCut message title2 body2 → (title ≡ title2) × (body ≡ body2)
 one_cut message title body title2 body2 one other =

@@ -1,5 +1,5 @@
 -- A body has one list of blocks.
-use Rattle.std.proofs.Common.{◌≡◌, ◌++◌, ◌∷◌, ◌∙◌, ap, sym, subst, refl, ℕ, All, Bool, true, false, cond, List, [], drop, take}
+use Rattle.std.proofs.Common.{◌++◌, ◌∙◌, ◌∷◌, ◌≡◌, All, Bool, List, [], ap, append_assoc, cond, drop, false, refl, subst, sym, take, true, ℕ}
 use Rattle.std.proofs.lemmas.List.Elements.{All-cons, All-head, All-nil, All-tail}
 use Rattle.std.specs.Prelude.{◌||◌}
 use Rattle.std.specs.List.{concat}
@@ -9,7 +9,6 @@ use Rattle.gixobj_text.specs.Blocks.{AreBlocksFrom, AreTrailers, BlockView, Ends
 use Rattle.gixobj_text.specs.Blocks.AreBlocksFrom.{block, none}
 use Rattle.gixobj_text.specs.BodyLines.{is_folded, is_trailer_line}
 use Rattle.gixobj_text.specs.Steps.{BeginsTrailer, GoesOn, NoTrailer}
-use Rattle.gixobj_text.proofs.OneLine.{apart}
 
 abbrev Lines : Type 0
 Lines = List (List ℕ)
@@ -80,7 +79,7 @@ record IsCutSo (lines skipped taken rest : Lines) : Type 0 where
 
 cut_so : (lines skipped taken rest : Lines) → IsBlockOfLines lines skipped taken rest → IsCutSo lines skipped taken rest
 cut_so lines skipped taken rest it =
-    let joined : lines ≡ skipped ++ (taken ++ rest) = it.split ∙ apart skipped taken rest in
+    let joined : lines ≡ skipped ++ (taken ++ rest) = it.split ∙ append_assoc skipped taken rest in
     let first = skipped_is skipped (taken ++ rest) it.message (begins taken rest it.trailers it.none) in
     let second = taken_is taken rest (all_go_on taken it.trailers) it.ends in
     let behind : behind_skipped lines ≡ taken ++ rest = ap behind_skipped joined ∙ first.1 in

@@ -1,5 +1,5 @@
 -- A line more behind lines: their last run, and the counts of a run.
-use Rattle.std.proofs.Common.{◌≡◌, ◌≢◌, inr, ◌++◌, ◌∷◌, ◌∙◌, ◌+◌, ap, arith, sym, refl, ℕ, All, Bool, true, false, cond, List, []}
+use Rattle.std.proofs.Common.{◌++◌, ◌+◌, ◌∙◌, ◌∷◌, ◌≡◌, ◌≢◌, All, Bool, List, [], ap, append-nil, append_assoc, arith, cond, false, inr, refl, sym, true, ℕ}
 use Rattle.std.proofs.lemmas.List.Elements.{All-cons, All-head, All-nil, All-tail}
 use Rattle.std.specs.Prelude.{IsFalse, IsTrue, ◌||◌}
 use Rattle.std.specs.List.{list_any}
@@ -8,22 +8,14 @@ use Rattle.gixobj_text.specs.BodyLines.{is_blank, is_indented}
 use Rattle.gixobj_text.specs.Scanning.{above_behind}
 use Rattle.gixobj_text.specs.TrailerBlocks.{EndsBlank, IsLastRun, is_trailing, others}
 
-abbrev Lines : Type 0
+abbrev pub Lines : Type 0
 Lines = List (List ℕ)
 
-abbrev Blank : List ℕ → Type 0
+abbrev pub Blank : List ℕ → Type 0
 Blank line = IsTrue (is_blank line)
 
-abbrev Filled : List ℕ → Type 0
+abbrev pub Filled : List ℕ → Type 0
 Filled line = IsFalse (is_blank line)
-
-pub apart : (a b c : Lines) → (a ++ b) ++ c ≡ a ++ (b ++ c)
-apart [] b c = refl
-apart (line ∷ a) b c = ap (λ (lines : Lines). line ∷ lines) (apart a b c)
-
-pub none_behind : (a : Lines) → a ++ [] ≡ a
-none_behind [] = refl
-none_behind (line ∷ a) = ap (λ (lines : Lines). line ∷ lines) (none_behind a)
 
 pub all_more : (P : List ℕ → Type 0) (lines : Lines) (line : List ℕ) → All P lines → P line → All P (lines ++ line ∷ [])
 all_more P [] line all it = All-cons P line [] it (All-nil P)
@@ -38,7 +30,7 @@ not_none (first ∷ run) line = λ is. cc is
 -- a blank line stands behind the run
 pub blank_more : (lines before run after : Lines) (line : List ℕ) → Blank line → IsLastRun lines before run after → IsLastRun (lines ++ line ∷ []) before run (after ++ line ∷ [])
 blank_more lines before run after line blank last = record {
-  joined = ap (λ (ls : Lines). ls ++ line ∷ []) last.joined ∙ apart (before ++ run) after (line ∷ []);
+  joined = ap (λ (ls : Lines). ls ++ line ∷ []) last.joined ∙ append_assoc (before ++ run) after (line ∷ []);
   some = last.some;
   none_blank = last.none_blank;
   all_blank = all_more Blank after line last.all_blank blank;
@@ -48,7 +40,7 @@ blank_more lines before run after line blank last = record {
 -- another line goes on with the run, where none stands behind it
 pub filled_more : (lines before run : Lines) (line : List ℕ) → Filled line → IsLastRun lines before run [] → IsLastRun (lines ++ line ∷ []) before (run ++ line ∷ []) []
 filled_more lines before run line filled last = record {
-  joined = ap (λ (ls : Lines). ls ++ line ∷ []) (last.joined ∙ none_behind (before ++ run)) ∙ apart before run (line ∷ []) ∙ sym (none_behind (before ++ (run ++ line ∷ [])));
+  joined = ap (λ (ls : Lines). ls ++ line ∷ []) (last.joined ∙ append-nil (before ++ run)) ∙ append_assoc before run (line ∷ []) ∙ sym (append-nil (before ++ (run ++ line ∷ [])));
   some = not_none run line;
   none_blank = all_more Filled run line last.none_blank filled;
   all_blank = last.all_blank;
@@ -58,7 +50,7 @@ filled_more lines before run line filled last = record {
 -- and begins a run behind lines that end in a blank one
 pub filled_first : (lines : Lines) (line : List ℕ) → Filled line → EndsBlank lines → IsLastRun (lines ++ line ∷ []) lines (line ∷ []) []
 filled_first lines line filled ends = record {
-  joined = sym (none_behind (lines ++ line ∷ []));
+  joined = sym (append-nil (lines ++ line ∷ []));
   some = λ is. cc is;
   none_blank = All-cons Filled line [] filled (All-nil Filled);
   all_blank = All-nil Blank;

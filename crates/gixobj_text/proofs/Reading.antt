@@ -1,5 +1,5 @@
 -- Reading trailers line by line.
-use Rattle.std.proofs.Common.{◌≡◌, ◌≢◌, ◌+◌, ◌-◌, ◌<◌, ◌≤◌, ◌++◌, ◌∷◌, ◌∙◌, ap, arith, sym, refl, ℕ, suc, Bool, true, false, cond, List, [], Option, Some, None, length, take, map, filter, append_assoc, length-append}
+use Rattle.std.proofs.Common.{◌++◌, ◌+◌, ◌-◌, ◌<◌, ◌∙◌, ◌∷◌, ◌≡◌, ◌≢◌, ◌≤◌, Bool, List, None, Option, Some, [], ap, append-nil, append_assoc, arith, cond, false, filter, length, length-append, map, refl, suc, sym, take, true, ℕ}
 use Rattle.std.proofs.lemmas.Bool.Decides.{nat_tests}
 use Rattle.std.proofs.lemmas.List.Sums.{take_while-cons}
 use Rattle.std.specs.Char.{is_ascii_whitespace}
@@ -11,7 +11,8 @@ use Rattle.bstr.proofs.lemmas.LineLemmas.{lines-nil}
 use Rattle.gixobj_text.specs.FirstLines.{IsFirstLine}
 use Rattle.gixobj_text.specs.BodyLines.{TrailerParts, begins_indented, behind_gap, is_blank, is_folded, is_indented, is_token_byte, one_more, parts_of_line, rest_of_token, text_of, trailer_parts, with_value}
 use Rattle.gixobj_text.specs.Scanning.{behind_token}
-use Rattle.gixobj_text.specs.Trailers.{is_filled, trailers_of, trailers_of_text, trimmed, unfolded, with_trailer}
+use Rattle.gixobj_text.specs.Trailers.{trailers_of, trailers_of_text, unfolded, with_trailer}
+use Rattle.gixobj_hash.specs.Texts.{is_filled, trimmed}
 use Rattle.gixobj_text.specs.Unfolding.{IsNextTrailer, are_some, first_is_folded, with_folded, with_piece, with_pieces}
 
 abbrev Lines : Type 0
@@ -131,12 +132,8 @@ folded_all items text none = ap (λ (ls : Lines). with_pieces items (map trimmed
 abbrev spaced : Lines → List ℕ
 spaced pieces = flat_map (λ (it : List ℕ). (32 ∷ []) ++ it) pieces
 
-nothing_behind : (a : List ℕ) → a ++ [] ≡ a
-nothing_behind [] = refl
-nothing_behind (byte ∷ a) = ap (λ (bytes : List ℕ). byte ∷ bytes) (nothing_behind a)
-
 behind_filled : (byte : ℕ) (items : List ℕ) (pieces : Lines) → with_pieces (byte ∷ items) pieces ≡ (byte ∷ items) ++ spaced (filter is_filled pieces)
-behind_filled byte items [] = sym (nothing_behind (byte ∷ items))
+behind_filled byte items [] = sym (append-nil (byte ∷ items))
 behind_filled byte items ([] ∷ pieces) = behind_filled byte items pieces
 behind_filled byte items ((one ∷ piece) ∷ pieces) =
     behind_filled byte (items ++ 32 ∷ one ∷ piece) pieces ∙ append_assoc (byte ∷ items) (32 ∷ one ∷ piece) (spaced (filter is_filled pieces))

@@ -1,8 +1,8 @@
 -- A walk over lines to their last run: a line more, and its end.
-use Rattle.std.proofs.Common.{◌≡◌, ◌≢◌, ◌⊎◌, inl, inr, ◌++◌, ◌∷◌, ◌∙◌, ◌+◌, ◌≤◌, ◌<◌, ◌*◌, ap, arith, sym, subst, refl, ℕ, All, Bool, true, false, List, [], length, length-append}
+use Rattle.std.proofs.Common.{◌*◌, ◌++◌, ◌+◌, ◌<◌, ◌∙◌, ◌∷◌, ◌≡◌, ◌≢◌, ◌≤◌, ◌⊎◌, All, Bool, List, [], ap, append-nil, append_assoc, arith, false, inl, inr, length, length-append, refl, subst, sym, true, ℕ}
 use Rattle.std.proofs.lemmas.List.Elements.{All-head, All-tail}
 use Rattle.std.proofs.lemmas.List.Folds.{concat-append}
-use Rattle.std.specs.Prelude.{IsFalse, IsTrue, ◌↔◌}
+use Rattle.std.specs.Prelude.{IsTrue, ◌↔◌}
 use Rattle.std.specs.List.{concat}
 use Rattle.bstr.specs.Text.{lines_of}
 use Rattle.bstr.proofs.lemmas.LineLemmas.{lines-nil}
@@ -14,16 +14,7 @@ use Rattle.gixobj_text.specs.TrailerBlocks.{EndsBlank, IsTrailerBlock, IsBlockSt
 use Rattle.gixobj_text.specs.declared.commit.message.body.run.Run.{Run}
 use Rattle.gixobj_text.specs.declared.commit.message.body.scan.Scan.{Scan}
 use Rattle.gixobj_text.proofs.LastRuns.{Parts, parts_are}
-use Rattle.gixobj_text.proofs.OneLine.{all_more, apart, blank_more, ends_blank, filled_first, filled_more, none_behind}
-
-abbrev Lines : Type 0
-Lines = List (List ℕ)
-
-abbrev Blank : List ℕ → Type 0
-Blank line = IsTrue (is_blank line)
-
-abbrev Filled : List ℕ → Type 0
-Filled line = IsFalse (is_blank line)
+use Rattle.gixobj_text.proofs.OneLine.{Blank, Filled, Lines, all_more, blank_more, ends_blank, filled_first, filled_more}
 
 -- ---- a line more
 
@@ -38,7 +29,7 @@ place_more lines line place is =
 starts_more : (lines : Lines) (blank : List ℕ) (end : ℕ) → EndsBehind lines end → StartsBehind (lines ++ blank ∷ []) end
 starts_more lines blank end (inl (none, is)) = inr (inl (blank, ap (λ (ls : Lines). ls ++ blank ∷ []) none, is))
 starts_more lines blank end (inr (front, line, joined, is)) =
-    inr (inr (front, line, blank, ap (λ (ls : Lines). ls ++ blank ∷ []) joined ∙ apart front (line ∷ []) (blank ∷ []), is))
+    inr (inr (front, line, blank, ap (λ (ls : Lines). ls ++ blank ∷ []) joined ∙ append_assoc front (line ∷ []) (blank ∷ []), is))
 
 ends_more : (lines : Lines) (line : List ℕ) (place end : ℕ) → place ≡ length (concat lines) → end ≡ place + length (text_of line) → EndsBehind (lines ++ line ∷ []) end
 ends_more lines line place end at is = inr (lines, line, refl, is ∙ ap (λ (n : ℕ). n + length (text_of line)) at)
@@ -138,7 +129,7 @@ walked_more body text line rest old new it first step place trailers other =
     let before : old.place + length text ≡ length body = it.place in
     record {
       lines = it.lines ++ line ∷ [];
-      joined = it.joined ∙ ap (λ (ls : Lines). it.lines ++ ls) first.lines ∙ sym (apart it.lines (line ∷ []) (lines_of rest));
+      joined = it.joined ∙ ap (λ (ls : Lines). it.lines ++ ls) first.lines ∙ sym (append_assoc it.lines (line ∷ []) (lines_of rest));
       scanned = step it.lines it.scanned;
       place = omega arith;
       trailers = trailers;
@@ -147,7 +138,7 @@ walked_more body text line rest old new it first step place trailers other =
 
 pub walked_all : (body rest : List ℕ) (it : Scan) → IsWalked body rest it → rest ≡ [] → Scanned (lines_of body) it
 walked_all body rest it walked none =
-    subst (λ (ls : Lines). Scanned ls it) (sym (walked.joined ∙ ap (λ (text : List ℕ). walked.lines ++ lines_of text) none ∙ ap (λ (ls : Lines). walked.lines ++ ls) lines-nil ∙ none_behind walked.lines)) walked.scanned
+    subst (λ (ls : Lines). Scanned ls it) (sym (walked.joined ∙ ap (λ (text : List ℕ). walked.lines ++ lines_of text) none ∙ ap (λ (ls : Lines). walked.lines ++ ls) lines-nil ∙ append-nil walked.lines)) walked.scanned
 
 -- ---- its end
 

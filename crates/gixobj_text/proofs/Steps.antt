@@ -1,5 +1,5 @@
 -- Going over the lines of a text to the blocks of a body.
-use Rattle.std.proofs.Common.{◌≡◌, ◌≢◌, ◌≤◌, ◌<◌, ◌==◌, ◌-◌, ◌+◌, ◌++◌, ◌∷◌, ◌∙◌, ap, arith, sym, subst, refl, ℕ, Bool, true, false, not, All, List, [], length, length-append, length-drop, take-append-drop, take, drop}
+use Rattle.std.proofs.Common.{◌++◌, ◌+◌, ◌-◌, ◌<◌, ◌==◌, ◌∙◌, ◌∷◌, ◌≡◌, ◌≢◌, ◌≤◌, All, Bool, List, [], ap, append-nil, append_assoc, arith, drop, false, length, length-append, length-drop, not, refl, subst, sym, take, take-append-drop, true, ℕ}
 use Rattle.std.proofs.lemmas.List.Elements.{All-nil, All-tail}
 use Rattle.std.proofs.lemmas.List.Folds.{concat-append}
 use Rattle.std.specs.Prelude.{◌||◌}
@@ -12,18 +12,10 @@ use Rattle.gixobj_text.specs.FirstLines.{IsFirstLine}
 use Rattle.gixobj_text.specs.Blocks.{AreTrailers, EndsTrailers, IsBlockOfLines, IsFirstBlock}
 use Rattle.gixobj_text.specs.BodyLines.{is_folded, is_trailer_line}
 use Rattle.gixobj_text.specs.Steps.{BeginsTrailer, GoesOn, IsAtTrailer, IsBehindTrailers, IsPast, NoTrailer}
-use Rattle.gixobj_text.proofs.OneLine.{all_more, apart}
+use Rattle.gixobj_text.proofs.OneLine.{all_more}
 
 abbrev Lines : Type 0
 Lines = List (List ℕ)
-
-append_apart : (a b c : List ℕ) → (a ++ b) ++ c ≡ a ++ (b ++ c)
-append_apart [] b c = refl
-append_apart (byte ∷ a) b c = ap (λ (bytes : List ℕ). byte ∷ bytes) (append_apart a b c)
-
-nothing_behind : (a : List ℕ) → a ++ [] ≡ a
-nothing_behind [] = refl
-nothing_behind (byte ∷ a) = ap (λ (bytes : List ℕ). byte ∷ bytes) (nothing_behind a)
 
 pub past_none : (P : List ℕ → Type 0) (text : List ℕ) → IsPast P text text
 past_none P text = record { taken = []; joined = refl; lines = refl; all = All-nil P }
@@ -31,9 +23,9 @@ past_none P text = record { taken = []; joined = refl; lines = refl; all = All-n
 past_more : (P : List ℕ → Type 0) (whole text line rest : List ℕ) → IsPast P whole text → IsFirstLine text line rest → P line → IsPast P whole rest
 past_more P whole text line rest it first is = record {
   taken = it.taken ++ line ∷ [];
-  joined = it.joined ∙ ap (λ (bytes : List ℕ). concat it.taken ++ bytes) first.joined ∙ sym (append_apart (concat it.taken) line rest)
-      ∙ ap (λ (bytes : List ℕ). bytes ++ rest) (ap (λ (bytes : List ℕ). concat it.taken ++ bytes) (sym (nothing_behind line)) ∙ sym (concat-append it.taken (line ∷ [])));
-  lines = it.lines ∙ ap (λ (ls : Lines). it.taken ++ ls) first.lines ∙ sym (apart it.taken (line ∷ []) (lines_of rest));
+  joined = it.joined ∙ ap (λ (bytes : List ℕ). concat it.taken ++ bytes) first.joined ∙ sym (append_assoc (concat it.taken) line rest)
+      ∙ ap (λ (bytes : List ℕ). bytes ++ rest) (ap (λ (bytes : List ℕ). concat it.taken ++ bytes) (sym (append-nil line)) ∙ sym (concat-append it.taken (line ∷ [])));
+  lines = it.lines ∙ ap (λ (ls : Lines). it.taken ++ ls) first.lines ∙ sym (append_assoc it.taken (line ∷ []) (lines_of rest));
   all = all_more P it.taken line it.all is;
 }
 
@@ -80,7 +72,7 @@ is_block : (from trailers rest : List ℕ) (at : IsAtTrailer from trailers) (beh
 is_block from trailers rest at behind =
     let begins : BeginsTrailer (behind.past.taken ++ lines_of rest) = subst BeginsTrailer behind.past.lines at.begins in
     record {
-      split = at.past.lines ∙ ap (λ (ls : Lines). at.past.taken ++ ls) behind.past.lines ∙ sym (apart at.past.taken behind.past.taken (lines_of rest));
+      split = at.past.lines ∙ ap (λ (ls : Lines). at.past.taken ++ ls) behind.past.lines ∙ sym (append_assoc at.past.taken behind.past.taken (lines_of rest));
       message = at.past.all;
       trailers = are_trailers behind.past.taken (lines_of rest) begins behind.past.all;
       none = none_taken behind.past.taken (lines_of rest) begins behind.ends;
@@ -92,7 +84,7 @@ pub first_block : (start : ℕ) (text from trailers rest message taken : List �
     → IsFirstBlock start text (record { message = message; trailers = taken }) rest
 first_block start text from trailers rest message taken some is at behind first second =
     let joined : text ≡ (take start text ++ concat at.past.taken) ++ trailers =
-    sym (take-append-drop start text) ∙ ap (λ (bytes : List ℕ). take start text ++ bytes) (sym is ∙ at.past.joined) ∙ sym (append_apart (take start text) (concat at.past.taken) trailers) in
+    sym (take-append-drop start text) ∙ ap (λ (bytes : List ℕ). take start text ++ bytes) (sym is ∙ at.past.joined) ∙ sym (append_assoc (take start text) (concat at.past.taken) trailers) in
     record {
       some = some;
       skipped = at.past.taken;

@@ -1,5 +1,5 @@
 -- A summary, piece by piece.
-use Rattle.std.proofs.Common.{◌≡◌, ◌≢◌, ◌+◌, ◌-◌, ◌<◌, ◌∙◌, ap, arith, sym, refl, ℕ, zero, suc, Bool, true, false, cond, List, [], ◌∷◌, ◌++◌, Some, None, length, length-drop, take, drop, slice_index, append_assoc, map, reverse}
+use Rattle.std.proofs.Common.{◌++◌, ◌+◌, ◌-◌, ◌<◌, ◌∙◌, ◌∷◌, ◌≡◌, ◌≢◌, Bool, List, None, Some, [], ap, append-nil, append_assoc, arith, cond, drop, false, length, length-drop, map, refl, reverse, slice_index, suc, sym, take, true, zero, ℕ}
 use Rattle.std.proofs.lemmas.Bool.{eqb-true, ne_eqb, eq-eqb, cond-true, cond-false}
 use Rattle.std.proofs.lemmas.List.{reverse-append, reverse-reverse}
 use Rattle.std.specs.Prelude.{◌==◌}
@@ -10,7 +10,7 @@ use Rattle.bstr.specs.Owned.{joined}
 use Rattle.bstr.specs.Trim.{trim_end_by}
 use Rattle.gixobj_text.specs.Summing.{has_more, is_of_lines, summary_behind}
 use Rattle.gixobj_text.specs.Titles.{before_empty, each_without, is_nothing, is_trailing_space, onto_first, pieces_of, stops, summary_of, summary_of_pieces, without_trailing}
-use Rattle.gixobj_text.specs.Trailers.{trimmed}
+use Rattle.gixobj_hash.specs.Texts.{trimmed}
 
 abbrev Pieces : Type 0
 Pieces = List (List ℕ)
@@ -96,19 +96,15 @@ spaced pieces = flat_map (λ (it : List ℕ). (32 ∷ []) ++ it) pieces
 abbrev trim : List ℕ → List ℕ
 trim bytes = trim_end_by is_whitespace bytes
 
-nothing_behind : (a : List ℕ) → a ++ [] ≡ a
-nothing_behind [] = refl
-nothing_behind (byte ∷ a) = ap (λ (bytes : List ℕ). byte ∷ bytes) (nothing_behind a)
-
 both_ways : (b : Bool) (x y z w : List ℕ) → x ≡ y → z ≡ w → cond b x z ≡ cond b y w
 both_ways true x y z w one two = one
 both_ways false x y z w one two = two
 
 behind_is : (out piece : List ℕ) (pieces : Pieces) → summary_behind out (piece ∷ pieces)
     ≡ cond (stops (piece ∷ pieces)) (trim (out ++ spaced (map without_trailing (before_empty (piece ∷ pieces))))) (out ++ spaced (each_without (piece ∷ pieces)))
-behind_is out [] [] = ap trim (sym (nothing_behind out))
-behind_is out [] (next ∷ pieces) = ap trim (sym (nothing_behind out))
-behind_is out (byte ∷ piece) [] = ap (λ (bytes : List ℕ). out ++ bytes) (sym (nothing_behind (32 ∷ byte ∷ piece)))
+behind_is out [] [] = ap trim (sym (append-nil out))
+behind_is out [] (next ∷ pieces) = ap trim (sym (append-nil out))
+behind_is out (byte ∷ piece) [] = ap (λ (bytes : List ℕ). out ++ bytes) (sym (append-nil (32 ∷ byte ∷ piece)))
 behind_is out (byte ∷ piece) (next ∷ pieces) =
     behind_is (out ++ 32 ∷ without_trailing (byte ∷ piece)) next pieces
     ∙ both_ways (stops (next ∷ pieces)) _ _ _ _
@@ -153,7 +149,7 @@ pub last_none : (out text : List ℕ) (b : Bool) → pieces_of text ≡ text ∷
 last_none out text b is so test = sym (ap (summary_behind out) (is ∙ ap (λ (p : List ℕ). p ∷ []) (none_is text b so test)) ∙ ends_by out [])
 
 pub one_piece : (text inner : List ℕ) → inner ≡ trimmed text → pieces_of inner ≡ inner ∷ [] → inner ≡ summary_of text
-one_piece text inner is one = sym (ap (λ (t : List ℕ). summary_of_pieces (pieces_of t)) (sym is) ∙ ap summary_of_pieces one ∙ nothing_behind inner)
+one_piece text inner is one = sym (ap (λ (t : List ℕ). summary_of_pieces (pieces_of t)) (sym is) ∙ ap summary_of_pieces one ∙ append-nil inner)
 
 pub of_one : (text inner : List ℕ) → inner ≡ trimmed text → pieces_of inner ≡ inner ∷ [] → is_of_lines text ≡ false
 of_one text inner is one = ap (λ (t : List ℕ). has_more (pieces_of t)) (sym is) ∙ ap has_more one

@@ -4,7 +4,7 @@ use Rattle.std.specs.Char.{is_whitespace}
 use Rattle.bstr.specs.Trim.{trim_end_by}
 use Rattle.gixobj_hash.specs.Bytes.{space}
 use Rattle.gixobj_text.specs.Titles.{is_nothing, pieces_of, without_trailing}
-use Rattle.gixobj_text.specs.Trailers.{trimmed}
+use Rattle.gixobj_hash.specs.Texts.{trimmed}
 
 -- what the pieces behind make of a summary that has begun: an empty one ends it, and the last of the whole keeps its trailing spaces
 abbrev pub summary_behind : List ℕ → List (List ℕ) → List ℕ

@@ -5,7 +5,7 @@ use Rattle.std.specs.List.{prefix_len}
 use Rattle.bstr.specs.Owned.{joined}
 use Rattle.gixobj_hash.specs.Bytes.{newline, space, tab}
 use Rattle.gixobj_text.specs.BodyLines.{carriage_return}
-use Rattle.gixobj_text.specs.Trailers.{trimmed}
+use Rattle.gixobj_hash.specs.Texts.{trimmed}
 use Rattle.bstr.specs.Trim.{trim_end_by}
 
 -- ---- title and body

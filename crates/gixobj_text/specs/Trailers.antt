@@ -1,24 +1,16 @@
 -- The trailers of a text (git-interpret-trailers).
-use Rattle.std.specs.Prelude.{ℕ, Bool, true, false, List, [], ◌∷◌, Option, Some, None, filter, map}
-use Rattle.std.specs.Char.{is_whitespace}
+use Rattle.std.specs.Prelude.{ℕ, List, [], ◌∷◌, Option, Some, None, filter, map}
 use Rattle.std.specs.List.{take_while}
 use Rattle.bstr.specs.Owned.{joined}
 use Rattle.bstr.specs.Text.{lines_of}
-use Rattle.bstr.specs.Trim.{trim_end_by, trim_start_by}
 use Rattle.gixobj_hash.specs.Bytes.{space}
 use Rattle.gixobj_text.specs.BodyLines.{TrailerParts, is_folded, parts_of_line, text_of}
+use Rattle.gixobj_hash.specs.Texts.{is_filled, trimmed}
 
 -- a trailer
 pub record TrailerView : Type 0 where
   pub token : List ℕ
   pub value : List ℕ
-
-abbrev pub trimmed : List ℕ → List ℕ
-trimmed bytes = trim_end_by is_whitespace (trim_start_by is_whitespace bytes)
-
-abbrev pub is_filled : List ℕ → Bool
-is_filled [] = false
-is_filled (byte ∷ rest) = true
 
 -- a value of these lines: the one trimmed; or of several each trimmed, empty ones left out, and a space between
 abbrev pub unfolded : List ℕ → List (List ℕ) → List ℕ

@@ -4,7 +4,8 @@ use Rattle.std.specs.List.{take_while}
 use Rattle.bstr.specs.Text.{lines_of}
 use Rattle.gixobj_hash.specs.Bytes.{space}
 use Rattle.gixobj_text.specs.BodyLines.{is_folded, is_trailer_line, text_of}
-use Rattle.gixobj_text.specs.Trailers.{is_filled, trailers_of_text, trimmed, with_trailer}
+use Rattle.gixobj_text.specs.Trailers.{trailers_of_text, with_trailer}
+use Rattle.gixobj_hash.specs.Texts.{is_filled, trimmed}
 
 -- a piece more: an empty one is left out, and a space stands between two
 abbrev pub with_piece : List ℕ → List ℕ → List ℕ

@@ -40,7 +40,7 @@ module _ {X : Type 0} (R : X → X → Type 0) where
       let far : All (R x) zs = All-weaker (R y) (R x) (λ z h. trans x y z next h) zs (All-from_recursion (R y) zs rest.0) in
       ((next, recursion_from_All (R x) zs far), rest)
 
-comes_trans : (x y z : EntryView) → ComesBefore x y → ComesBefore y z → ComesBefore x z
+pub comes_trans : (x y z : EntryView) → ComesBefore x y → ComesBefore y z → ComesBefore x z
 comes_trans x y z = nat_list_cmp_total.trans (entry_key x) (entry_key y) (entry_key z)
 
 less : (o : Ordering) → true ≡ is_lt o → o ≡ Less
@@ -63,7 +63,7 @@ ascending (e ∷ es) false h = λ up. not_less _ (h.2 e) (later_at ComesBefore (
 pub same_key : (xs ys : List ℕ) → slice_cmp nat_cmp xs ys ≡ Equal → xs ≡ ys
 same_key xs ys e = (bytes_decides xs ys).0 (texts_ties xs ys ∙ ap is_eq e)
 
-tied : (xs ys : List ℕ) → xs ≡ ys → slice_cmp nat_cmp xs ys ≡ Equal
+pub tied : (xs ys : List ℕ) → xs ≡ ys → slice_cmp nat_cmp xs ys ≡ Equal
 tied xs ys e = rw e (tied_itself nat_list_cmp_total ys)
 
 after : (x y : EntryView) → ComesBefore x y → is_lt (slice_cmp nat_cmp (entry_key y) (entry_key x)) ≡ false
@@ -123,7 +123,7 @@ none_apart entries up none =
       | inr h ↦ none j d (omega arith) high h
     ])
 
-slash_ends : (name : List ℕ) → IsFree 47 (name ++ 47 ∷ []) → ⊥
+pub slash_ends : (name : List ℕ) → IsFree 47 (name ++ 47 ∷ []) → ⊥
 slash_ends name free = All-contains (λ it. it ≢ 47) (name ++ 47 ∷ []) 47 free (Contains-push name 47) refl
 
 kinds_differ : (x y : EntryView) → is_tree_mode x.mode ≡ true → is_tree_mode y.mode ≡ false → x ≢ y

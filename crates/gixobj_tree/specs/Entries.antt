@@ -31,7 +31,7 @@ entry_key e = key_of e.name (is_tree_mode e.mode)
 
 -- the first byte of the rest of a name, where a tree's end counts as a slash
 abbrev pub next_byte : List ℕ → Bool → Option ℕ
-next_byte [] is_tree = if is_tree then Some 47 else None
+next_byte [] is_tree = if is_tree then Some slash else None
 next_byte (byte ∷ rest) is_tree = Some byte
 
 -- the common length bytewise, and then the next byte; no byte comes before every byte

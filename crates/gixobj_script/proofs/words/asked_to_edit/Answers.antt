@@ -2,7 +2,7 @@
 use Rattle.std.proofs.Common.{◌≡◌, arith, rules, ◌∙◌}
 use Rattle.std.specs.Prelude.{codes}
 use Rattle.std.specs.String.{string_bytes}
-use Rattle.gixobj_script.proofs.FewWords.{map_one, map_two}
+use Rattle.gixobj_show.proofs.FewItems.{map_one, map_two}
 use Rattle.gixobj_script.proofs.words.asked_to_edit.Goals as goal
 
 pub returns-in-len1-clause-found : goal.returns-in-len1-clause-found

@@ -2,7 +2,7 @@
 use Rattle.std.proofs.Common.{◌≡◌, arith, rules, ◌∙◌}
 use Rattle.std.specs.Prelude.{codes}
 use Rattle.std.specs.String.{string_bytes}
-use Rattle.gixobj_show.proofs.FewItems.{map-two}
+use Rattle.gixobj_show.proofs.FewItems.{map_two}
 use Rattle.gixobj_show.specs.Words.{command_word}
 use Rattle.gixobj_show.proofs.words.asked.Goals as goal
 
@@ -10,5 +10,5 @@ pub returns-in_ok-command_of-in-len2-clause-found : goal.returns-in_ok-command_o
 returns-in_ok-command_of-in-len2-clause-found c =
     let first : string_bytes c.word-item-then-words-lt3.result ≡ command_word c.in_ok-command_of-in-len2.field-0 = cc (c.in_ok-command_of-in-len2.ensures.found) in
     let second : string_bytes c.sha256-item.result ≡ codes "sha256" = search rules in
-    map-two string_bytes c.args.words.now c.word-item-then-words-lt3.result c.sha256-item.result (omega arith) c.word-item-then-words-lt3.is c.sha256-item.is
+    map_two string_bytes c.args.words.now c.word-item-then-words-lt3.result c.sha256-item.result (omega arith) c.word-item-then-words-lt3.is c.sha256-item.is
     ∙ cc (first, second)

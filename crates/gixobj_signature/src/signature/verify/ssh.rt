@@ -8,7 +8,8 @@ ghost use Rattle.gixobj_signature.specs.declared.signature.report.TrustLevel.The
 ghost use Rattle.gixobj_signature.specs.SignedBytes.{signed_bytes};
 ghost use Rattle.gixobj_signature.specs.Verifiers.{by_ssh, ssh_of, ssh_program_of};
 ghost use Rattle.gixobj_signature.specs.VerifyingCalls.{novalidate_call, principal_call, principals_call};
-ghost use Rattle.gixobj_signature.specs.Verifying.{Asked, ComesOf, accepts, human, is_filled, lossy, principals_in, reported, rest_plan, ssh_verified, ssh_verify_plan, tries, verify_plan};
+ghost use Rattle.gixobj_signature.specs.Verifying.{Asked, ComesOf, accepts, human, lossy, principals_in, reported, rest_plan, ssh_verified, ssh_verify_plan, tries, verify_plan};
+ghost use Rattle.gixobj_hash.specs.Texts.{is_filled};
 
 mod calls;
 

@@ -6,7 +6,8 @@ ghost use Rattle.bstr.specs.Text.{lines_of};
 ghost use Rattle.gixobj_text.specs.GivingTrailers.{GivesTrailer, count_left, is_owned, text_left};
 ghost use Rattle.gixobj_text.specs.BodyLines.{is_folded, text_of};
 ghost use Rattle.gixobj_text.specs.TrailerNames.{is_named, names_part};
-ghost use Rattle.gixobj_text.specs.Trailers.{trailers_of_text, trimmed, unfolded as unfolded_of};
+ghost use Rattle.gixobj_text.specs.Trailers.{trailers_of_text, unfolded as unfolded_of};
+ghost use Rattle.gixobj_hash.specs.Texts.{trimmed};
 ghost use Rattle.gixobj_text.specs.Unfolding.{IsNextTrailer, are_some, folded_front, with_folded, with_piece};
 
 use crate::commit::message::body::lines::{is_blank_line, line_text, split_line};

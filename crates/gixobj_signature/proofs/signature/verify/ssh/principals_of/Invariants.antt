@@ -1,13 +1,14 @@
 use Rattle.std.proofs.Common.{◌≡◌, ◌++◌, length, map}
 use Rattle.std.specs.Prelude.{filter}
 use Rattle.bstr.specs.Owned.{bstring_bytes}
-use Rattle.gixobj_signature.specs.Verifying.{is_filled, lossy, principals_in, trimmed_line}
+use Rattle.gixobj_signature.specs.Verifying.{lossy, principals_in}
+use Rattle.gixobj_hash.specs.Texts.{is_filled, trimmed}
 use Rattle.gixobj_signature.proofs.signature.verify.ssh.principals_of.Given as goal
 
 -- those named so far, and those whom the lines that are left name, are all
 abbrev pub invariant-lines : goal.invariant-lines
 invariant-lines l =
-    map bstring_bytes l.principals.items ++ map lossy (filter is_filled (map trimmed_line l.lines))
+    map bstring_bytes l.principals.items ++ map lossy (filter is_filled (map trimmed l.lines))
     ≡ principals_in l.fn.stdout
 
 abbrev pub decreases-lines : goal.decreases-lines

@@ -1,6 +1,6 @@
 use Rattle.std.proofs.Common.{◌≡◌, [], length}
 use Rattle.bstr.specs.Text.{lines_of}
-use Rattle.gixobj_text.specs.Trailers.{trimmed}
+use Rattle.gixobj_hash.specs.Texts.{trimmed}
 use Rattle.gixobj_text.specs.Unfolding.{with_folded, with_piece}
 use Rattle.gixobj_text.proofs.commit.message.body.trailers.unfolded.Given as goal
 

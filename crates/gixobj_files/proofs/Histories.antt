@@ -1,14 +1,10 @@
 -- Histories keep sets of files alike, and go on where they were left.
 use Rattle.std.proofs.Common.{ℕ, List, [], ◌∷◌, ◌++◌}
-use Rattle.gixobj_files.proofs.EditedFiles.{same_refl, same_removed, same_sym, same_trans, same_upserted}
-use Rattle.gixobj_files.specs.Files.{Assured, FileSet, Files, Path, SameFiles, Table}
+use Rattle.gixobj_files.proofs.EditedFiles.{same_assured, same_refl, same_removed, same_sym, same_trans, same_upserted}
+use Rattle.gixobj_files.specs.Files.{FileSet, Files, SameFiles, Table}
 use Rattle.gixobj_files.specs.History.{History, Step, after_step, assure, remove, set_root, upsert}
 
-same_assured : (path : Path) (A B : FileSet) → SameFiles A B → SameFiles (Assured path A) (Assured path B)
-same_assured [] A B same = same
-same_assured (name ∷ path) A B same = λ p m i. (λ h. ((same p m i).0 h.0, h.1), λ h. ((same p m i).1 h.0, h.1))
-
-same_step : (T : Table) (n : ℕ) (step : Step) (A B : FileSet) → SameFiles A B → SameFiles (after_step T n step A) (after_step T n step B)
+pub same_step : (T : Table) (n : ℕ) (step : Step) (A B : FileSet) → SameFiles A B → SameFiles (after_step T n step A) (after_step T n step B)
 same_step T n (upsert path mode id) A B same = same_upserted T n path mode id A B same
 same_step T n (remove path) A B same = same_removed path A B same
 same_step T n (assure path) A B same = same_assured path A B same
@@ -20,7 +16,7 @@ same_history T n [] A B same = same
 same_history T n (step ∷ steps) A B same = same_history T n steps (after_step T n step A) (after_step T n step B) (same_step T n step A B same)
 
 -- first these steps, then those
-history_append : (T : Table) (n : ℕ) (first then : List Step) (A : FileSet) → SameFiles (History T n (first ++ then) A) (History T n then (History T n first A))
+pub history_append : (T : Table) (n : ℕ) (first then : List Step) (A : FileSet) → SameFiles (History T n (first ++ then) A) (History T n then (History T n first A))
 history_append T n [] then A = same_refl (History T n then A)
 history_append T n (step ∷ first) then A = history_append T n first then (after_step T n step A)
 

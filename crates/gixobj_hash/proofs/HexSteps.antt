@@ -1,0 +1,39 @@
+-- Steps of proofs about hex text, in either case.
+use Rattle.std.proofs.Common.{◌≡◌, ◌<◌, ◌||◌, ◌&&◌, ℕ, zero, suc, Bool, true, false, not, inl, inr, Option, Some, None, Result, Ok, Err, arith, refl}
+use Rattle.std.proofs.lemmas.Bool.{and_parts, cases_lt}
+use Rattle.hex.specs.Hex.{digit_or_error, hex_digit_value, ◌>>=◌}
+use Rattle.hex.specs.declared.error.FromHexError.{FromHexError}
+use Rattle.gixobj_hash.specs.Hash.{is_lower_hex_digit}
+
+-- what passes a test of each number below this one, passes it
+abbrev pub all_below : (ℕ → Bool) → ℕ → Bool
+all_below p zero = true
+all_below p (suc n) = p n && all_below p n
+
+pub at_number : (p : ℕ → Bool) (n number : ℕ) → all_below p n ≡ true → number < n → p number ≡ true
+at_number p zero number all low = absurd (omega arith)
+at_number p (suc n) number all low =
+    let parts = and_parts (p n) (all_below p n) all in
+    elim (cases_lt number n) [
+      | inl below ↦ at_number p n number parts.1 below
+      | inr top ↦ (let same : number ≡ n = omega arith in rw same parts.0)
+    ]
+
+pub chosen : (a b : Bool) → (not a || b) ≡ true → a ≡ true → b ≡ true
+chosen true b either first = either
+chosen false b either first = cc first
+
+pub value_small : (byte value : ℕ) → hex_digit_value byte ≡ Some value → value < 16
+value_small byte value reads = grind arith
+
+-- the parts of a step that succeeded
+pub bound : {A B : Type 0} (r : Result A FromHexError) (f : A → Result B FromHexError) (y : B) → (r >>= f) ≡ Ok y → (x : A) × (r ≡ Ok x) × (f x ≡ Ok y)
+bound (Ok x) f y ok = (x, refl, ok)
+bound (Err e) f y ok = cc ok
+
+pub digit_value_of : (byte i value : ℕ) (o : Option ℕ) → digit_or_error byte i o ≡ Ok value → o ≡ Some value
+digit_value_of byte i value (Some v) ok = cc ok
+digit_value_of byte i value None ok = cc ok
+
+abbrev pub IsLower : ℕ → Type 0
+IsLower byte = is_lower_hex_digit byte ≡ true
