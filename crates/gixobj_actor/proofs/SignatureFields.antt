@@ -4,16 +4,16 @@ use Rattle.bstr.specs.Owned.{bstring_bytes}
 use Rattle.gixobj_fields.proofs.Puts.{front_behind_byte, front_first}
 use Rattle.gixobj_fields.specs.HeaderText.{field_text}
 use Rattle.gixobj_fields.specs.Streams.{Puts, PutsFront, SinkView}
-use Rattle.gixobj_fields.specs.Writing.{SaysWhy}
+use Rattle.gixobj_fields.specs.Writing.{RefusesWriting}
 use Rattle.gixobj_fields.specs.declared.encode.Error.{Error}
 use Rattle.gixobj_fields.specs.declared.encode.Error.TheVariants as error
-use Rattle.gixobj_actor.specs.ActorWriting.{RefusesActor, RefusesSignature, owned_text}
+use Rattle.gixobj_actor.specs.ActorWriting.{RefusesActor, RefusesActorField, owned_text}
 use Rattle.gixobj_actor.specs.declared.actor.Signature.{Signature}
 
 -- what the writer of an actor refuses, behind the name and its space
 pub signature_refused : (a b c : SinkView) (Unchanged : Type 0) (name : List ℕ) (actor : Signature) (e : Error) → Puts a b (name ++ 32 ∷ []) → (Unchanged → Puts a c (name ++ 32 ∷ []))
     → RefusesActor (bstring_bytes actor.name) (bstring_bytes actor.email) Unchanged (PutsFront b c (owned_text actor)) e
-    → SaysWhy (RefusesSignature name actor) a c (field_text name (owned_text actor)) e
+    → RefusesWriting (RefusesActorField name actor) a c (field_text name (owned_text actor)) e
 signature_refused a b c U name actor (error.Writer cause) put same refusal =
     front_behind_byte a b c name 32 (owned_text actor ++ 10 ∷ []) put (front_first b c (owned_text actor) (10 ∷ []) refusal.1)
 signature_refused a b c U name actor error.IllegalActor put same refusal = (name ++ 32 ∷ [], (refusal.0, refl, refl), same refusal.1)

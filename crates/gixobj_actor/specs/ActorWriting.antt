@@ -35,8 +35,8 @@ RefusesActor name email unchanged puts_front (Writer error) = IsLegalActor name 
 RefusesActor name email unchanged puts_front other = ⊥
 
 -- an actor is refused behind the name of its field and a space
-abbrev pub RefusesSignature : List ℕ → Signature → Refused → List ℕ → Type 0
-RefusesSignature name actor value parts = ¬ (IsLegal actor) × (value ≡ illegal_actor) × (parts ≡ name ++ space ∷ [])
+abbrev pub RefusesActorField : List ℕ → Signature → Refused → List ℕ → Type 0
+RefusesActorField name actor value parts = ¬ (IsLegal actor) × (value ≡ illegal_actor) × (parts ≡ name ++ space ∷ [])
 
 -- the actor of the line as it is written: its parts, and the text of its time, or of the default one
 pub record IsCanonical (line written : List ℕ) : Type 0 where

@@ -3,8 +3,8 @@ ghost use Rattle.std.specs.Prelude.{◌<◌, ◌+◌, ◌^◌, ◌≡◌, length
 ghost use Rattle.std.specs.Option.{SomeIff};
 ghost use Rattle.gixobj_fields.specs.HeaderText.{field_text};
 ghost use Rattle.gixobj_fields.specs.Streams.{Puts};
-ghost use Rattle.gixobj_fields.specs.Writing.{AddsSize, SaysWhy};
-ghost use Rattle.gixobj_actor.specs.ActorWriting.{IsLegal, RefusesSignature, owned_text};
+ghost use Rattle.gixobj_fields.specs.Writing.{AddsSize, RefusesWriting};
+ghost use Rattle.gixobj_actor.specs.ActorWriting.{IsLegal, RefusesActorField, owned_text};
 
 use crate::actor::Signature;
 use gixobj_fields::encode::Error;
@@ -23,7 +23,7 @@ pub fn trusted_header_signature<S: Sink>(
 ) -> Result<(), Error>
     ensures written { OnOk result (Puts (S.view sink.old) (S.view sink.new) (field_text name.now (owned_text actor.now))) }
     ensures legal { OnOk result (IsLegal actor.now) }
-    ensures refusal { IfErr result (SaysWhy (RefusesSignature name.now actor.now) (S.view sink.old) (S.view sink.new) (field_text name.now (owned_text actor.now))) }
+    ensures refusal { IfErr result (RefusesWriting (RefusesActorField name.now actor.now) (S.view sink.old) (S.view sink.new) (field_text name.now (owned_text actor.now))) }
     ensures same_loan { S.loan sink.new ≡ S.loan sink.old }
 {
     put_parts(&[name, b" "], sink)?;

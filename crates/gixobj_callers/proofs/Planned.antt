@@ -12,7 +12,7 @@ use Rattle.gixobj_codec.specs.Stores.{Objects}
 use Rattle.gixobj_directories.specs.Openings.{AreTreesOf}
 use Rattle.gixobj_directories.specs.declared.write.Written.{Written}
 use Rattle.gixobj_editor.specs.Upserts.{IsUpserted, RefusesUpsert}
-use Rattle.gixobj_editor.specs.Writes.{IsWritten}
+use Rattle.gixobj_editor.specs.Writes.{IsWrittenEditor}
 use Rattle.gixobj_editor.specs.declared.editor.error.Error.{Error}
 use Rattle.gixobj_files.specs.Bases.{HasBases}
 use Rattle.gixobj_files.specs.Files.{Files, NamedFiles, Path, SameFiles, Table, Trees, Upserted, is_null}
@@ -66,7 +66,7 @@ module _ {S : Type 0} (means : Meaning S) (store : S) (root_id : ObjectId) (path
   module _ (editor : State S) (entries : List EntryView) (is_root : IsRoot (means.objects store) root_id entries) (new : editor ≡ started store (id_kind root_id) entries)
       (bases : (T : Table) → HasBases T (open_dirs editor) (open_bases editor)) (begun : (T : Table) (n : ℕ) → SameFiles (EditorFiles T n editor) (Files T n entries)) where
     pub planned_files : ((x y : ObjectId) → (x ≡ y) ⊎ (x ≢ y)) → {F : Type 0} (gave : F → Pair → F → Type 0) (out last : F) (edited left : State S) (written : Written) → OfTrees (means.objects editor.store) (λ trees. IsUpserted trees editor path mode id edited)
-        → IsWritten gave out edited written left last
+        → IsWrittenEditor gave out edited written left last
         → IsFalse (is_null root_id) → (trees : Trees) → AreTreesOf (means.objects store) trees → (T : Table) (n : ℕ) → AgreesWithStore T trees → AgreesWithPairs T written.trees.items
         → SameFiles (NamedFiles T n written.id) (Upserted T n path mode id (NamedFiles T n root_id))
     planned_files same_or_not gave out last edited left written put wrote filled trees fits T n agrees pairs =

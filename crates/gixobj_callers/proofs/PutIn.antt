@@ -5,7 +5,7 @@ use Rattle.std.proofs.lemmas.List.{drop_more, take-append-drop, take_all, take_m
 use Rattle.gixobj_base.specs.Entries.{EntryView}
 use Rattle.gixobj_base.specs.Mode.{mode_of_kind}
 use Rattle.gixobj_base.specs.hash.hash.kind.Kind.{Kind}
-use Rattle.gixobj_callers.specs.Checkouts.{AreNotPutIn, ArePutIn, IsCheckedOut, IsFilled, IsMade, IsNotFilled, IsNotPutInAt, IsPutInAt, put_at, steps_at}
+use Rattle.gixobj_callers.specs.Checkouts.{AreNotPutIn, ArePutIn, IsCheckedOut, IsFilled, IsMade, IsNotFilled, IsNotPutInAt, IsPutInAt, put_at, steps_of_checkout}
 use Rattle.gixobj_callers.specs.Plans.{started}
 use Rattle.gixobj_callers.specs.declared.checkout.Planned.{Planned}
 use Rattle.gixobj_callers.proofs.Histories.{same_history, same_refl, same_trans}
@@ -98,7 +98,7 @@ module _ {S : Type 0} (means : Meaning S) (prefix : Path) where
         put_in_based made new entries put still (done.has_bases T agrees has)
 
     filled_files : (old new : State S) (entries : List Planned) → IsFilled means old prefix entries new → AreTreesOf (means.objects old.store) trees
-        → SameFiles (EditorFiles T n new) (History T n (steps_at prefix entries) (EditorFiles T n old))
+        → SameFiles (EditorFiles T n new) (History T n (steps_of_checkout prefix entries) (EditorFiles T n old))
     filled_files old new entries (made, is_made, put) fits =
         let done = is_made trees fits in
         let still = subst (λ (store : S). AreTreesOf (means.objects store) trees) (sym (ap (λ (state : State S). state.store) done.rest)) fits in
@@ -108,9 +108,9 @@ module _ {S : Type 0} (means : Meaning S) (prefix : Path) where
     pub checked_out_files : {F : Type 0} (gave : F → Pair → F → Type 0) (out : F) (store : S) (object_hash : Kind) (root : List EntryView) (entries : List Planned) (written : Written)
         → HasBases T (open_dirs (started store object_hash root)) (open_bases (started store object_hash root)) → SameFiles (EditorFiles T n (started store object_hash root)) (Files T n root)
         → IsCheckedOut means (started store object_hash root) prefix entries gave out written → AreTreesOf (means.objects store) trees → AgreesWithPairs T written.trees.items
-        → SameFiles (NamedFiles T n written.id) (History T n (steps_at prefix entries) (Files T n root))
+        → SameFiles (NamedFiles T n written.id) (History T n (steps_of_checkout prefix entries) (Files T n root))
     checked_out_files gave out store object_hash root entries written bases begun (filled, left, last, is_filled, wrote) fits pairs =
         let has = filled_based (started store object_hash root) filled entries is_filled fits bases in
         same_trans _ _ _ (wrote.files T n pairs has)
         (same_trans _ _ _ (filled_files (started store object_hash root) filled entries is_filled fits)
-        (same_history T n (steps_at prefix entries) (EditorFiles T n (started store object_hash root)) (Files T n root) begun))
+        (same_history T n (steps_of_checkout prefix entries) (EditorFiles T n (started store object_hash root)) (Files T n root) begun))

@@ -3,7 +3,7 @@ use Rattle.std.proofs.Common.{◌≡◌, ◌≢◌, ◌<◌, ◌≤◌, ◌↔�
 use Rattle.gixobj_base.specs.hash.hash.kind.Kind.{Kind}
 use Rattle.gixobj_base.specs.hash.hash.object_id.ObjectId.{ObjectId}
 use Rattle.gixobj_callers.specs.Plans.{started}
-use Rattle.gixobj_callers.specs.Rebuilds.{AreReplies, IsCompared, Names, RefusesComparison, id_named, up_to}
+use Rattle.gixobj_callers.specs.Rebuilds.{AreReplies, IsCompared, NamesWritten, RefusesComparison, id_named, up_to}
 use Rattle.gixobj_callers.specs.declared.rebuilder.CompareError.{CompareError}
 use Rattle.gixobj_callers.specs.declared.rebuilder.CompareError.TheVariants as compare
 use Rattle.gixobj_editor.specs.declared.command.Command.{Command}
@@ -43,7 +43,7 @@ not_named : (told : Option Written) → None ≡ id_named told → told ≡ None
 not_named None is = refl
 not_named (Some written) is = absurd (cc is)
 
-pub names : {E : Type 0} (replies : List (Reply E)) (k : ℕ) (r : Reply E) (id : ObjectId) → k < length replies → r ≡ get_or replies k r → Some id ≡ id_named (written_by r) → Names replies k id
+pub names : {E : Type 0} (replies : List (Reply E)) (k : ℕ) (r : Reply E) (id : ObjectId) → k < length replies → r ≡ get_or replies k r → Some id ≡ id_named (written_by r) → NamesWritten replies k id
 names replies k r id low is told = let it = named_by (written_by r) id told in (it.0, at_place replies k r low is ∙ it.1, it.2)
 
 pub names_none : {E : Type 0} (replies : List (Reply E)) (k : ℕ) (r : Reply E) → k < length replies → r ≡ get_or replies k r → None ≡ id_named (written_by r) → written_at replies k ≡ None
@@ -99,7 +99,7 @@ module _ {S E : Type 0} (means : Meaning S) (answers : Answers E) (store : S) (o
   -- the same by ids that were found in the replies as they were shown
   pub is_told : (start left : State S) (replies shown again : List (Reply E)) (place other : ℕ) (same : Bool) (id its_id : ObjectId) → start ≡ started store object_hash [] → IsRun means answers start commands replies left
       → OneId means commands start replies
-      → shown ≡ replies → again ≡ replies → Names shown place id → Names again other its_id → IsTrue same ↔ (id ≡ its_id) → IsCompared means answers store object_hash commands place other same
+      → shown ≡ replies → again ≡ replies → NamesWritten shown place id → NamesWritten again other its_id → IsTrue same ↔ (id ≡ its_id) → IsCompared means answers store object_hash commands place other same
   is_told start left replies shown again place other same id its_id new run one_id is_shown is_again (first, first_at, first_is) (second, second_at, second_is) ids =
       let at_first : written_at replies place ≡ Some first = subst (λ (rs : List (Reply E)). written_at rs place ≡ Some first) is_shown first_at in
       let at_second : written_at replies other ≡ Some second = subst (λ (rs : List (Reply E)). written_at rs other ≡ Some second) is_again second_at in
@@ -115,7 +115,7 @@ module _ {S E : Type 0} (means : Meaning S) (answers : Answers E) (store : S) (o
 
   -- one is there, but none at the second
   pub none_at_second : (start left : State S) (replies shown again : List (Reply E)) (place other : ℕ) (id : ObjectId) (error : CompareError) → start ≡ started store object_hash [] → IsRun means answers start commands replies left
-      → shown ≡ replies → again ≡ replies → Names shown place id → error ≡ compare.NoWrite other → written_at again other ≡ None → RefusesComparison means answers store object_hash commands place other error
+      → shown ≡ replies → again ≡ replies → NamesWritten shown place id → error ≡ compare.NoWrite other → written_at again other ≡ None → RefusesComparison means answers store object_hash commands place other error
   none_at_second start left replies shown again place other id error new run is_shown is_again (first, first_at, first_is) is none =
       let here : written_at replies other ≡ None = subst (λ (rs : List (Reply E)). written_at rs other ≡ None) is_again none in
       let there : written_at replies place ≡ Some first = subst (λ (rs : List (Reply E)). written_at rs place ≡ Some first) is_shown first_at in

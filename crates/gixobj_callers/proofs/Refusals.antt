@@ -12,7 +12,7 @@ use Rattle.gixobj_base.specs.Hash.{Spells}
 use Rattle.gixobj_base.specs.hash.hash.kind.Kind.{Kind}
 use Rattle.gixobj_base.specs.hash.hash.object_id.ObjectId.{ObjectId}
 use Rattle.gixobj_codec.specs.Commit.{CommitLines, IsCommitText, IsNoCommitText, RefusesCommit}
-use Rattle.gixobj_codec.specs.Rewriting.{RefusesOwnForm}
+use Rattle.gixobj_codec.specs.Rewriting.{RefusesOwnFormOfCommit}
 use Rattle.gixobj_codec.specs.TreeReading.{IsTreeText, RefusesTreeText}
 use Rattle.gixobj_codec.specs.TokenPassing.{FindsFault, IsMessageToken}
 use Rattle.gixobj_codec.specs.commit.ref_iter.CommitRefIter.{CommitRefIter}
@@ -39,7 +39,7 @@ unwritten before after text (written.NullbyteInFilename name) fails = fails
 unwritten before after text written.IllegalActor fails = fails
 unwritten before after text written.OutOfMemory fails = fails
 
-pub part_refused : (commit : CommitLines) (before after : SinkView) (text : List ℕ) (error : encode.Error) → RefusesOwnForm commit before after text error → FailsForPart commit (Write error)
+pub part_refused : (commit : CommitLines) (before after : SinkView) (text : List ℕ) (error : encode.Error) → RefusesOwnFormOfCommit commit before after text error → FailsForPart commit (Write error)
 part_refused commit before after text (written.Writer cause) fails = tt
 part_refused commit before after text (written.NewlineInHeaderValue value) fails = fails
 part_refused commit before after text written.EmptyValue fails = fails

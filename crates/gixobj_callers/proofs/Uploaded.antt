@@ -6,7 +6,7 @@ use Rattle.std.specs.List.{AllByRecursion}
 use Rattle.gixobj_base.specs.Entries.{EachLater, EntryView, IsWellFormed}
 use Rattle.gixobj_base.specs.hash.hash.object_id.ObjectId.{ObjectId}
 use Rattle.gixobj_callers.proofs.Once.{IsOf, IsPerhaps, Starts, once_all, other_names, starts_all, starts_more, under}
-use Rattle.gixobj_callers.specs.Uploads.{IsChanged, IsDivided, IsOwnTree, IsSorted, IsUnchanged, Once, Sent, pair_of, path_of}
+use Rattle.gixobj_callers.specs.Uploads.{IsChanged, IsDivided, IsOwnTree, IsSorted, IsUnchanged, Once, Sent, loose_pair_of, path_of}
 use Rattle.gixobj_files.specs.Edits.{raised}
 use Rattle.gixobj_files.specs.Files.{Has, Path}
 use Rattle.gixobj_files.specs.HandingOut.{HandsOut, Leaves, Walks, emptied, end, leaves, shut, unchanged, written}
@@ -87,7 +87,7 @@ module _ (dirs bases : Dirs) where
   record Parts (pairs : List Pair) (saved : ℕ) : Type 0 where
     sent : List Sent
     spared : List Path
-    whole : pairs ≡ map pair_of sent
+    whole : pairs ≡ map loose_pair_of sent
     changed : All (IsChanged dirs bases pairs) sent
     same : All (IsUnchanged dirs bases pairs) spared
     count : length spared ≡ saved
@@ -124,7 +124,7 @@ AreNamedApart entries = EachLater (λ (x : EntryView) (y : EntryView). x.name �
 abbrev inside : List ℕ → Sent → Sent
 inside name it = record { path = name ∷ it.path; pair = it.pair }
 
-pairs_inside : (name : List ℕ) (sent : List Sent) → map pair_of (map (inside name) sent) ≡ map pair_of sent
+pairs_inside : (name : List ℕ) (sent : List Sent) → map loose_pair_of (map (inside name) sent) ≡ map loose_pair_of sent
 pairs_inside name [] = refl
 pairs_inside name (it ∷ sent) = ap (λ (ps : List Pair). it.pair ∷ ps) (pairs_inside name sent)
 
@@ -149,18 +149,18 @@ module _ (dirs bases : Dirs) (name : List ℕ) where
   sorted_inside part sent spared path =
       ⊎_elim (λ goes. inl (goes.0, contains_map (inside name) sent (record { path = path; pair = goes.0 }) goes.1)) (λ stays. inr (⊎_elim (λ at. inl (contains_map (under name) spared path at)) (λ bare. inr (own_inside part path [] bare)) stays))
 
-  module _ (pairs inner below : List Pair) (low more total : ℕ) (here : List Sent) (kept : List Path) (is : pairs ≡ inner ++ (map pair_of here ++ below)) (sum : total ≡ low + (length kept + more))
+  module _ (pairs inner below : List Pair) (low more total : ℕ) (here : List Sent) (kept : List Path) (is : pairs ≡ inner ++ (map loose_pair_of here ++ below)) (sum : total ≡ low + (length kept + more))
       (mine : All (IsChanged dirs bases pairs) here) (its : All (IsUnchanged dirs bases pairs) kept) (in_it : Parts (in_dir name dirs) (in_dir name bases) inner low) (behind : Parts dirs bases below more) where
-    at_front : pairs ≡ [] ++ (inner ++ (map pair_of here ++ below))
+    at_front : pairs ≡ [] ++ (inner ++ (map loose_pair_of here ++ below))
     at_front = is
 
-    at_back : pairs ≡ (inner ++ map pair_of here) ++ (below ++ [])
+    at_back : pairs ≡ (inner ++ map loose_pair_of here) ++ (below ++ [])
     at_back = is ∙ simp (append_assoc, append-nil)
 
-    all_of_them : pairs ≡ map pair_of (map (inside name) in_it.sent ++ (here ++ behind.sent))
+    all_of_them : pairs ≡ map loose_pair_of (map (inside name) in_it.sent ++ (here ++ behind.sent))
     all_of_them =
-        let first : inner ≡ map pair_of (map (inside name) in_it.sent) = in_it.whole ∙ sym (pairs_inside name in_it.sent) in
-        let apart : map pair_of (map (inside name) in_it.sent ++ (here ++ behind.sent)) ≡ map pair_of (map (inside name) in_it.sent) ++ (map pair_of here ++ map pair_of behind.sent) = simp map-append in
+        let first : inner ≡ map loose_pair_of (map (inside name) in_it.sent) = in_it.whole ∙ sym (pairs_inside name in_it.sent) in
+        let apart : map loose_pair_of (map (inside name) in_it.sent ++ (here ++ behind.sent)) ≡ map loose_pair_of (map (inside name) in_it.sent) ++ (map loose_pair_of here ++ map loose_pair_of behind.sent) = simp map-append in
         cc (is, first, behind.whole, apart)
 
     number : length (map (under name) in_it.spared ++ (kept ++ behind.spared)) ≡ total
@@ -170,16 +170,16 @@ module _ (dirs bases : Dirs) (name : List ℕ) where
     all_changed =
         let There : Sent → Type 0 = IsChanged dirs bases pairs in
         let low = All-weaker (IsChanged (in_dir name dirs) (in_dir name bases) inner) (λ (it : Sent). There (inside name it))
-        (λ it changed. changed_among dirs bases pairs [] inner (map pair_of here ++ below) at_front (inside name it) (changed_inside inner it changed)) in_it.sent in_it.changed in
-        let late = All-weaker (IsChanged dirs bases below) There (λ it changed. changed_among dirs bases pairs (inner ++ map pair_of here) below [] at_back it changed) behind.sent behind.changed in
+        (λ it changed. changed_among dirs bases pairs [] inner (map loose_pair_of here ++ below) at_front (inside name it) (changed_inside inner it changed)) in_it.sent in_it.changed in
+        let late = All-weaker (IsChanged dirs bases below) There (λ it changed. changed_among dirs bases pairs (inner ++ map loose_pair_of here) below [] at_back it changed) behind.sent behind.changed in
         All-append There (map (inside name) in_it.sent) (here ++ behind.sent) (All-map There (inside name) in_it.sent low) (All-append There here behind.sent mine late)
 
     all_unchanged : All (IsUnchanged dirs bases pairs) (map (under name) in_it.spared ++ (kept ++ behind.spared))
     all_unchanged =
         let There : Path → Type 0 = IsUnchanged dirs bases pairs in
         let low = All-weaker (IsUnchanged (in_dir name dirs) (in_dir name bases) inner) (λ (path : Path). There (under name path))
-        (λ path same. unchanged_among dirs bases pairs [] inner (map pair_of here ++ below) at_front (name ∷ path) (unchanged_inside inner path same)) in_it.spared in_it.same in
-        let late = All-weaker (IsUnchanged dirs bases below) There (λ path same. unchanged_among dirs bases pairs (inner ++ map pair_of here) below [] at_back path same) behind.spared behind.same in
+        (λ path same. unchanged_among dirs bases pairs [] inner (map loose_pair_of here ++ below) at_front (name ∷ path) (unchanged_inside inner path same)) in_it.spared in_it.same in
+        let late = All-weaker (IsUnchanged dirs bases below) There (λ path same. unchanged_among dirs bases pairs (inner ++ map loose_pair_of here) below [] at_back path same) behind.spared behind.same in
         All-append There (map (under name) in_it.spared) (kept ++ behind.spared) (All-map There (under name) in_it.spared low) (All-append There kept behind.spared its late)
 
     abbrev joined : Parts dirs bases pairs total
@@ -198,7 +198,7 @@ module _ (dirs bases : Dirs) (name : List ℕ) where
     at_or_below all closed this (next ∷ path) there open_there =
         let its = all (λ at. closed (name ∷ at)) next path there open_there in
         sorted_before dirs bases pairs (map (inside name) in_it.sent) (here ++ behind.sent) (map (under name) in_it.spared) (kept ++ behind.spared) (name ∷ next ∷ path)
-        (sorted_among dirs bases pairs [] inner (map pair_of here ++ below) at_front (map (inside name) in_it.sent) (map (under name) in_it.spared) (name ∷ next ∷ path) (sorted_inside inner in_it.sent in_it.spared (next ∷ path) its))
+        (sorted_among dirs bases pairs [] inner (map loose_pair_of here ++ below) at_front (map (inside name) in_it.sent) (map (under name) in_it.spared) (name ∷ next ∷ path) (sorted_inside inner in_it.sent in_it.spared (next ∷ path) its))
 
     each_joined : (e : EntryView) (rest : List EntryView) → e.name ≡ name → IsIn dirs bases pairs total joined (name ∷ []) → AreAllParts (in_dir name dirs) (in_dir name bases) inner low in_it
         → AreParts dirs bases rest below more behind → AreParts dirs bases (e ∷ rest) pairs total joined
@@ -209,7 +209,7 @@ module _ (dirs bases : Dirs) (name : List ℕ) where
     each_joined e rest named this all others closed x (inr later) path there open_there =
         let its = others closed x later path there open_there in
         sorted_behind dirs bases pairs (map (inside name) in_it.sent) (here ++ behind.sent) (map (under name) in_it.spared) (kept ++ behind.spared) (x.name ∷ path)
-        (sorted_behind dirs bases pairs here behind.sent kept behind.spared (x.name ∷ path) (sorted_among dirs bases pairs (inner ++ map pair_of here) below [] at_back behind.sent behind.spared (x.name ∷ path) its))
+        (sorted_behind dirs bases pairs here behind.sent kept behind.spared (x.name ∷ path) (sorted_among dirs bases pairs (inner ++ map loose_pair_of here) below [] at_back behind.sent behind.spared (x.name ∷ path) its))
 
     paths_joined : map path_of (map (inside name) in_it.sent ++ (here ++ behind.sent)) ≡ map (under name) (map path_of in_it.sent) ++ (map path_of here ++ map path_of behind.sent)
     paths_joined =

@@ -10,7 +10,7 @@ use Rattle.gixobj_directories.specs.Handing.{Stopped}
 use Rattle.gixobj_directories.specs.declared.write.Written.{Written}
 use Rattle.gixobj_editor.specs.Cursors.{IsAssured, RefusesCursor, RefusesFromRoot, from_root}
 use Rattle.gixobj_editor.specs.Upserts.{IsUpserted, RefusesUpsert}
-use Rattle.gixobj_editor.specs.Writes.{IsWritten}
+use Rattle.gixobj_editor.specs.Writes.{IsWrittenEditor}
 use Rattle.gixobj_editor.specs.declared.editor.error.Error.{Error}
 use Rattle.gixobj_files.specs.Files.{Path}
 use Rattle.gixobj_files.specs.HandingOut.{HandsOutSome}
@@ -29,8 +29,8 @@ abbrev pub put_at : Path → Planned → Step
 put_at prefix entry = upsert (path_from prefix entry) (mode_of_kind entry.kind) entry.id
 
 -- the directory at the prefix is assured, and then the entries are put in
-abbrev pub steps_at : Path → List Planned → List Step
-steps_at prefix entries = assure prefix ∷ map (put_at prefix) entries
+abbrev pub steps_of_checkout : Path → List Planned → List Step
+steps_of_checkout prefix entries = assure prefix ∷ map (put_at prefix) entries
 
 module _ {S : Type 0} (means : Meaning S) where
   -- a cursor at the prefix puts the entry in
@@ -68,7 +68,7 @@ module _ {S : Type 0} (means : Meaning S) where
 
   -- the directory is filled, and the write behind that comes through
   abbrev pub IsCheckedOut : {F : Type 0} → State S → Path → List Planned → (F → Pair → F → Type 0) → F → Written → Type 0
-  IsCheckedOut {F} old prefix entries gave out written = (filled left : State S) × (last : F) × IsFilled old prefix entries filled × IsWritten gave out filled written left last
+  IsCheckedOut {F} old prefix entries gave out written = (filled left : State S) × (last : F) × IsFilled old prefix entries filled × IsWrittenEditor gave out filled written left last
 
   -- why no tree is named: the directory isn't filled, or the write behind that stops
   abbrev pub RefusesCheckout : {F E : Type 0} → State S → Path → List Planned → (F → Pair → F → Type 0) → (F → List EntryView → E → F → Type 0) → F → CheckoutError E → Type 0

@@ -11,7 +11,7 @@ use Rattle.gixobj_directories.specs.Handing.{Stopped}
 use Rattle.gixobj_directories.specs.Openings.{NamesMalformed, NamesTree}
 use Rattle.gixobj_directories.specs.declared.write.Written.{Written}
 use Rattle.gixobj_editor.specs.Upserts.{IsUpserted, RefusesUpsert}
-use Rattle.gixobj_editor.specs.Writes.{IsWritten}
+use Rattle.gixobj_editor.specs.Writes.{IsWrittenEditor}
 use Rattle.gixobj_editor.specs.declared.editor.error.Error.{Error}
 use Rattle.gixobj_files.specs.Files.{Path}
 use Rattle.gixobj_files.specs.HandingOut.{HandsOutSome}
@@ -65,7 +65,7 @@ module _ {S : Type 0} (means : Meaning S) (store : S) (root_id : ObjectId) (path
 
   -- the entry is put in, and the write behind it comes through
   abbrev pub IsPlanned : {F : Type 0} → (F → Pair → F → Type 0) → F → Written → Type 0
-  IsPlanned {F} gave out written = (edited left : State S) × (last : F) × IsPutIn edited × IsWritten gave out edited written left last
+  IsPlanned {F} gave out written = (edited left : State S) × (last : F) × IsPutIn edited × IsWrittenEditor gave out edited written left last
 
   -- why no tree is named: there is no root, or the entry is refused, or the write behind it stops
   abbrev pub RefusesPlan : {F E : Type 0} → (F → Pair → F → Type 0) → (F → List EntryView → E → F → Type 0) → F → PlanError E → Type 0

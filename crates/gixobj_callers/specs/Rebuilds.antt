@@ -21,8 +21,8 @@ id_named None = None
 id_named (Some written) = Some written.id
 
 -- a write of the root that the reply at this place tells of names this id
-abbrev pub Names : {E : Type 0} → List (Reply E) → ℕ → ObjectId → Type 0
-Names replies place id = (written : Written) × (written_at replies place ≡ Some written) × (written.id ≡ id)
+abbrev pub NamesWritten : {E : Type 0} → List (Reply E) → ℕ → ObjectId → Type 0
+NamesWritten replies place id = (written : Written) × (written_at replies place ≡ Some written) × (written.id ≡ id)
 
 -- how many commands there are up to the later of two places
 abbrev pub up_to : ℕ → ℕ → ℕ

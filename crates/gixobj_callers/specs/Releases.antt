@@ -5,8 +5,8 @@ use Rattle.std.specs.List.{filter_map, starts_with}
 use Rattle.std.specs.Cow.{cow_slice_items}
 use Rattle.std.specs.declared.alloc.Global.{Global}
 use Rattle.std.specs.declared.borrow.CowSlice.{CowSlice}
-use Rattle.gixobj_commit.specs.CommitSigning.{IsSigned, RefusesSigning, RefusesWriting, payload_of, with_signature}
-use Rattle.gixobj_commit.specs.CommitViews.{owned_lines}
+use Rattle.gixobj_commit.specs.CommitSigning.{IsSignedCommit, RefusesSigningCommit, RefusesWritingCommit, payload_of_commit, with_signature}
+use Rattle.gixobj_commit.specs.CommitViews.{owned_commit_lines}
 use Rattle.gixobj_commit.specs.CommitWriting.{commit_text}
 use Rattle.gixobj_commit.specs.declared.commit.Commit.{Commit}
 use Rattle.gixobj_fields.specs.declared.encode.Error as encode
@@ -48,24 +48,24 @@ use Rattle.gixobj_callers.specs.declared.releases.AuditError.TheVariants as audi
 abbrev pub IsSignedText : {S : Type 0} → (S → CallView → Answer → S → Type 0) → signing.OptionsView → Commit → S → List ℕ → S → Type 0
 IsSignedText runs it commit old text new =
     let kind = id_kind commit.tree in
-    let lines = owned_lines commit in
-    (bytes : List ℕ) × Carries runs (sign_plan it (payload_of kind lines)) old (signing.signature bytes) new
+    let lines = owned_commit_lines commit in
+    (bytes : List ℕ) × Carries runs (sign_plan it (payload_of_commit kind lines)) old (signing.signature bytes) new
     × (text ≡ commit_text (with_signature kind bytes lines))
 
 -- why there is no such text: the commit isn't signed, or what is signed isn't written
 abbrev pub RefusesSignedText : {S : Type 0} → (S → CallView → Answer → S → Type 0) → Options → Commit → S → S → sign.Error → Type 0
 RefusesSignedText runs options commit old new error =
-    RefusesSigning runs options commit old new error
-    ⊎ ((signed : Commit) × (cause : encode.Error) × IsSigned runs options commit old new signed
-    × (error ≡ Encode cause) × RefusesWriting signed (commit_text (owned_lines signed)) cause)
+    RefusesSigningCommit runs options commit old new error
+    ⊎ ((signed : Commit) × (cause : encode.Error) × IsSignedCommit runs options commit old new signed
+    × (error ≡ Encode cause) × RefusesWritingCommit signed (commit_text (owned_commit_lines signed)) cause)
 
 -- ---- which bytes of an object
 
 -- an object has this signature, which is one of exactly these of its bytes: of a commit of all but those of the first
 -- header with the name of signatures, of a tag of all before the last marker at the start of a line
 abbrev pub IsSignature : Kind → hash.Kind → List ℕ → List ℕ → List ℕ → Type 0
-IsSignature kind.Commit ids bytes signature signed = commits.HasSignature ids bytes signature signed
-IsSignature kind.Tag ids bytes signature signed = (format : Format) × tags.HasSignature bytes signature signed format
+IsSignature kind.Commit ids bytes signature signed = commits.HasCommitSignature ids bytes signature signed
+IsSignature kind.Tag ids bytes signature signed = (format : Format) × tags.HasTagSignature bytes signature signed format
 IsSignature other ids bytes signature signed = ⊥
 
 -- an object has no signature
@@ -80,7 +80,7 @@ GivesSignature kind ids bytes None = IsUnsigned kind ids bytes
 
 -- why it isn't known whether an object has one
 abbrev pub IsUnreadable : Kind → hash.Kind → List ℕ → decode.Error → Type 0
-IsUnreadable kind.Commit ids bytes cause = commits.RefusesSignature ids bytes cause
+IsUnreadable kind.Commit ids bytes cause = commits.RefusesCommitSignature ids bytes cause
 IsUnreadable other ids bytes cause = ⊥
 
 abbrev pub IsNoRelease : Kind → Type 0

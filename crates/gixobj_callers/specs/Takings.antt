@@ -2,7 +2,7 @@
 use Rattle.std.specs.Prelude.{◌≡◌, ℕ, List, [], Some}
 use Rattle.gixobj_base.specs.Hash.{id_kind, id_of}
 use Rattle.gixobj_base.specs.Streams.{SinkView}
-use Rattle.gixobj_base.specs.Writing.{SaysWhy}
+use Rattle.gixobj_base.specs.Writing.{RefusesWriting}
 use Rattle.gixobj_base.specs.fields.encode.Error.{Error}
 use Rattle.gixobj_base.specs.hash.hash.object_id.ObjectId.{ObjectId}
 use Rattle.gixobj_codec.specs.BorrowedObjects.{RefusesBorrowedObject, borrowed_kind, borrowed_object_text}
@@ -15,7 +15,7 @@ use Rattle.gixobj_callers.specs.declared.store.TakeError.TheVariants.{Read, Veri
 -- the object's text is not written, where nothing is written yet
 abbrev pub IsNotWritten : ObjectRef → Error → Type 0
 IsNotWritten object error =
-    (before after : SinkView) × (before.held ≡ Some []) × SaysWhy (RefusesBorrowedObject object) before after (borrowed_object_text object) error
+    (before after : SinkView) × (before.held ≡ Some []) × RefusesWriting (RefusesBorrowedObject object) before after (borrowed_object_text object) error
 
 -- it is not read; or its text is not written; or the text has another id
 abbrev pub RefusesTaking : List ℕ → ObjectId → TakeError → Type 0

@@ -24,8 +24,8 @@ pub record Sent : Type 0 where
 abbrev pub path_of : Sent → Path
 path_of it = it.path
 
-abbrev pub pair_of : Sent → Pair
-pair_of it = it.pair
+abbrev pub loose_pair_of : Sent → Pair
+loose_pair_of it = it.pair
 
 -- no path comes twice
 abbrev pub Once : List Path → Type 0
@@ -65,7 +65,7 @@ module _ (dirs bases : Dirs) (pairs : List Pair) where
     pub sent : List Sent
     pub spared : List Path
     pub own : List EntryView
-    pub whole : pairs ≡ map pair_of sent ++ (id, own) ∷ []
+    pub whole : pairs ≡ map loose_pair_of sent ++ (id, own) ∷ []
     pub changed : All IsChanged sent
     pub same : All IsUnchanged spared
     pub count : unchanged ≡ raised 0 (length spared)

@@ -5,7 +5,7 @@ ghost use Rattle.bstr.specs.BStr.{bstr_bytes};
 ghost use Rattle.gixobj_base.specs.Hash.{IsHexOfAnId};
 ghost use Rattle.gixobj_base.specs.Hash.Hex.{IsHexOf};
 ghost use Rattle.gixobj_base.specs.hash.hash.kind.Kind.{Kind};
-ghost use Rattle.gixobj_codec.specs.CommitViews.{commit_lines, owned_lines};
+ghost use Rattle.gixobj_codec.specs.CommitViews.{commit_lines, owned_commit_lines};
 ghost use Rattle.gixobj_codec.specs.ExtraHeaders.{IsFirstPlace, IsFirstValue, values_named};
 ghost use Rattle.gixobj_codec.specs.Mergetags.{IsTagOf};
 
@@ -29,7 +29,7 @@ pub fn value_of<'a>(commit: &'a CommitRef<'_>, name: &str) -> Option<BStr<'a>>
 
 /// The place of the first header of this name, in a commit that is owned.
 pub fn place_of(commit: &Commit, name: &str) -> Option<usize>
-    ensures { IsFirstPlace name.now (owned_lines commit.now).extra_headers result }
+    ensures { IsFirstPlace name.now (owned_commit_lines commit.now).extra_headers result }
 {
     owned_headers_are_found();
     commit.extra_headers().find_pos(name)

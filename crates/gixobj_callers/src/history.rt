@@ -3,7 +3,7 @@ ghost use Rattle.std.specs.Prelude.{IfErr, IfOk, Some, map};
 ghost use Rattle.bstr.specs.Owned.{bstring_bytes};
 ghost use Rattle.gixobj_codec.specs.Lookups.{IsAtPath};
 ghost use Rattle.gixobj_codec.specs.Stores.{StoredObject};
-ghost use Rattle.gixobj_callers.specs.Ancestors.{HasTree, IsAncestor, IsFirstParent, RefusesEntry, RefusesParent, RefusesWalk};
+ghost use Rattle.gixobj_callers.specs.Ancestors.{HasTree, IsAncestor, IsFirstParent, RefusesEntryOfCommit, RefusesParent, RefusesWalk};
 
 use bstr::BString;
 use gixobj_base::hash::ObjectId;
@@ -108,7 +108,7 @@ pub fn entry_of<S: Find>(
     path: &[BString],
 ) -> Result<Option<Entry>, Error>
     ensures found { IfOk result (λ found. (tree : StoredObject) × HasTree (S.objects store.now) commit tree × IsAtPath (S.objects store.now) (Some tree) (map bstring_bytes path.now) found) }
-    ensures refusal { IfErr result (RefusesEntry (S.objects store.now) (S.may_fail store.now) commit (map bstring_bytes path.now)) }
+    ensures refusal { IfErr result (RefusesEntryOfCommit (S.objects store.now) (S.may_fail store.now) commit (map bstring_bytes path.now)) }
 {
     let mut buffer = Vec::new(alloc);
     let tree = store

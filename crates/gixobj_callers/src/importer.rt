@@ -3,7 +3,7 @@ ghost use Rattle.std.specs.Prelude.{◌≡◌, ◌↔◌, ℕ, Contains, Err, If
 ghost use Rattle.std.specs.Fn.{FnReturnsAt};
 ghost use Rattle.gixobj_codec.specs.Commit.{CommitLines, IsCommitText};
 ghost use Rattle.gixobj_codec.specs.CommitWriting.{commit_text};
-ghost use Rattle.gixobj_codec.specs.Rewriting.{AreOwnParts};
+ghost use Rattle.gixobj_codec.specs.Rewriting.{AreOwnPartsOfCommit};
 ghost use Rattle.gixobj_files.specs.Bases.{HasBases};
 ghost use Rattle.gixobj_files.specs.Files.{NamedFiles, SameFiles, Table};
 ghost use Rattle.gixobj_files.specs.History.{History};
@@ -165,7 +165,7 @@ fn place_of_answer<E>(replies: &[Reply<E>]) -> Option<usize>
 /// actors by their parts, and times as they are written. Of a commit's text it is refused only for want
 /// of memory or room, for an actor with a byte that no owned one may have, or for an empty encoding.
 pub fn owned_copy_of(alloc: Global, text: &[u8], kind: Kind) -> Result<Vec<u8>, CopyError>
-    ensures parts { IfOk result (λ copy. (commit own : CommitLines) × IsCommitText kind text.now commit × AreOwnParts commit own × (copy.items ≡ commit_text own)) }
+    ensures parts { IfOk result (λ copy. (commit own : CommitLines) × IsCommitText kind text.now commit × AreOwnPartsOfCommit commit own × (copy.items ≡ commit_text own)) }
     ensures refusal { IfErr result (λ error. (commit : CommitLines) → IsCommitText kind text.now commit → FailsForPart commit error) }
 {
     owned_forms_have_the_parts();

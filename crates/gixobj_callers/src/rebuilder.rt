@@ -3,7 +3,7 @@ ghost use Rattle.std.specs.Prelude.{◌≡◌, ◌↔◌, IfErr, IfOk, IsTrue, N
 ghost use Rattle.std.specs.Fn.{FnReturnsAt};
 ghost use Rattle.gixobj_editor.specs.Commands.{written_at, written_by, written_by_edit};
 ghost use Rattle.gixobj_editor.specs.Replies.{IsCallable};
-ghost use Rattle.gixobj_callers.specs.Rebuilds.{IsCompared, Names, RefusesComparison, id_named};
+ghost use Rattle.gixobj_callers.specs.Rebuilds.{IsCompared, NamesWritten, RefusesComparison, id_named};
 
 use gixobj_base::hash::{Kind, ObjectId};
 use gixobj_base::{OutOfMemory, Tree};
@@ -83,7 +83,7 @@ fn are_same(id: ObjectId, other: ObjectId) -> bool
 
 /// The id that a write of the root names, of which the reply at this place tells.
 fn id_written<E>(replies: &[Reply<E>], place: usize) -> Result<ObjectId, CompareError>
-    ensures found { IfOk result (Names replies.now place) }
+    ensures found { IfOk result (NamesWritten replies.now place) }
     ensures refusal { IfErr result (λ error. error ≡ CompareError.NoWrite place) }
     ensures none { OnErr result (written_at replies.now place ≡ None) }
 {

@@ -2,8 +2,8 @@
 //! a runner runs.
 ghost use Rattle.std.specs.Prelude.{◌≡◌, IfErr, IfOk, IfSome, true};
 ghost use Rattle.std.specs.Cow.{cow_slice_items};
-ghost use Rattle.gixobj_commit.specs.CommitSigning.{RefusesWriting};
-ghost use Rattle.gixobj_commit.specs.CommitViews.{owned_lines};
+ghost use Rattle.gixobj_commit.specs.CommitSigning.{RefusesWritingCommit};
+ghost use Rattle.gixobj_commit.specs.CommitViews.{owned_commit_lines};
 ghost use Rattle.gixobj_commit.specs.CommitWriting.{commit_text};
 ghost use Rattle.gixobj_signature.specs.Outcomes.{outcome_view};
 ghost use Rattle.gixobj_signature.specs.Signing as signing;
@@ -42,8 +42,8 @@ pub fn signed_text<R: Runner>(
 
 /// The text of a commit.
 fn written(alloc: Global, commit: &Commit) -> Result<Vec<u8>, encode::Error>
-    ensures text { IfOk result (λ text. text.items ≡ commit_text (owned_lines commit.now)) }
-    ensures refusal { IfErr result (RefusesWriting commit.now (commit_text (owned_lines commit.now))) }
+    ensures text { IfOk result (λ text. text.items ≡ commit_text (owned_commit_lines commit.now)) }
+    ensures refusal { IfErr result (RefusesWritingCommit commit.now (commit_text (owned_commit_lines commit.now))) }
 {
     let mut text = Vec::new(alloc);
     commit.write_to_vec(alloc, &mut text)?;

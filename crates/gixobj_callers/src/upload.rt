@@ -3,7 +3,7 @@ ghost use Rattle.std.specs.Prelude.{◌≡◌, Err, IfErr, IfOk, Ok, OnErr};
 ghost use Rattle.std.specs.Fn.{CalledAt};
 ghost use Rattle.gixobj_directories.specs.Calls.{IsCallableOnTrees};
 ghost use Rattle.gixobj_directories.specs.Handing.{Stopped};
-ghost use Rattle.gixobj_editor.specs.Writes.{IsWritten};
+ghost use Rattle.gixobj_editor.specs.Writes.{IsWrittenEditor};
 ghost use Rattle.gixobj_files.specs.HandingOut.{HandsOutSome};
 ghost use Rattle.gixobj_files.specs.State.{open_bases, open_dirs};
 ghost use Rattle.gixobj_callers.specs.Uploads.{Divides, IsEnough, NamesItsFiles};
@@ -38,7 +38,7 @@ pub fn upload_of<S, E, F: FnMut(&Tree) -> Result<ObjectId, E>>(
     ensures divided { IfOk result (Divides editor.old) }
     ensures files { IfOk result (NamesItsFiles editor.old) }
     ensures enough { IfOk result (IsEnough editor.old) }
-    ensures done { IfOk result (λ it. IsWritten
+    ensures done { IfOk result (λ it. IsWrittenEditor
         (λ f p g. CalledAt F.FnMut f p.1 (Ok p.0) g) out.old
         editor.old (record { id = it.id; trees = it.trees; saved = it.unchanged })
         editor.new out.new) }

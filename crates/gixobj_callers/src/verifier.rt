@@ -4,7 +4,7 @@ ghost use Rattle.bstr.specs.BStr.{bstr_bytes};
 ghost use Rattle.gixobj_base.specs.Hash.{Spells};
 ghost use Rattle.gixobj_callers.specs.Told.{IsToTell};
 ghost use Rattle.gixobj_codec.specs.TagText.{IsNoTagText, IsTagText, TagLines};
-ghost use Rattle.gixobj_codec.specs.TagTokens.{TokenView, name_token, token_view};
+ghost use Rattle.gixobj_codec.specs.TagTokens.{TagTokenView, name_token, tag_token_view};
 ghost use Rattle.gixobj_codec.specs.TagViews.{tag_lines};
 
 use bstr::BStr;
@@ -56,8 +56,8 @@ fn target_and_name(text: &[u8], kind: Kind) -> Option<(ObjectId, BStr<'_>)>
 
 /// The next token. Where tokens are to come to the end of the bytes, it is the first of them.
 fn told<'a>(reader: &mut TagRefIter<'a>) -> Option<Token<'a>>
-    ensures found { IfSome result (λ token. (first : TokenView) (others : List TokenView) → IsToTell reader.old (first ∷ others) → (token_view token ≡ first) × IsToTell reader.new others) }
-    ensures none { IfNone result ((first : TokenView) (others : List TokenView) → ¬ IsToTell reader.old (first ∷ others)) }
+    ensures found { IfSome result (λ token. (first : TagTokenView) (others : List TagTokenView) → IsToTell reader.old (first ∷ others) → (tag_token_view token ≡ first) × IsToTell reader.new others) }
+    ensures none { IfNone result ((first : TagTokenView) (others : List TagTokenView) → ¬ IsToTell reader.old (first ∷ others)) }
 {
     tag_tokens_have_one_reading();
     match reader.next()? {
@@ -68,8 +68,8 @@ fn told<'a>(reader: &mut TagRefIter<'a>) -> Option<Token<'a>>
 
 /// The name that the token tells.
 fn name_of(token: Token<'_>) -> Option<BStr<'_>>
-    ensures found { IfSome result (λ name. token_view token.entry ≡ name_token (bstr_bytes name)) }
-    ensures none { IfNone result ((name : List ℕ) → token_view token.entry ≢ name_token name) }
+    ensures found { IfSome result (λ name. tag_token_view token.entry ≡ name_token (bstr_bytes name)) }
+    ensures none { IfNone result ((name : List ℕ) → tag_token_view token.entry ≢ name_token name) }
 {
     match token {
         Token::Name(name) => Some(name),

@@ -11,7 +11,7 @@ use Rattle.bstr.specs.BStr.{bstr_bytes}
 use Rattle.bstr.specs.declared.bstr.BStr.{BStr}
 use Rattle.bstr.specs.declared.bstring.BString.{BString}
 use Rattle.bstr.specs.Owned.{bstring_bytes}
-use Rattle.gixobj_actor.specs.ActorWriting.{IsLegal, RefusesSignature, owned_text}
+use Rattle.gixobj_actor.specs.ActorWriting.{IsLegal, RefusesActorField, owned_text}
 use Rattle.gixobj_hash.specs.Hash.{Spells, hex_text}
 use Rattle.gixobj_fields.specs.HeaderReading.{header_of, owned_header_of}
 use Rattle.gixobj_fields.specs.HeaderText.{field_text}
@@ -20,9 +20,9 @@ use Rattle.gixobj_hash.specs.declared.hash.object_id.ObjectId.{ObjectId}
 use Rattle.gixobj_hash.proofs.HexCase.{hex_in_lower_case}
 use Rattle.gixobj_fields.proofs.Steps.{IsInParts, in_parts}
 use Rattle.gixobj_commit.specs.Commit.{before_encoding, encoding_text, ids_text, parent_text}
-use Rattle.gixobj_commit.specs.CommitViews.{commit_lines, owned_lines}
+use Rattle.gixobj_commit.specs.CommitViews.{commit_lines, owned_commit_lines}
 use Rattle.gixobj_hash.specs.Optional.{bytes_if_some, owned_bytes_if_some}
-use Rattle.gixobj_commit.specs.CommitWriting.{RefusesEncoding, RefusesLines, RefusesOwned, commit_text, hex_parent, in_lower_case, RefusesEncodingLine}
+use Rattle.gixobj_commit.specs.CommitWriting.{RefusesEncoding, RefusesCommitLines, RefusesOwnedCommit, commit_text, hex_parent, in_lower_case, RefusesEncodingLine}
 use Rattle.gixobj_fields.specs.FieldWriting.{header_text}
 use Rattle.gixobj_commit.specs.declared.commit.Commit.{Commit}
 use Rattle.gixobj_commit.specs.declared.commit.CommitRef.{CommitRef}
@@ -99,17 +99,17 @@ borrowed_front commit id spells =
 pub borrowed_refused : (commit : CommitRef) (id : ObjectId) (parents : List BStr) (author committer : List ℕ) (value : Refused) (parts : List ℕ)
     → Spells (bstr_bytes commit.tree) id → parents ≡ commit.parents.items → author ≡ bstr_bytes commit.author → committer ≡ bstr_bytes commit.committer
     → RefusesEncodingLine (bytes_if_some commit.encoding) value parts
-    → RefusesLines (in_lower_case (commit_lines commit)) value (((ids_put id hex_parent parents ++ field_text (codes "author") author) ++ field_text (codes "committer") committer) ++ parts)
+    → RefusesCommitLines (in_lower_case (commit_lines commit)) value (((ids_put id hex_parent parents ++ field_text (codes "author") author) ++ field_text (codes "committer") committer) ++ parts)
 borrowed_refused commit id parents author committer value parts spells one two three (refused, nothing) =
     (refused, rw (nothing, one, two, three) (append-nil _ ∙ sym (borrowed_front commit id spells)))
 
 -- ---- owned commits
 
-owned_ids : (commit : Commit) → ids_text (owned_lines commit) ≡ ids_put commit.tree owned_parent commit.parents.items
+owned_ids : (commit : Commit) → ids_text (owned_commit_lines commit) ≡ ids_put commit.tree owned_parent commit.parents.items
 owned_ids commit = ap (λ (it : List ℕ). field_text (codes "tree") (hex_text commit.tree) ++ it) (flat_map-map parent_text hex_text commit.parents.items)
 
 -- the text of an owned commit, in parts
-owned_parts : (commit : Commit) → commit_text (owned_lines commit)
+owned_parts : (commit : Commit) → commit_text (owned_commit_lines commit)
     ≡ in_parts (ids_put commit.tree owned_parent commit.parents.items) (field_text (codes "author") (owned_text commit.author)) (field_text (codes "committer") (owned_text commit.committer))
     ((encoding_text (owned_bytes_if_some commit.encoding) ++ flat_map owned_header commit.extra_headers.items) ++ 10 ∷ bstring_bytes commit.message)
 owned_parts commit =
@@ -118,20 +118,20 @@ owned_parts commit =
     let encoding = encoding_text (owned_bytes_if_some commit.encoding) in
     let message : List ℕ = 10 ∷ bstring_bytes commit.message in
     let written = flat_map header_text (map owned_header_of commit.extra_headers.items) in
-    regrouped ((ids_text (owned_lines commit) ++ author) ++ committer) encoding written message
+    regrouped ((ids_text (owned_commit_lines commit) ++ author) ++ committer) encoding written message
     ∙ ap (λ (it : List ℕ). in_parts it author committer ((encoding ++ written) ++ message)) (owned_ids commit)
     ∙ ap (λ (it : List ℕ). in_parts (ids_put commit.tree owned_parent commit.parents.items) author committer ((encoding ++ it) ++ message)) (flat_map-map header_text owned_header_of commit.extra_headers.items)
 
 pub owned_as_put : (commit : Commit) (parents : List ObjectId) (encoding : Option BStr) (headers : List (BString × BString)) (message : List ℕ)
     → parents ≡ commit.parents.items → bytes_if_some encoding ≡ owned_bytes_if_some commit.encoding → headers ≡ commit.extra_headers.items → message ≡ bstring_bytes commit.message
-    → IsInParts (commit_text (owned_lines commit)) (ids_put commit.tree owned_parent parents) (field_text (codes "author") (owned_text commit.author))
+    → IsInParts (commit_text (owned_commit_lines commit)) (ids_put commit.tree owned_parent parents) (field_text (codes "author") (owned_text commit.author))
     (field_text (codes "committer") (owned_text commit.committer)) (rest_put encoding owned_header headers message)
 owned_as_put commit parents encoding headers message one two three four =
     record { joined = rw (one, two, three, four) (owned_parts commit) }
 
 -- an author that is refused behind the ids
 pub owned_author_refused : (commit : Commit) (parents : List ObjectId) (value : Refused) (parts : List ℕ) → parents ≡ commit.parents.items
-    → RefusesSignature (codes "author") commit.author value parts → RefusesOwned commit value (ids_put commit.tree owned_parent parents ++ parts)
+    → RefusesActorField (codes "author") commit.author value parts → RefusesOwnedCommit commit value (ids_put commit.tree owned_parent parents ++ parts)
 owned_author_refused commit parents value parts one (illegal, is, name) =
     inl (
       illegal,
@@ -141,8 +141,8 @@ owned_author_refused commit parents value parts one (illegal, is, name) =
 
 -- a committer that is refused behind the author
 pub owned_committer_refused : (commit : Commit) (parents : List ObjectId) (value : Refused) (parts : List ℕ) → parents ≡ commit.parents.items → IsLegal commit.author
-    → RefusesSignature (codes "committer") commit.committer value parts
-    → RefusesOwned commit value ((ids_put commit.tree owned_parent parents ++ field_text (codes "author") (owned_text commit.author)) ++ parts)
+    → RefusesActorField (codes "committer") commit.committer value parts
+    → RefusesOwnedCommit commit value ((ids_put commit.tree owned_parent parents ++ field_text (codes "author") (owned_text commit.author)) ++ parts)
 owned_committer_refused commit parents value parts one legal (illegal, is, name) =
     let author = field_text (codes "author") (owned_text commit.author) in
     inr (
@@ -157,7 +157,7 @@ owned_committer_refused commit parents value parts one legal (illegal, is, name)
 -- an encoding that is refused behind the committer
 pub owned_encoding_refused : (commit : Commit) (parents : List ObjectId) (encoding : Option BStr) (value : Refused) (parts : List ℕ) → parents ≡ commit.parents.items
     → bytes_if_some encoding ≡ owned_bytes_if_some commit.encoding → IsLegal commit.author → IsLegal commit.committer → RefusesEncodingLine (bytes_if_some encoding) value parts
-    → RefusesOwned commit value (((ids_put commit.tree owned_parent parents ++ field_text (codes "author") (owned_text commit.author)) ++ field_text (codes "committer") (owned_text commit.committer)) ++ parts)
+    → RefusesOwnedCommit commit value (((ids_put commit.tree owned_parent parents ++ field_text (codes "author") (owned_text commit.author)) ++ field_text (codes "committer") (owned_text commit.committer)) ++ parts)
 owned_encoding_refused commit parents encoding value parts one two author committer (refused, nothing) =
     let front : List ℕ → List ℕ = λ it. (it ++ field_text (codes "author") (owned_text commit.author)) ++ field_text (codes "committer") (owned_text commit.committer) in
     inr (
@@ -172,7 +172,7 @@ owned_encoding_refused commit parents encoding value parts one two author commit
     )
 
 pub owned_not_refused : (commit : Commit) (encoding : Option BStr) → bytes_if_some encoding ≡ owned_bytes_if_some commit.encoding → IsLegal commit.author → IsLegal commit.committer
-    → RefusesNothing (RefusesEncodingLine (bytes_if_some encoding)) → RefusesNothing (RefusesOwned commit)
+    → RefusesNothing (RefusesEncodingLine (bytes_if_some encoding)) → RefusesNothing (RefusesOwnedCommit commit)
 owned_not_refused commit encoding two author committer none value parts (inl it) = absurd (it.0 author)
 owned_not_refused commit encoding two author committer none value parts (inr (inl it)) = absurd (it.1 committer)
 owned_not_refused commit encoding two author committer none value parts (inr (inr it)) =

@@ -13,17 +13,17 @@ use Rattle.gixobj_hash.specs.declared.decode.Error.TheVariants.{Malformed, OutOf
 use Rattle.gixobj_hash.specs.declared.hash.kind.Kind.{Kind}
 use Rattle.gixobj_hash.specs.declared.hash.object_id.ObjectId.{ObjectId}
 use Rattle.gixobj_commit.proofs.WholeCommits.{message_last}
-use Rattle.gixobj_commit.specs.Commit.{CommitLines, IsCommitText, encoding_lines, lines_of}
+use Rattle.gixobj_commit.specs.Commit.{CommitLines, IsCommitText, encoding_lines, lines_of_commit}
 use Rattle.gixobj_commit.specs.Lines.{LineView, MayFold, author_line, committer_line, encoding_line, header_line, message_line, parent_line, tree_line}
 use Rattle.gixobj_commit.specs.declared.lines.State.{State}
 use Rattle.gixobj_commit.specs.declared.lines.State.TheVariants as state
 use Rattle.gixobj_commit.proofs.OneLanguage as language
 use Rattle.gixobj_commit.proofs.TokenRuns.{one_run}
 use Rattle.gixobj_commit.proofs.Tokens.{no_token_of_nothing, one_token}
-use Rattle.gixobj_commit.specs.CommitRuns.{Tells}
-use Rattle.gixobj_commit.specs.CommitTokens.{HasToken, TellsLine, TokenView, author_token, committer_token, message_token, tells_author, tells_committer, tells_message, tells_tree, token_view, tree_token}
-use Rattle.gixobj_commit.specs.Readers.{AreTokensOf, EndsInMessage}
-use Rattle.gixobj_commit.specs.TokenGiving.{GivesId, GivesToken, IsAtStart, answered_id, id_or_malformed, standing, token_id}
+use Rattle.gixobj_commit.specs.CommitRuns.{TellsCommit}
+use Rattle.gixobj_commit.specs.CommitTokens.{HasCommitToken, TellsLine, CommitTokenView, author_token, committer_token, message_token, tells_author, tells_committer, tells_message, tells_tree, commit_token_view, tree_token}
+use Rattle.gixobj_commit.specs.Readers.{AreTokensOfCommit, EndsInMessage}
+use Rattle.gixobj_commit.specs.TokenGiving.{GivesIdOfCommit, GivesCommitToken, IsAtStartOfCommit, answered_commit_id, commit_id_or_malformed, standing_in_commit, commit_token_id}
 use Rattle.gixobj_commit.specs.TokenPassing.{FindsAuthor, FindsCommitter, FindsFault, FindsFirst, FindsMessage, FindsNone, IsAuthorToken, IsCommitterToken, IsMessageToken, LacksAll}
 use Rattle.gixobj_commit.specs.declared.ref_iter.CommitRefIter.{CommitRefIter}
 use Rattle.gixobj_commit.specs.declared.ref_iter.Token.{Token}
@@ -46,7 +46,7 @@ of_encoding : (P : LineView → Type 0) → ((encoding : List ℕ) → P (encodi
 of_encoding P each None = All-nil P
 of_encoding P each (Some encoding) = All-cons P (encoding_line encoding) [] (each encoding) (All-nil P)
 
-all_of_it : (commit : CommitLines) → All (IsLineOf commit) (lines_of commit)
+all_of_it : (commit : CommitLines) → All (IsLineOf commit) (lines_of_commit commit)
 all_of_it commit =
     let P : LineView → Type 0 = IsLineOf commit in
     let message = All-cons P (message_line commit.message) [] refl (All-nil P) in
@@ -59,7 +59,7 @@ all_of_it commit =
 -- ---- a line and its token
 
 -- the line that the token here tells
-line_here : (P : LineView → Type 0) (lines : List LineView) (front : List TokenView) (token : TokenView) (more : List TokenView) → All P lines → AllZip TellsLine lines (front ++ token ∷ more)
+line_here : (P : LineView → Type 0) (lines : List LineView) (front : List CommitTokenView) (token : CommitTokenView) (more : List CommitTokenView) → All P lines → AllZip TellsLine lines (front ++ token ∷ more)
     → (line : LineView) × P line × TellsLine line token
 line_here P [] [] token more all zips = absurd zips
 line_here P [] (first ∷ front) token more all zips = absurd zips
@@ -67,20 +67,20 @@ line_here P (line ∷ lines) [] token more all (tells, others) = (line, All-head
 line_here P (line ∷ lines) (first ∷ front) token more all (tells, others) = line_here P lines front token more (All-tail P line lines all) others
 
 -- the token that tells the line here
-record TokenHere (line : LineView) (tokens : List TokenView) : Type 0 where
-  front : List TokenView
-  token : TokenView
-  more : List TokenView
+record TokenHere (line : LineView) (tokens : List CommitTokenView) : Type 0 where
+  front : List CommitTokenView
+  token : CommitTokenView
+  more : List CommitTokenView
   joined : tokens ≡ front ++ token ∷ more
   tells : TellsLine line token
 
-token_here : (front : List LineView) (line : LineView) (more : List LineView) (tokens : List TokenView) → AllZip TellsLine (front ++ line ∷ more) tokens → TokenHere line tokens
+token_here : (front : List LineView) (line : LineView) (more : List LineView) (tokens : List CommitTokenView) → AllZip TellsLine (front ++ line ∷ more) tokens → TokenHere line tokens
 token_here [] line more [] zips = absurd zips
 token_here (first ∷ front) line more [] zips = absurd zips
 token_here [] line more (token ∷ tokens) (tells, others) = record { front = []; token = token; more = tokens; joined = refl; tells = tells }
 token_here (first ∷ front) line more (token ∷ tokens) (tells, others) =
     let it = token_here front line more tokens others in
-    record { front = token ∷ it.front; token = it.token; more = it.more; joined = ap (λ (others : List TokenView). token ∷ others) it.joined; tells = it.tells }
+    record { front = token ∷ it.front; token = it.token; more = it.more; joined = ap (λ (others : List CommitTokenView). token ∷ others) it.joined; tells = it.tells }
 
 author_of : (commit : CommitLines) (line : LineView) (name email time : List ℕ) → IsLineOf commit line → TellsLine line (author_token name email time) → IsActor commit.author name email time
 author_of commit line name email time is (tells_author text _ _ _ actor) = subst (λ (it : List ℕ). IsActor it name email time) is actor
@@ -91,49 +91,49 @@ committer_of commit line name email time is (tells_committer text _ _ _ actor) =
 message_of : (commit : CommitLines) (line : LineView) (message : List ℕ) → IsLineOf commit line → TellsLine line (message_token message) → message ≡ commit.message
 message_of commit line message is (tells_message _) = is
 
-tree_of : (commit : CommitLines) (lines : List LineView) (token : TokenView) (more : List TokenView) → AllZip TellsLine (tree_line commit.tree ∷ lines) (token ∷ more) → (id : ObjectId) × (token ≡ tree_token id) × Spells commit.tree id
+tree_of : (commit : CommitLines) (lines : List LineView) (token : CommitTokenView) (more : List CommitTokenView) → AllZip TellsLine (tree_line commit.tree ∷ lines) (token ∷ more) → (id : ObjectId) × (token ≡ tree_token id) × Spells commit.tree id
 tree_of commit lines token more (tells_tree _ id spells, others) = (id, refl, spells)
 
-is_author : (line : List ℕ) (token : TokenView) → TellsLine (author_line line) token → IsAuthorToken token
+is_author : (line : List ℕ) (token : CommitTokenView) → TellsLine (author_line line) token → IsAuthorToken token
 is_author line token (tells_author _ name email time is) = tt
 
-is_committer : (line : List ℕ) (token : TokenView) → TellsLine (committer_line line) token → IsCommitterToken token
+is_committer : (line : List ℕ) (token : CommitTokenView) → TellsLine (committer_line line) token → IsCommitterToken token
 is_committer line token (tells_committer _ name email time is) = tt
 
-is_message : (message : List ℕ) (token : TokenView) → TellsLine (message_line message) token → IsMessageToken token
+is_message : (message : List ℕ) (token : CommitTokenView) → TellsLine (message_line message) token → IsMessageToken token
 is_message message token (tells_message _) = tt
 
 -- ---- the run of a reader at the start of a commit's text
 
-pub from_start : (kind : Kind) (text : List ℕ) (reader : CommitRefIter) (tokens : List TokenView) → IsAtStart kind text reader → Tells kind state.Tree text tokens complete
-    → Tells (standing reader).kind (standing reader).state (standing reader).bytes tokens complete
-from_start kind text reader tokens start told = subst (λ (it : Standing Kind State). Tells it.kind it.state it.bytes tokens complete) (sym start) told
+pub from_start : (kind : Kind) (text : List ℕ) (reader : CommitRefIter) (tokens : List CommitTokenView) → IsAtStartOfCommit kind text reader → TellsCommit kind state.Tree text tokens complete
+    → TellsCommit (standing_in_commit reader).kind (standing_in_commit reader).state (standing_in_commit reader).bytes tokens complete
+from_start kind text reader tokens start told = subst (λ (it : Standing Kind State). TellsCommit it.kind it.state it.bytes tokens complete) (sym start) told
 
-begins_token : (kind : Kind) (before : State) (input : List ℕ) (line : LineView) (lines : List LineView) (tokens : List TokenView) → Tells kind before input tokens complete → AllZip TellsLine (line ∷ lines) tokens
-    → (token : TokenView) × (behind : State) × (rest : List ℕ) × HasToken kind before input token behind rest
+begins_token : (kind : Kind) (before : State) (input : List ℕ) (line : LineView) (lines : List LineView) (tokens : List CommitTokenView) → TellsCommit kind before input tokens complete → AllZip TellsLine (line ∷ lines) tokens
+    → (token : CommitTokenView) × (behind : State) × (rest : List ℕ) × HasCommitToken kind before input token behind rest
 begins_token kind before input line lines tokens (tells_end _) zips = absurd zips
 begins_token kind before input line lines tokens (tells_piece _ behind _ rest token _ _ has told) zips = (token, behind, rest, has)
 
-module _ (kind : Kind) (text : List ℕ) (commit : CommitLines) (reader : CommitRefIter) (is : IsCommitText kind text commit) (start : IsAtStart kind text reader) where
-  run : (tokens : List TokenView) × Tells kind state.Tree text tokens complete × AreTokensOf commit tokens × EndsInMessage tokens
+module _ (kind : Kind) (text : List ℕ) (commit : CommitLines) (reader : CommitRefIter) (is : IsCommitText kind text commit) (start : IsAtStartOfCommit kind text reader) where
+  run : (tokens : List CommitTokenView) × TellsCommit kind state.Tree text tokens complete × AreTokensOfCommit commit tokens × EndsInMessage tokens
   run = language.told kind text commit is
 
-  told : Tells (standing reader).kind (standing reader).state (standing reader).bytes run.0 complete
+  told : TellsCommit (standing_in_commit reader).kind (standing_in_commit reader).state (standing_in_commit reader).bytes run.0 complete
   told = from_start kind text reader run.0 start run.1
 
-  line_found : (Is : TokenView → Type 0) (token : TokenView) → FindsFirst Is reader token → (line : LineView) × IsLineOf commit line × TellsLine line token
+  line_found : (Is : CommitTokenView → Type 0) (token : CommitTokenView) → FindsFirst Is reader token → (line : LineView) × IsLineOf commit line × TellsLine line token
   line_found Is token (before, behind, here, rest, (passed, passes, none), has) =
-      let has_token = HasToken (standing reader).kind in
-      let one = one_token (standing reader).kind in
-      let some = no_token_of_nothing (standing reader).kind in
-      let at = behind_passed has_token one some (standing reader).state before (standing reader).bytes here passed run.0 complete passes told in
+      let has_token = HasCommitToken (standing_in_commit reader).kind in
+      let one = one_token (standing_in_commit reader).kind in
+      let some = no_token_of_nothing (standing_in_commit reader).kind in
+      let at = behind_passed has_token one some (standing_in_commit reader).state before (standing_in_commit reader).bytes here passed run.0 complete passes told in
       let first = behind_first has_token one some before behind here rest token at.others complete has at.told in
-      let joined = at.joined ∙ ap (λ (it : List TokenView). passed ++ it) first.joined in
-      line_here (IsLineOf commit) (lines_of commit) passed token first.others (all_of_it commit) (subst (λ (it : List TokenView). AllZip TellsLine (lines_of commit) it) joined run.2)
+      let joined = at.joined ∙ ap (λ (it : List CommitTokenView). passed ++ it) first.joined in
+      line_here (IsLineOf commit) (lines_of_commit commit) passed token first.others (all_of_it commit) (subst (λ (it : List CommitTokenView). AllZip TellsLine (lines_of_commit commit) it) joined run.2)
 
-  lacks_none : (Is : TokenView → Type 0) (ending : Ending) (front : List LineView) (line : LineView) (more : List LineView) → lines_of commit ≡ front ++ line ∷ more → ((token : TokenView) → TellsLine line token → Is token) → LacksAll Is reader ending → ⊥
+  lacks_none : (Is : CommitTokenView → Type 0) (ending : Ending) (front : List LineView) (line : LineView) (more : List LineView) → lines_of_commit commit ≡ front ++ line ∷ more → ((token : CommitTokenView) → TellsLine line token → Is token) → LacksAll Is reader ending → ⊥
   lacks_none Is ending front line more joined is_such (tokens, lacks, none) =
-      let same = (one_run (standing reader).kind (standing reader).state (standing reader).bytes tokens run.0 ending complete lacks told).0 in
+      let same = (one_run (standing_in_commit reader).kind (standing_in_commit reader).state (standing_in_commit reader).bytes tokens run.0 ending complete lacks told).0 in
       let here = token_here front line more run.0 (subst (λ (it : List LineView). AllZip TellsLine it run.0) joined run.2) in
       one_here Is here.front here.token here.more (is_such here.token here.tells) (subst (HasNone Is) (same ∙ here.joined) none)
 
@@ -151,7 +151,7 @@ module _ (kind : Kind) (text : List ℕ) (commit : CommitLines) (reader : Commit
   pub has_committer : ¬ FindsNone IsCommitterToken reader Malformed
   has_committer = λ (ending, lacks).
       let others = encoding_lines commit.encoding ++ (map header_line commit.extra_headers ++ message_line commit.message ∷ []) in
-      let joined : lines_of commit ≡ (tree_line commit.tree ∷ (map parent_line commit.parents ++ author_line commit.author ∷ [])) ++ committer_line commit.committer ∷ others = sym (simp append_assoc) in
+      let joined : lines_of_commit commit ≡ (tree_line commit.tree ∷ (map parent_line commit.parents ++ author_line commit.author ∷ [])) ++ committer_line commit.committer ∷ others = sym (simp append_assoc) in
       lacks_none IsCommitterToken ending (tree_line commit.tree ∷ (map parent_line commit.parents ++ author_line commit.author ∷ [])) (committer_line commit.committer) others joined (is_committer commit.committer) lacks
 
   pub its_message : (message : List ℕ) → FindsMessage reader message → message ≡ commit.message
@@ -163,18 +163,18 @@ module _ (kind : Kind) (text : List ℕ) (commit : CommitLines) (reader : Commit
 
   -- ---- the tree
 
-  tree_begins : (token : TokenView) × (behind : State) × (rest : List ℕ) × HasToken (standing reader).kind (standing reader).state (standing reader).bytes token behind rest
-  tree_begins = begins_token (standing reader).kind (standing reader).state (standing reader).bytes (tree_line commit.tree) _ run.0 told run.2
+  tree_begins : (token : CommitTokenView) × (behind : State) × (rest : List ℕ) × HasCommitToken (standing_in_commit reader).kind (standing_in_commit reader).state (standing_in_commit reader).bytes token behind rest
+  tree_begins = begins_token (standing_in_commit reader).kind (standing_in_commit reader).state (standing_in_commit reader).bytes (tree_line commit.tree) _ run.0 told run.2
 
-  its_answer : (answer : Option (Result Token Error)) (after : CommitRefIter) → GivesToken reader answer after → (id : ObjectId) × (answered_id answer ≡ Ok id) × Spells commit.tree id
+  its_answer : (answer : Option (Result Token Error)) (after : CommitRefIter) → GivesCommitToken reader answer after → (id : ObjectId) × (answered_commit_id answer ≡ Ok id) × Spells commit.tree id
   its_answer (Some (Ok token)) after gives =
-      let kind' = (standing reader).kind in
-      let first = behind_first (HasToken kind') (one_token kind') (no_token_of_nothing kind') (standing reader).state (standing after).state (standing reader).bytes (standing after).bytes (token_view token) run.0 complete gives.0 told in
-      let tree = tree_of commit _ (token_view token) first.others (subst (λ (it : List TokenView). AllZip TellsLine (lines_of commit) it) first.joined run.2) in
-      (tree.0, ap (λ (it : TokenView). id_or_malformed (token_id it)) tree.1, tree.2)
+      let kind' = (standing_in_commit reader).kind in
+      let first = behind_first (HasCommitToken kind') (one_token kind') (no_token_of_nothing kind') (standing_in_commit reader).state (standing_in_commit after).state (standing_in_commit reader).bytes (standing_in_commit after).bytes (commit_token_view token) run.0 complete gives.0 told in
+      let tree = tree_of commit _ (commit_token_view token) first.others (subst (λ (it : List CommitTokenView). AllZip TellsLine (lines_of_commit commit) it) first.joined run.2) in
+      (tree.0, ap (λ (it : CommitTokenView). commit_id_or_malformed (commit_token_id it)) tree.1, tree.2)
   its_answer (Some (Err Malformed)) after gives = absurd (gives.1 _ _ _ tree_begins.3)
   its_answer (Some (Err OutOfMemory)) after gives = absurd (subst (λ (it : Standing Kind State). MayFold it.state it.bytes) start gives.1.0)
-  its_answer None after gives = absurd (no_token_of_nothing (standing reader).kind (standing reader).state (standing reader).bytes tree_begins.0 _ _ gives.0 tree_begins.3)
+  its_answer None after gives = absurd (no_token_of_nothing (standing_in_commit reader).kind (standing_in_commit reader).state (standing_in_commit reader).bytes tree_begins.0 _ _ gives.0 tree_begins.3)
 
-  pub its_tree : (after : CommitRefIter) (result : Result ObjectId Error) → GivesId reader result after → (id : ObjectId) × (result ≡ Ok id) × Spells commit.tree id
+  pub its_tree : (after : CommitRefIter) (result : Result ObjectId Error) → GivesIdOfCommit reader result after → (id : ObjectId) × (result ≡ Ok id) × Spells commit.tree id
   its_tree after result (answer, gives, is_answer) = let it = its_answer answer after gives in (it.0, is_answer ∙ it.1, it.2)

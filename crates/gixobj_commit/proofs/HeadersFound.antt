@@ -11,7 +11,7 @@ use Rattle.std.specs.Str.{bytes_eq}
 use Rattle.bstr.specs.BStr.{bstr_bytes}
 use Rattle.bstr.specs.declared.bstr.BStr.{BStr}
 use Rattle.gixobj_fields.specs.HeaderText.{Header}
-use Rattle.gixobj_commit.specs.ExtraHeaders.{FindsPlace, FindsValue, Gave, GivesAll, HasFirst, IsFirstPlace, IsFirstValue, LacksHeader, header_at, pair_of, searched, sought, values_named}
+use Rattle.gixobj_commit.specs.ExtraHeaders.{FindsPlace, FindsValue, Gave, GivesAll, HasFirstHeader, IsFirstPlace, IsFirstValue, LacksHeader, header_at, pair_of, searched, sought, values_named}
 use Rattle.gixobj_commit.specs.declared.extra_headers.FindAll.{FindAll}
 
 -- ---- values in a list of headers
@@ -44,7 +44,7 @@ module _ {S : Type 0} (rest : S → List Header) where
   all_came name s t given ((last, yielded, step), lacks) =
       came s last given yielded ∙ ap (λ it. map pair_of given ++ it) step.0 ∙ append-nil (map pair_of given)
 
-  first : (name : List ℕ) (s t : S) (given : List (BStr × BStr)) (value : BStr) → (gave : Gave (YieldsFirstBy pair_of rest) name s given (Some value) t) → HasFirst name (rest s) gave.1 value (rest t)
+  first : (name : List ℕ) (s t : S) (given : List (BStr × BStr)) (value : BStr) → (gave : Gave (YieldsFirstBy pair_of rest) name s given (Some value) t) → HasFirstHeader name (rest s) gave.1 value (rest t)
   first name s t given value (yielded, others, (lacks, last)) =
       (lacks, came s t given yielded ∙ ap (λ (it : List Header). it ++ rest t) last ∙ append_assoc others (header_at name value ∷ []) (rest t))
 

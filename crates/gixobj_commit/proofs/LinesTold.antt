@@ -8,7 +8,7 @@ use Rattle.gixobj_fields.specs.HeaderText.{EndsHeader, HasField, HasHeader, Head
 use Rattle.gixobj_fields.specs.Runs.{Tells, complete, tells_end, tells_piece}
 use Rattle.gixobj_hash.specs.Hash.Hex.{IsHexOf}
 use Rattle.gixobj_hash.specs.declared.hash.kind.Kind.{Kind}
-use Rattle.gixobj_commit.specs.Commit.{AreHeaderTexts, CommitLines, IsCommitText, IsEncoding, encoding_lines, encoding_text, lines_of, parent_text}
+use Rattle.gixobj_commit.specs.Commit.{AreHeaderTexts, CommitLines, IsCommitText, IsEncoding, encoding_lines, encoding_text, lines_of_commit, parent_text}
 use Rattle.gixobj_commit.specs.Lines.{HasLine, LineView, author_comes, author_line, committer_comes, committer_line, encoding_comes, encoding_line, first_header_comes, first_message_comes, header_comes, header_line, message_comes, message_line, parent_comes, parent_line, tree_comes, tree_line}
 use Rattle.gixobj_actor.specs.Actor.{NamesActor}
 use Rattle.gixobj_commit.specs.declared.lines.State.TheVariants as state
@@ -70,7 +70,7 @@ grouped tree author committer headers message parents encoding = simp append_ass
 actor_is_one_line : (line : List ℕ) → NamesActor line → IsFree 10 line
 actor_is_one_line line (name, email, time, is) = is.one_line
 
-pub text_told : (kind : Kind) (text : List ℕ) (commit : CommitLines) → IsCommitText kind text commit → Tells (HasLine kind) state.Tree text (lines_of commit) complete
+pub text_told : (kind : Kind) (text : List ℕ) (commit : CommitLines) → IsCommitText kind text commit → Tells (HasLine kind) state.Tree text (lines_of_commit commit) complete
 text_told kind text commit is =
     let behind = encoding_told kind commit.encoding is.headers_text commit.message commit.extra_headers is.encoding is.extra_headers in
     let committed = tells_piece state.Committer state.Encoding _ _ (committer_line commit.committer) _ complete (committer_comes _ commit.committer _ (field_there (codes "committer") commit.committer _ (actor_is_one_line commit.committer is.committer), is.committer)) behind in

@@ -15,7 +15,7 @@ use Rattle.gixobj_commit.specs.Lines.{HasLine, LineView, RefusesLine, author_com
 use Rattle.gixobj_commit.specs.declared.lines.State.{State}
 use Rattle.gixobj_commit.specs.declared.lines.State.TheVariants as state
 use Rattle.gixobj_commit.specs.ExtraHeaders.{signature_field}
-use Rattle.gixobj_commit.specs.Extracting.{IsNamedLine, RefusesSignature}
+use Rattle.gixobj_commit.specs.Extracting.{IsNamedLine, RefusesCommitSignature}
 
 -- the bytes of a line stand first in the input
 pub line_front : (kind : Kind) (before : State) (input : List ℕ) (line : LineView) (behind : State) (rest : List ℕ) → HasLine kind before input line behind rest → (one : List ℕ) × (input ≡ one ++ rest)
@@ -57,7 +57,7 @@ module _ (kind : Kind) (name text : List ℕ) (here : State) (rest : List ℕ) (
       (passes.0, tells_passed (HasLine kind) state.Tree here text rest passes.0 complete passes.1 tells, passes.2)
 
 module _ (kind : Kind) (text : List ℕ) (here : State) (rest : List ℕ) (passes : PassesNone (HasLine kind) (IsNamedLine (signature_field kind)) state.Tree text here rest) where
-  pub refused : (error : Error) → rest ≢ [] → RefusesLine kind here rest error → RefusesSignature kind text error
+  pub refused : (error : Error) → rest ≢ [] → RefusesLine kind here rest error → RefusesCommitSignature kind text error
   refused Malformed some none =
       let tells : Tells (HasLine kind) here rest [] broken = tells_error here rest some none in
       (passes.0, tells_passed (HasLine kind) state.Tree here text rest passes.0 broken passes.1 tells, passes.2)

@@ -10,57 +10,57 @@ use Rattle.gixobj_commit.proofs.OneLine.{line_shortens}
 use Rattle.gixobj_commit.specs.Lines.{WantsMemory}
 use Rattle.gixobj_commit.specs.declared.lines.State.{State}
 use Rattle.gixobj_commit.proofs.Tokens.{no_token_of_nothing, one_token, text_of_token}
-use Rattle.gixobj_commit.specs.CommitRuns.{Tells}
-use Rattle.gixobj_commit.specs.CommitTokens.{HasToken, IsTokenText, TokenView, token_view}
+use Rattle.gixobj_commit.specs.CommitRuns.{TellsCommit}
+use Rattle.gixobj_commit.specs.CommitTokens.{HasCommitToken, IsCommitTokenText, CommitTokenView, commit_token_view}
 use Rattle.gixobj_commit.specs.TokenFilters.{ReadsFirst, ReadsNone}
-use Rattle.gixobj_commit.specs.TokenGiving.{BorrowsValue, GivesToken, standing}
-use Rattle.gixobj_commit.specs.TokenPassing.{AreTokenTexts, FindsFault, FindsFirst, FindsNone, LacksAll}
+use Rattle.gixobj_commit.specs.TokenGiving.{BorrowsValue, GivesCommitToken, standing_in_commit}
+use Rattle.gixobj_commit.specs.TokenPassing.{AreCommitTokenTexts, FindsFault, FindsFirst, FindsNone, LacksAll}
 use Rattle.gixobj_commit.specs.declared.ref_iter.CommitRefIter.{CommitRefIter}
 use Rattle.gixobj_commit.specs.declared.ref_iter.Token.{Token}
 
-pub one_run : (kind : Kind) (before : State) (input : List ℕ) (a b : List TokenView) (e f : Ending) → Tells kind before input a e → Tells kind before input b f → (a ≡ b) × (e ≡ f)
-one_run kind = runs.one_run (HasToken kind) (one_token kind) (no_token_of_nothing kind)
+pub one_run : (kind : Kind) (before : State) (input : List ℕ) (a b : List CommitTokenView) (e f : Ending) → TellsCommit kind before input a e → TellsCommit kind before input b f → (a ≡ b) × (e ≡ f)
+one_run kind = runs.one_run (HasCommitToken kind) (one_token kind) (no_token_of_nothing kind)
 
-pub texts_of_run : (kind : Kind) (before : State) (input : List ℕ) (tokens : List TokenView) → Tells kind before input tokens complete → AreTokenTexts kind input tokens
-texts_of_run kind = runs.texts_of_run (HasToken kind) (IsTokenText kind) (text_of_token kind)
+pub texts_of_run : (kind : Kind) (before : State) (input : List ℕ) (tokens : List CommitTokenView) → TellsCommit kind before input tokens complete → AreCommitTokenTexts kind input tokens
+texts_of_run kind = runs.texts_of_run (HasCommitToken kind) (IsCommitTokenText kind) (text_of_token kind)
 
 -- ---- a reader that looks for a token
 
-pub shorter : (kind : Kind) (before : State) (input : List ℕ) (token : TokenView) (behind : State) (rest : List ℕ) → HasToken kind before input token behind rest → length rest < length input
+pub shorter : (kind : Kind) (before : State) (input : List ℕ) (token : CommitTokenView) (behind : State) (rest : List ℕ) → HasCommitToken kind before input token behind rest → length rest < length input
 shorter kind before input token behind rest (line, has, tells) = line_shortens kind before input line behind rest has
 
-pub no_longer : (kind : Kind) (before : State) (input : List ℕ) (token : TokenView) (behind : State) (rest : List ℕ) → HasToken kind before input token behind rest → length rest ≤ length input
+pub no_longer : (kind : Kind) (before : State) (input : List ℕ) (token : CommitTokenView) (behind : State) (rest : List ℕ) → HasCommitToken kind before input token behind rest → length rest ≤ length input
 no_longer kind before input token behind rest has = let less = shorter kind before input token behind rest has in omega (arith, less)
 
 -- the reader came from that one past tokens that are none such
-abbrev pub Seeks : (TokenView → Type 0) → CommitRefIter → CommitRefIter → Type 0
-Seeks = readers.Seeks standing HasToken (λ kind. WantsMemory) token_view BorrowsValue no_longer
+abbrev pub Seeks : (CommitTokenView → Type 0) → CommitRefIter → CommitRefIter → Type 0
+Seeks = readers.Seeks standing_in_commit HasCommitToken (λ kind. WantsMemory) commit_token_view BorrowsValue no_longer
 
-pub seeks_start : (Is : TokenView → Type 0) (reader : CommitRefIter) → Seeks Is reader reader
-seeks_start = readers.seeks_start standing HasToken (λ kind. WantsMemory) token_view BorrowsValue no_longer
+pub seeks_start : (Is : CommitTokenView → Type 0) (reader : CommitRefIter) → Seeks Is reader reader
+seeks_start = readers.seeks_start standing_in_commit HasCommitToken (λ kind. WantsMemory) commit_token_view BorrowsValue no_longer
 
-pub seeks_on : (Is : TokenView → Type 0) (reader at after : CommitRefIter) (item : Result Token Error) (token : Token) → Seeks Is reader at → GivesToken at (Some item) after → item ≡ Ok token
-    → ¬ Is (token_view token) → Seeks Is reader after
-seeks_on = readers.seeks_on standing HasToken (λ kind. WantsMemory) token_view BorrowsValue no_longer
+pub seeks_on : (Is : CommitTokenView → Type 0) (reader at after : CommitRefIter) (item : Result Token Error) (token : Token) → Seeks Is reader at → GivesCommitToken at (Some item) after → item ≡ Ok token
+    → ¬ Is (commit_token_view token) → Seeks Is reader after
+seeks_on = readers.seeks_on standing_in_commit HasCommitToken (λ kind. WantsMemory) commit_token_view BorrowsValue no_longer
 
-pub seeks_first : (Is : TokenView → Type 0) (reader at after : CommitRefIter) (item : Result Token Error) (token : Token) → Seeks Is reader at → GivesToken at (Some item) after → item ≡ Ok token → FindsFirst Is reader (token_view token)
-seeks_first = readers.seeks_first standing HasToken (λ kind. WantsMemory) token_view BorrowsValue no_longer
+pub seeks_first : (Is : CommitTokenView → Type 0) (reader at after : CommitRefIter) (item : Result Token Error) (token : Token) → Seeks Is reader at → GivesCommitToken at (Some item) after → item ≡ Ok token → FindsFirst Is reader (commit_token_view token)
+seeks_first = readers.seeks_first standing_in_commit HasCommitToken (λ kind. WantsMemory) commit_token_view BorrowsValue no_longer
 
-pub seeks_fault : (Is : TokenView → Type 0) (reader at after : CommitRefIter) (item : Result Token Error) (given error : Error) → given ≡ error → Seeks Is reader at → GivesToken at (Some item) after → item ≡ Err error → FindsFault Is reader given
-seeks_fault = readers.seeks_fault standing HasToken (λ kind. WantsMemory) token_view BorrowsValue no_longer
+pub seeks_fault : (Is : CommitTokenView → Type 0) (reader at after : CommitRefIter) (item : Result Token Error) (given error : Error) → given ≡ error → Seeks Is reader at → GivesCommitToken at (Some item) after → item ≡ Err error → FindsFault Is reader given
+seeks_fault = readers.seeks_fault standing_in_commit HasCommitToken (λ kind. WantsMemory) commit_token_view BorrowsValue no_longer
 
-pub seeks_error : (Is : TokenView → Type 0) (reader at after : CommitRefIter) (item : Result Token Error) (given error : Error) → given ≡ error → Seeks Is reader at → GivesToken at (Some item) after → item ≡ Err error → FindsNone Is reader given
-seeks_error = readers.seeks_error standing HasToken (λ kind. WantsMemory) token_view BorrowsValue no_longer
+pub seeks_error : (Is : CommitTokenView → Type 0) (reader at after : CommitRefIter) (item : Result Token Error) (given error : Error) → given ≡ error → Seeks Is reader at → GivesCommitToken at (Some item) after → item ≡ Err error → FindsNone Is reader given
+seeks_error = readers.seeks_error standing_in_commit HasCommitToken (λ kind. WantsMemory) commit_token_view BorrowsValue no_longer
 
-pub seeks_end : (Is : TokenView → Type 0) (reader at after : CommitRefIter) → Seeks Is reader at → GivesToken at None after → LacksAll Is reader complete
-seeks_end = readers.seeks_end standing HasToken (λ kind. WantsMemory) token_view BorrowsValue no_longer
+pub seeks_end : (Is : CommitTokenView → Type 0) (reader at after : CommitRefIter) → Seeks Is reader at → GivesCommitToken at None after → LacksAll Is reader complete
+seeks_end = readers.seeks_end standing_in_commit HasCommitToken (λ kind. WantsMemory) commit_token_view BorrowsValue no_longer
 
-pub reads_first : (Is This : TokenView → Type 0) (reader at after : CommitRefIter) (item : Result Token Error) (token : Token) → Seeks Is reader at → GivesToken at (Some item) after → item ≡ Ok token → This (token_view token)
+pub reads_first : (Is This : CommitTokenView → Type 0) (reader at after : CommitRefIter) (item : Result Token Error) (token : Token) → Seeks Is reader at → GivesCommitToken at (Some item) after → item ≡ Ok token → This (commit_token_view token)
     → ReadsFirst Is This reader after
-reads_first = readers.reads_first standing HasToken (λ kind. WantsMemory) token_view BorrowsValue no_longer
+reads_first = readers.reads_first standing_in_commit HasCommitToken (λ kind. WantsMemory) commit_token_view BorrowsValue no_longer
 
-pub reads_error : (Is : TokenView → Type 0) (reader at after : CommitRefIter) (item : Result Token Error) (error : Error) → Seeks Is reader at → GivesToken at (Some item) after → item ≡ Err error → ReadsNone Is reader after
-reads_error = readers.reads_error standing HasToken (λ kind. WantsMemory) token_view BorrowsValue no_longer
+pub reads_error : (Is : CommitTokenView → Type 0) (reader at after : CommitRefIter) (item : Result Token Error) (error : Error) → Seeks Is reader at → GivesCommitToken at (Some item) after → item ≡ Err error → ReadsNone Is reader after
+reads_error = readers.reads_error standing_in_commit HasCommitToken (λ kind. WantsMemory) commit_token_view BorrowsValue no_longer
 
-pub reads_end : (Is : TokenView → Type 0) (reader at after : CommitRefIter) → Seeks Is reader at → GivesToken at None after → ReadsNone Is reader after
-reads_end = readers.reads_end standing HasToken (λ kind. WantsMemory) token_view BorrowsValue no_longer
+pub reads_end : (Is : CommitTokenView → Type 0) (reader at after : CommitRefIter) → Seeks Is reader at → GivesCommitToken at None after → ReadsNone Is reader after
+reads_end = readers.reads_end standing_in_commit HasCommitToken (λ kind. WantsMemory) commit_token_view BorrowsValue no_longer

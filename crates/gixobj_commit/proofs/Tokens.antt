@@ -14,12 +14,12 @@ use Rattle.gixobj_hash.specs.declared.hash.kind.Kind.{Kind}
 use Rattle.gixobj_commit.proofs.OneLine.{no_line_of_nothing, one_line}
 use Rattle.gixobj_commit.specs.Lines.{HasLine, LineView, author_comes, committer_comes, encoding_comes, first_header_comes, first_message_comes, header_comes, message_comes, parent_comes, tree_comes}
 use Rattle.gixobj_commit.specs.declared.lines.State.{State}
-use Rattle.gixobj_commit.specs.CommitRuns.{Tells}
-use Rattle.gixobj_commit.specs.CommitTokens.{HasToken, IsTokenText, TellsLine, TokenView, author_token, committer_token, encoding_token, header_token, message_token, parent_token, tells_author, tells_committer, tells_encoding, tells_header, tells_message, tells_parent, tells_tree, tree_token}
+use Rattle.gixobj_commit.specs.CommitRuns.{TellsCommit}
+use Rattle.gixobj_commit.specs.CommitTokens.{HasCommitToken, IsCommitTokenText, TellsLine, CommitTokenView, author_token, committer_token, encoding_token, header_token, message_token, parent_token, tells_author, tells_committer, tells_encoding, tells_header, tells_message, tells_parent, tells_tree, tree_token}
 
 -- ---- one token at most
 
-one_of_line : (line : LineView) (a b : TokenView) → TellsLine line a → TellsLine line b → a ≡ b
+one_of_line : (line : LineView) (a b : CommitTokenView) → TellsLine line a → TellsLine line b → a ≡ b
 one_of_line line a b (tells_tree hex id is) (tells_tree _ id' is') = ap tree_token (one_id hex id is ∙ sym (one_id hex id' is'))
 one_of_line line a b (tells_parent hex id is) (tells_parent _ id' is') = ap parent_token (one_id hex id is ∙ sym (one_id hex id' is'))
 one_of_line line a b (tells_author text name email time is) (tells_author _ name' email' time' is') =
@@ -30,12 +30,12 @@ one_of_line line a b (tells_encoding encoding) (tells_encoding _) = refl
 one_of_line line a b (tells_header header) (tells_header _) = refl
 one_of_line line a b (tells_message message) (tells_message _) = refl
 
-pub one_token : (kind : Kind) (before : State) (input : List ℕ) (a b : TokenView) (s t : State) (x y : List ℕ) → HasToken kind before input a s x → HasToken kind before input b t y → (a ≡ b) × (s ≡ t) × (x ≡ y)
+pub one_token : (kind : Kind) (before : State) (input : List ℕ) (a b : CommitTokenView) (s t : State) (x y : List ℕ) → HasCommitToken kind before input a s x → HasCommitToken kind before input b t y → (a ≡ b) × (s ≡ t) × (x ≡ y)
 one_token kind before input a b s t x y (line, has, tells) (line', has', tells') =
     let same = one_line kind before input line line' s t x y has has' in
     (one_of_line line' a b (subst (λ (it : LineView). TellsLine it a) same.0 tells) tells', same.1, same.2)
 
-pub no_token_of_nothing : (kind : Kind) (before : State) (input : List ℕ) (token : TokenView) (behind : State) (rest : List ℕ) → input ≡ [] → HasToken kind before input token behind rest → ⊥
+pub no_token_of_nothing : (kind : Kind) (before : State) (input : List ℕ) (token : CommitTokenView) (behind : State) (rest : List ℕ) → input ≡ [] → HasCommitToken kind before input token behind rest → ⊥
 no_token_of_nothing kind before input token behind rest none (line, has, tells) = no_line_of_nothing kind before input line behind rest none has
 
 -- ---- the text of a token
@@ -55,14 +55,14 @@ text_of_line kind before input line behind rest (header_comes _ header _ has) = 
 text_of_line kind before input line behind rest (first_message_comes _ message is) = (input, sym (append-nil input), first_message_comes input message is)
 text_of_line kind before input line behind rest (message_comes _ message is) = (input, sym (append-nil input), message_comes input message is)
 
-pub text_of_token : (kind : Kind) (before : State) (input : List ℕ) (token : TokenView) (behind : State) (rest : List ℕ) → HasToken kind before input token behind rest
-    → (text : List ℕ) × (input ≡ text ++ rest) × IsTokenText kind token text
+pub text_of_token : (kind : Kind) (before : State) (input : List ℕ) (token : CommitTokenView) (behind : State) (rest : List ℕ) → HasCommitToken kind before input token behind rest
+    → (text : List ℕ) × (input ≡ text ++ rest) × IsCommitTokenText kind token text
 text_of_token kind before input token behind rest (line, has, tells) =
     let alone = text_of_line kind before input line behind rest has in (alone.0, alone.1, (before, behind, (line, alone.2, tells)))
 
 -- ---- lines are told as tokens
 
-token_of_line : (kind : Kind) (before : State) (input : List ℕ) (line : LineView) (behind : State) (rest : List ℕ) → HasLine kind before input line behind rest → (token : TokenView) × TellsLine line token
+token_of_line : (kind : Kind) (before : State) (input : List ℕ) (line : LineView) (behind : State) (rest : List ℕ) → HasLine kind before input line behind rest → (token : CommitTokenView) × TellsLine line token
 token_of_line kind before input line behind rest (tree_comes _ hex _ has) = (tree_token (spelled_id hex), tells_tree hex (spelled_id hex) (spelled hex (of_an_id kind hex has.1)))
 token_of_line kind before input line behind rest (parent_comes _ hex _ has) = (parent_token (spelled_id hex), tells_parent hex (spelled_id hex) (spelled hex (of_an_id kind hex has.1)))
 token_of_line kind before input line behind rest (author_comes _ actor _ (field, (name, email, time, is))) = (author_token name email time, tells_author actor name email time is)
@@ -74,14 +74,14 @@ token_of_line kind before input line behind rest (first_message_comes _ message 
 token_of_line kind before input line behind rest (message_comes _ message is) = (message_token message, tells_message message)
 
 pub tokens_of_lines : (kind : Kind) (before : State) (input : List ℕ) (lines : List LineView) → runs.Tells (HasLine kind) before input lines complete
-    → (tokens : List TokenView) × Tells kind before input tokens complete × AllZip TellsLine lines tokens
+    → (tokens : List CommitTokenView) × TellsCommit kind before input tokens complete × AllZip TellsLine lines tokens
 tokens_of_lines kind before input lines (tells_end _) = ([], tells_end before, tt)
 tokens_of_lines kind before input lines (tells_piece _ behind _ rest line others _ has told) =
     let first = token_of_line kind before input line behind rest has in
     let more = tokens_of_lines kind behind rest others told in
     (first.0 ∷ more.0, tells_piece before behind input rest first.0 more.0 complete (line, has, first.1) more.1, (first.1, more.2))
 
-pub lines_of_tokens : (kind : Kind) (before : State) (input : List ℕ) (tokens : List TokenView) → Tells kind before input tokens complete
+pub lines_of_tokens : (kind : Kind) (before : State) (input : List ℕ) (tokens : List CommitTokenView) → TellsCommit kind before input tokens complete
     → (lines : List LineView) × runs.Tells (HasLine kind) before input lines complete × AllZip TellsLine lines tokens
 lines_of_tokens kind before input tokens (tells_end _) = ([], tells_end before, tt)
 lines_of_tokens kind before input tokens (tells_piece _ behind _ rest token others _ (line, has, tells) told) =

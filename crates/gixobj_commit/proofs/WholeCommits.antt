@@ -16,7 +16,7 @@ use Rattle.gixobj_hash.specs.declared.hash.kind.Kind.{Kind}
 use Rattle.gixobj_commit.proofs.CommitsRead.{Reads, encoding_more, first_named, put_header, reads_from_start, reads_line, some_header}
 use Rattle.gixobj_commit.proofs.LinesTold.{text_told}
 use Rattle.gixobj_commit.proofs.OneLine.{no_line_of_nothing, one_line}
-use Rattle.gixobj_commit.specs.Commit.{CommitLines, IsCommitText, IsNoCommitText, ReachesHeader, ReachesSecondParent, RefusesCommit, encoding_lines, lines_of, parent_text}
+use Rattle.gixobj_commit.specs.Commit.{CommitLines, IsCommitText, IsNoCommitText, ReachesHeader, ReachesSecondParent, RefusesCommit, encoding_lines, lines_of_commit, parent_text}
 use Rattle.gixobj_commit.specs.Gathering.{Gathers, TakesMemory, gather, gathered, nothing}
 use Rattle.gixobj_commit.specs.Lines.{HasLine, LineView, MayFold, RefusesLine, author_comes, author_line, committer_comes, committer_line, encoding_comes, first_header_comes, first_message_comes, header_comes, header_line, message_comes, message_line, parent_comes, parent_line, tree_comes, tree_line}
 use Rattle.gixobj_hash.specs.Texts.{IsFree}
@@ -45,7 +45,7 @@ headers_gathered tree parents author committer encoding front [] rest = ap (λ (
 headers_gathered tree parents author committer encoding front (header ∷ headers) rest =
     headers_gathered tree parents author committer encoding (front ++ header ∷ []) headers rest ∙ ap (λ (it : List Header). gathered (made tree parents author committer encoding it []) rest) (append_assoc front (header ∷ []) headers)
 
-lines_gathered : (commit : CommitLines) → gathered nothing (lines_of commit) ≡ commit
+lines_gathered : (commit : CommitLines) → gathered nothing (lines_of_commit commit) ≡ commit
 lines_gathered commit =
     parents_gathered commit.tree [] commit.parents _ ∙ encoding_gathered commit.tree commit.parents commit.author commit.committer commit.encoding _
     ∙ headers_gathered commit.tree commit.parents commit.author commit.committer commit.encoding [] commit.extra_headers (message_line commit.message ∷ [])
@@ -54,7 +54,7 @@ lines_gathered commit =
 pub one_commit : (kind : Kind) (text : List ℕ) (a b : CommitLines) → IsCommitText kind text a → IsCommitText kind text b → a ≡ b
 one_commit kind text a b is is' =
     let told = text_told kind text a is in
-    let same = (one_run (HasLine kind) (one_line kind) (no_line_of_nothing kind) state.Tree text (lines_of a) (lines_of b) complete complete told (text_told kind text b is')).0 in
+    let same = (one_run (HasLine kind) (one_line kind) (no_line_of_nothing kind) state.Tree text (lines_of_commit a) (lines_of_commit b) complete complete told (text_told kind text b is')).0 in
     sym (lines_gathered a) ∙ ap (λ (it : List LineView). gathered nothing it) same ∙ lines_gathered b
 
 -- ---- where no line comes before the end, there is no commit
@@ -76,14 +76,14 @@ ends_behind_message kind before input (line ∷ lines) [] message behind rest (n
 ends_behind_message kind before input (line ∷ lines) (first ∷ front) message behind rest (next, after, has, more) is =
     let others : lines ≡ front ++ message_line message ∷ [] = cc is in ends_behind_message kind next after lines front message behind rest more others
 
-pub message_last : (commit : CommitLines) → (front : List LineView) × (lines_of commit ≡ front ++ message_line commit.message ∷ [])
+pub message_last : (commit : CommitLines) → (front : List LineView) × (lines_of_commit commit ≡ front ++ message_line commit.message ∷ [])
 message_last commit = (
   tree_line commit.tree ∷ (map parent_line commit.parents ++ (author_line commit.author ∷ committer_line commit.committer ∷ (encoding_lines commit.encoding ++ map header_line commit.extra_headers))),
   sym (simp append_assoc),
 )
 
 stops : (kind : Kind) (text : List ℕ) (lines others : List LineView) (behind : State) (rest : List ℕ) (commit : CommitLines) → Passes (HasLine kind) state.Tree text lines behind rest → HasNoPiece (HasLine kind) behind rest → behind ≢ state.End
-    → lines_of commit ≡ lines ++ others → Tells (HasLine kind) behind rest others complete → ⊥
+    → lines_of_commit commit ≡ lines ++ others → Tells (HasLine kind) behind rest others complete → ⊥
 stops kind text lines others behind rest commit passes none going is (tells_end _) =
     let last = message_last commit in
     going (ends_behind_message kind state.Tree text lines last.0 commit.message behind rest passes (sym (append-nil lines) ∙ sym is ∙ last.1))
@@ -91,7 +91,7 @@ stops kind text lines others behind rest commit passes none going is (tells_piec
 
 pub no_commit : (kind : Kind) (text : List ℕ) (lines : List LineView) (behind : State) (rest : List ℕ) → Passes (HasLine kind) state.Tree text lines behind rest → HasNoPiece (HasLine kind) behind rest → behind ≢ state.End → IsNoCommitText kind text
 no_commit kind text lines behind rest passes none going commit is =
-    let at = behind_passed (HasLine kind) (one_line kind) (no_line_of_nothing kind) state.Tree behind text rest lines (lines_of commit) complete passes (text_told kind text commit is) in
+    let at = behind_passed (HasLine kind) (one_line kind) (no_line_of_nothing kind) state.Tree behind text rest lines (lines_of_commit commit) complete passes (text_told kind text commit is) in
     stops kind text lines at.others behind rest commit passes none going at.joined at.told
 
 -- ---- where memory is taken

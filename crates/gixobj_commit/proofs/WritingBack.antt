@@ -10,7 +10,7 @@ use Rattle.gixobj_actor.specs.ActorWriting.{IsUnwritable}
 use Rattle.gixobj_hash.specs.Hash.{Spells, hex_text}
 use Rattle.gixobj_fields.specs.HeaderText.{Header}
 use Rattle.gixobj_fields.specs.Streams.{SinkView}
-use Rattle.gixobj_fields.specs.Writing.{Refused, SaysWhy, bad_name, empty_header, header_with_newline, illegal_actor, name_with_dash, name_with_zero_byte}
+use Rattle.gixobj_fields.specs.Writing.{Refused, RefusesWriting, bad_name, empty_header, header_with_newline, illegal_actor, name_with_dash, name_with_zero_byte}
 use Rattle.gixobj_hash.specs.declared.decode.Error.TheVariants.{Malformed}
 use Rattle.gixobj_fields.specs.declared.encode.Error.{Error}
 use Rattle.gixobj_fields.specs.declared.encode.Error.TheVariants as encode
@@ -18,10 +18,10 @@ use Rattle.gixobj_hash.specs.declared.hash.kind.Kind.{Kind}
 use Rattle.gixobj_hash.specs.declared.hash.object_id.ObjectId.{ObjectId}
 use Rattle.gixobj_hash.proofs.HexCase.{hex_in_lower_case}
 use Rattle.gixobj_commit.specs.Commit.{CommitLines, IsCommitText, IsEncoding}
-use Rattle.gixobj_commit.specs.CommitOwned.{IsOwnedForm, RefusesOwning}
-use Rattle.gixobj_commit.specs.CommitViews.{owned_lines}
-use Rattle.gixobj_commit.specs.CommitWriting.{RefusesEncoding, RefusesOwned, commit_text}
-use Rattle.gixobj_commit.specs.Rewriting.{AreOwnParts, HasEmptyEncoding, RefusesOwnForm}
+use Rattle.gixobj_commit.specs.CommitOwned.{IsOwnedFormOfCommit, RefusesOwningCommit}
+use Rattle.gixobj_commit.specs.CommitViews.{owned_commit_lines}
+use Rattle.gixobj_commit.specs.CommitWriting.{RefusesEncoding, RefusesOwnedCommit, commit_text}
+use Rattle.gixobj_commit.specs.Rewriting.{AreOwnPartsOfCommit, HasEmptyEncoding, RefusesOwnFormOfCommit}
 use Rattle.gixobj_commit.specs.declared.commit.Commit.{Commit}
 
 -- ---- the owned form
@@ -32,7 +32,7 @@ ids_in_lower_case [] (id ∷ ids) are = absurd are
 ids_in_lower_case (hex ∷ hexes) [] are = absurd are
 ids_in_lower_case (hex ∷ hexes) (id ∷ ids) are = let one = hex_in_lower_case hex id are.0 in let more = ids_in_lower_case hexes ids are.1 in cc (one, more)
 
-pub own_parts : (lines : CommitLines) (commit : Commit) → IsOwnedForm lines commit → AreOwnParts lines (owned_lines commit)
+pub own_parts : (lines : CommitLines) (commit : Commit) → IsOwnedFormOfCommit lines commit → AreOwnPartsOfCommit lines (owned_commit_lines commit)
 own_parts lines commit is =
     record {
       tree = hex_in_lower_case lines.tree commit.tree is.tree;
@@ -56,7 +56,7 @@ encoding_refused (Some encoding) headers value is (inr (has, is_newline)) = absu
 abbrev WhatIsRefused : CommitLines → Refused → Type 0
 WhatIsRefused lines value = ((value ≡ illegal_actor) × (IsUnwritable lines.author ⊎ IsUnwritable lines.committer)) ⊎ ((value ≡ empty_header) × HasEmptyEncoding lines)
 
-what_is_refused : (kind : Kind) (bytes : List ℕ) (lines : CommitLines) (commit : Commit) (value : Refused) (parts : List ℕ) → IsCommitText kind bytes lines → IsOwnedForm lines commit → RefusesOwned commit value parts → WhatIsRefused lines value
+what_is_refused : (kind : Kind) (bytes : List ℕ) (lines : CommitLines) (commit : Commit) (value : Refused) (parts : List ℕ) → IsCommitText kind bytes lines → IsOwnedFormOfCommit lines commit → RefusesOwnedCommit commit value parts → WhatIsRefused lines value
 what_is_refused kind bytes lines commit value parts read own (inl (illegal, is, before)) = inl (is, inl (unwritable lines.author commit.author own.author illegal))
 what_is_refused kind bytes lines commit value parts read own (inr (inl (legal, illegal, is, before))) = inl (is, inr (unwritable lines.committer commit.committer own.committer illegal))
 what_is_refused kind bytes lines commit value parts read own (inr (inr (legal, other, refused))) =
@@ -74,8 +74,8 @@ its_encoding : (lines : CommitLines) → WhatIsRefused lines empty_header → Ha
 its_encoding lines (inl (is, actor)) = cc
 its_encoding lines (inr (is, encoding)) = encoding
 
-pub own_refusal : (kind : Kind) (text : List ℕ) (lines : CommitLines) (commit : Commit) (before after : SinkView) (error : Error) → IsCommitText kind text lines → IsOwnedForm lines commit
-    → SaysWhy (RefusesOwned commit) before after (commit_text (owned_lines commit)) error → RefusesOwnForm lines before after (commit_text (owned_lines commit)) error
+pub own_refusal : (kind : Kind) (text : List ℕ) (lines : CommitLines) (commit : Commit) (before after : SinkView) (error : Error) → IsCommitText kind text lines → IsOwnedFormOfCommit lines commit
+    → RefusesWriting (RefusesOwnedCommit commit) before after (commit_text (owned_commit_lines commit)) error → RefusesOwnFormOfCommit lines before after (commit_text (owned_commit_lines commit)) error
 own_refusal kind text lines commit before after (encode.Writer cause) read own says = says
 own_refusal kind text lines commit before after encode.IllegalActor read own (parts, refused, puts) = its_actor lines (what_is_refused kind text lines commit illegal_actor parts read own refused)
 own_refusal kind text lines commit before after encode.EmptyValue read own (parts, refused, puts) = its_encoding lines (what_is_refused kind text lines commit empty_header parts read own refused)
@@ -93,6 +93,6 @@ own_refusal kind text lines commit before after encode.OutOfMemory read own (val
     no_other lines _ (what_is_refused kind text lines commit (name_with_zero_byte value) parts read own refused) (λ e. cc) (λ e. cc)
 
 -- the lines of a commit that was read are actors
-pub actors_read : (kind : Kind) (text : List ℕ) (lines : CommitLines) → IsCommitText kind text lines → RefusesOwning lines Malformed → ⊥
+pub actors_read : (kind : Kind) (text : List ℕ) (lines : CommitLines) → IsCommitText kind text lines → RefusesOwningCommit lines Malformed → ⊥
 actors_read kind text lines read (inl bad) = let (name, email, time, is) = read.author in bad name email time is
 actors_read kind text lines read (inr bad) = let (name, email, time, is) = read.committer in bad name email time is

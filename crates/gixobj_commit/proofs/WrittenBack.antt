@@ -11,7 +11,7 @@ use Rattle.gixobj_fields.proofs.FieldWrites.{holds_none}
 use Rattle.gixobj_fields.proofs.HeadersBack.{header_reads_back}
 use Rattle.gixobj_hash.proofs.HexCase.{lower_case_stays}
 use Rattle.gixobj_commit.specs.Commit.{AreHeaderTexts, CommitLines, IsCommitText, IsEncoding, encoding_text, parent_text}
-use Rattle.gixobj_commit.specs.CommitWriting.{RefusesEncoding, RefusesLines, commit_text, in_lower_case}
+use Rattle.gixobj_commit.specs.CommitWriting.{RefusesEncoding, RefusesCommitLines, commit_text, in_lower_case}
 use Rattle.gixobj_fields.specs.FieldWriting.{header_text}
 
 headers_read_back : (text : List ℕ) (headers : List Header) → AreHeaderTexts text headers → flat_map header_text headers ≡ text
@@ -53,5 +53,5 @@ encoding_not_refused (Some encoding) headers is some value (inr (has, same)) = h
 
 -- and nothing of it is refused but an empty encoding
 pub read_commit_not_refused : (kind : Kind) (text : List ℕ) (commit : CommitLines) → IsCommitText kind text commit → commit.encoding ≢ Some []
-    → RefusesNothing (RefusesLines (in_lower_case commit))
+    → RefusesNothing (RefusesCommitLines (in_lower_case commit))
 read_commit_not_refused kind text commit it some value parts refused = encoding_not_refused commit.encoding commit.extra_headers it.encoding some value refused.0

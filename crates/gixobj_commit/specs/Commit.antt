@@ -98,6 +98,6 @@ encoding_lines None = []
 encoding_lines (Some encoding) = encoding_line encoding ∷ []
 
 -- the lines of a commit, in order
-abbrev pub lines_of : CommitLines → List LineView
-lines_of commit = tree_line commit.tree ∷ (map parent_line commit.parents ++ (author_line commit.author ∷ committer_line commit.committer
+abbrev pub lines_of_commit : CommitLines → List LineView
+lines_of_commit commit = tree_line commit.tree ∷ (map parent_line commit.parents ++ (author_line commit.author ∷ committer_line commit.committer
     ∷ (encoding_lines commit.encoding ++ (map header_line commit.extra_headers ++ message_line commit.message ∷ []))))

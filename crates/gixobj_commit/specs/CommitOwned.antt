@@ -21,7 +21,7 @@ pub record IsTimeOfLine (line : List ℕ) (it : Time) : Type 0 where
   pub said : IsTimeOrDefault time it
 
 -- the commit with these lines, with parts of its own
-pub record IsOwnedForm (lines : CommitLines) (commit : Commit) : Type 0 where
+pub record IsOwnedFormOfCommit (lines : CommitLines) (commit : Commit) : Type 0 where
   pub tree : Spells lines.tree commit.tree
   pub parents : AllZip Spells lines.parents commit.parents.items
   pub author : IsOwnedActor lines.author commit.author
@@ -31,6 +31,6 @@ pub record IsOwnedForm (lines : CommitLines) (commit : Commit) : Type 0 where
   pub extra_headers : map owned_header_of commit.extra_headers.items ≡ lines.extra_headers
 
 -- why a commit gets no parts of its own: a line of an actor is none, or memory was wanting
-abbrev pub RefusesOwning : CommitLines → Error → Type 0
-RefusesOwning lines Malformed = IsNoActor lines.author ⊎ IsNoActor lines.committer
-RefusesOwning lines OutOfMemory = NamesActor lines.author × NamesActor lines.committer
+abbrev pub RefusesOwningCommit : CommitLines → Error → Type 0
+RefusesOwningCommit lines Malformed = IsNoActor lines.author ⊎ IsNoActor lines.committer
+RefusesOwningCommit lines OutOfMemory = NamesActor lines.author × NamesActor lines.committer

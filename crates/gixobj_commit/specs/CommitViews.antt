@@ -27,8 +27,8 @@ abbrev pub BorrowsLines : CommitRef → Type 0
 BorrowsLines commit = All (λ header. BorrowsOneLine header.1) commit.extra_headers.items
 
 -- what an owned commit holds: ids in lower case, actors and times as they are written
-abbrev pub owned_lines : Commit → CommitLines
-owned_lines commit = record {
+abbrev pub owned_commit_lines : Commit → CommitLines
+owned_commit_lines commit = record {
   tree = hex_text commit.tree;
   parents = map hex_text commit.parents.items;
   author = owned_text commit.author;

@@ -11,7 +11,7 @@ use Rattle.gixobj_fields.specs.FieldWriting.{RefusesValue, header_text}
 use Rattle.gixobj_fields.specs.HeaderText.{field_text}
 use Rattle.gixobj_fields.specs.Writing.{Refused, illegal_actor}
 use Rattle.gixobj_commit.specs.Commit.{CommitLines, before_encoding, encoding_text, ids_text, parent_text}
-use Rattle.gixobj_commit.specs.CommitViews.{owned_lines}
+use Rattle.gixobj_commit.specs.CommitViews.{owned_commit_lines}
 use Rattle.gixobj_commit.specs.declared.commit.Commit.{Commit}
 use Rattle.gixobj_hash.specs.Bytes.{newline, space}
 
@@ -60,15 +60,15 @@ abbrev pub RefusesEncodingLine : Option (List ℕ) → Refused → List ℕ → 
 RefusesEncodingLine encoding value parts = RefusesEncoding encoding value × (parts ≡ [])
 
 -- a borrowed commit is refused for its encoding alone
-abbrev pub RefusesLines : CommitLines → Refused → List ℕ → Type 0
-RefusesLines commit value parts = RefusesEncoding commit.encoding value × (parts ≡ before_encoding commit)
+abbrev pub RefusesCommitLines : CommitLines → Refused → List ℕ → Type 0
+RefusesCommitLines commit value parts = RefusesEncoding commit.encoding value × (parts ≡ before_encoding commit)
 
 -- an owned commit is refused for its author, or else its committer, or else its encoding
-abbrev pub RefusesOwned : Commit → Refused → List ℕ → Type 0
-RefusesOwned commit value parts =
-    (¬ (IsLegal commit.author) × (value ≡ illegal_actor) × (parts ≡ before_author (owned_lines commit)))
-    ⊎ ((IsLegal commit.author × ¬ (IsLegal commit.committer) × (value ≡ illegal_actor) × (parts ≡ before_committer (owned_lines commit)))
-    ⊎ (IsLegal commit.author × IsLegal commit.committer × RefusesLines (owned_lines commit) value parts))
+abbrev pub RefusesOwnedCommit : Commit → Refused → List ℕ → Type 0
+RefusesOwnedCommit commit value parts =
+    (¬ (IsLegal commit.author) × (value ≡ illegal_actor) × (parts ≡ before_author (owned_commit_lines commit)))
+    ⊎ ((IsLegal commit.author × ¬ (IsLegal commit.committer) × (value ≡ illegal_actor) × (parts ≡ before_committer (owned_commit_lines commit)))
+    ⊎ (IsLegal commit.author × IsLegal commit.committer × RefusesCommitLines (owned_commit_lines commit) value parts))
 
 -- the hex fields of a commit are ids
 pub record HasIds (commit : CommitLines) : Type 0 where

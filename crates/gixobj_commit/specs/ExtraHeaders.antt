@@ -45,17 +45,17 @@ abbrev pub LacksHeader : List ℕ → List Header → Type 0
 LacksHeader name headers = All (λ it. it.name ≢ name) headers
 
 -- the first header of this name has this value, and stands behind these others and before this rest
-abbrev pub HasFirst : List ℕ → List Header → List Header → BStr → List Header → Type 0
-HasFirst name headers others value rest = LacksHeader name others × (headers ≡ others ++ header_at name value ∷ rest)
+abbrev pub HasFirstHeader : List ℕ → List Header → List Header → BStr → List Header → Type 0
+HasFirstHeader name headers others value rest = LacksHeader name others × (headers ≡ others ++ header_at name value ∷ rest)
 
 -- the value of the first header of this name, or none where no header has it
 abbrev pub IsFirstValue : List ℕ → List Header → Option BStr → Type 0
-IsFirstValue name headers result = MatchOption result (LacksHeader name headers) (λ value. (others rest : List Header) × HasFirst name headers others value rest)
+IsFirstValue name headers result = MatchOption result (LacksHeader name headers) (λ value. (others rest : List Header) × HasFirstHeader name headers others value rest)
 
 -- the place from 0 of the first header of this name, or none where no header has it
 abbrev pub IsFirstPlace : List ℕ → List Header → Option ℕ → Type 0
 IsFirstPlace name headers result = MatchOption result (LacksHeader name headers)
-    (λ place. (others rest : List Header) × (value : BStr) × HasFirst name headers others value rest × (place ≡ length others))
+    (λ place. (others rest : List Header) × (value : BStr) × HasFirstHeader name headers others value rest × (place ≡ length others))
 
 -- the values of all headers of this name, in order
 abbrev pub values_named : List ℕ → List Header → List (List ℕ)
@@ -65,7 +65,7 @@ module _ {S : Type 0} (steps : S → Option (BStr × BStr) → S → Type 0) (na
   -- calls from one state to another gave these headers, and no more: the last is the first of this name, or they are all and none has it
   abbrev pub Gave : S → List (BStr × BStr) → Option BStr → S → Type 0
   Gave from given None to = YieldsThen steps from given None to × LacksHeader name (map pair_of given)
-  Gave from given (Some value) to = Yields steps from given to × (others : List Header) × HasFirst name (map pair_of given) others value []
+  Gave from given (Some value) to = Yields steps from given to × (others : List Header) × HasFirstHeader name (map pair_of given) others value []
 
   -- the next value of this name, or none where none comes
   abbrev pub GivesValue : S → Option BStr → S → Type 0

@@ -22,7 +22,7 @@ IsNamedLine name (header_line header) = header.name ≡ name
 IsNamedLine name _ = ⊥
 
 -- the first header with the name of signatures has this value, and all bytes but those of that header are these
-pub record HasSignature (kind : Kind) (text value signed : List ℕ) : Type 0 where
+pub record HasCommitSignature (kind : Kind) (text value signed : List ℕ) : Type 0 where
   pub before : State
   pub behind : State
   pub input : List ℕ
@@ -41,13 +41,13 @@ abbrev pub HasNoSignature : Kind → List ℕ → Type 0
 HasNoSignature kind text = runs.LacksAll (HasLine kind) (IsNamedLine (signature_field kind)) state.Tree text complete
 
 -- the signature that a text has with what it signs, or none
-abbrev pub GivesSignature : Kind → List ℕ → Option (CowSlice ℕ Global × SignedData) → Type 0
-GivesSignature kind text (Some it) = HasSignature kind text (cow_slice_items it.0) (signed_bytes it.1)
-GivesSignature kind text None = HasNoSignature kind text
+abbrev pub GivesSignatureOfCommit : Kind → List ℕ → Option (CowSlice ℕ Global × SignedData) → Type 0
+GivesSignatureOfCommit kind text (Some it) = HasCommitSignature kind text (cow_slice_items it.0) (signed_bytes it.1)
+GivesSignatureOfCommit kind text None = HasNoSignature kind text
 
 -- why no signature is told of: before any such header a line is broken, or wants memory
-abbrev pub RefusesSignature : Kind → List ℕ → Error → Type 0
-RefusesSignature kind text Malformed = runs.LacksAll (HasLine kind) (IsNamedLine (signature_field kind)) state.Tree text broken
-RefusesSignature kind text OutOfMemory =
+abbrev pub RefusesCommitSignature : Kind → List ℕ → Error → Type 0
+RefusesCommitSignature kind text Malformed = runs.LacksAll (HasLine kind) (IsNamedLine (signature_field kind)) state.Tree text broken
+RefusesCommitSignature kind text OutOfMemory =
     (before : State) × (input : List ℕ)
     × PassesNone (HasLine kind) (IsNamedLine (signature_field kind)) state.Tree text before input × WantsMemory before input

@@ -34,11 +34,11 @@ line_view (line.ExtraHeader header) = header_line (header_of header)
 line_view (line.Message message) = message_line (bstr_bytes message)
 
 -- the actor beside a line is the one that it names; a header of one line is borrowed
-abbrev pub IsParsed : Line → Type 0
-IsParsed (line.Author text actor) = IsActor (bstr_bytes text) (bstr_bytes actor.name) (bstr_bytes actor.email) (bstr_bytes actor.time)
-IsParsed (line.Committer text actor) = IsActor (bstr_bytes text) (bstr_bytes actor.name) (bstr_bytes actor.email) (bstr_bytes actor.time)
-IsParsed (line.ExtraHeader header) = BorrowsOneLine header.1
-IsParsed _ = ⊤
+abbrev pub IsParsedLine : Line → Type 0
+IsParsedLine (line.Author text actor) = IsActor (bstr_bytes text) (bstr_bytes actor.name) (bstr_bytes actor.email) (bstr_bytes actor.time)
+IsParsedLine (line.Committer text actor) = IsActor (bstr_bytes text) (bstr_bytes actor.name) (bstr_bytes actor.email) (bstr_bytes actor.time)
+IsParsedLine (line.ExtraHeader header) = BorrowsOneLine header.1
+IsParsedLine _ = ⊤
 
 -- the id of a line is the hex text of one
 abbrev pub HasHex : LineView → Type 0

@@ -4,10 +4,10 @@ use Rattle.std.specs.Iterator.{Count}
 use Rattle.bstr.specs.BStr.{bstr_bytes}
 use Rattle.gixobj_actor.specs.declared.actor.SignatureRef.{SignatureRef}
 use Rattle.gixobj_hash.specs.declared.hash.object_id.ObjectId.{ObjectId}
-use Rattle.gixobj_commit.specs.CommitTokens.{HasToken, TokenView, parent_token}
+use Rattle.gixobj_commit.specs.CommitTokens.{HasCommitToken, CommitTokenView, parent_token}
 use Rattle.gixobj_fields.specs.Readers as readers
 use Rattle.gixobj_commit.specs.Lines.{WantsMemory}
-use Rattle.gixobj_commit.specs.TokenGiving.{standing, tokens_left}
+use Rattle.gixobj_commit.specs.TokenGiving.{standing_in_commit, commit_tokens_left}
 use Rattle.gixobj_commit.specs.TokenPassing.{IsActorToken, IsActorTokenOf, IsParentToken}
 use Rattle.gixobj_commit.specs.declared.ref_iter.CommitRefIter.{CommitRefIter}
 use Rattle.gixobj_commit.specs.declared.ref_iter.filters.ParentIds.{ParentIds}
@@ -21,18 +21,18 @@ abbrev pub actors_reader : Signatures → CommitRefIter
 actors_reader it = it.tokens
 
 abbrev pub parents_left : ParentIds → Count
-parents_left it = tokens_left (parents_reader it)
+parents_left it = commit_tokens_left (parents_reader it)
 
 abbrev pub actors_left : Signatures → Count
-actors_left it = tokens_left (actors_reader it)
+actors_left it = commit_tokens_left (actors_reader it)
 
 -- past tokens that are none such the reader reads one that is this
-abbrev pub ReadsFirst : (TokenView → Type 0) → (TokenView → Type 0) → CommitRefIter → CommitRefIter → Type 0
-ReadsFirst = readers.ReadsFirst standing HasToken
+abbrev pub ReadsFirst : (CommitTokenView → Type 0) → (CommitTokenView → Type 0) → CommitRefIter → CommitRefIter → Type 0
+ReadsFirst = readers.ReadsFirst standing_in_commit HasCommitToken
 
 -- no such token comes to the end of the run, or before a header whose value wants memory, and the reader is at its end
-abbrev pub ReadsNone : (TokenView → Type 0) → CommitRefIter → CommitRefIter → Type 0
-ReadsNone = readers.ReadsNone standing HasToken (λ kind. WantsMemory)
+abbrev pub ReadsNone : (CommitTokenView → Type 0) → CommitRefIter → CommitRefIter → Type 0
+ReadsNone = readers.ReadsNone standing_in_commit HasCommitToken (λ kind. WantsMemory)
 
 -- the next parent, or none
 abbrev pub GivesParent : ParentIds → Option ObjectId → ParentIds → Type 0

@@ -8,58 +8,58 @@ use Rattle.gixobj_fields.specs.Runs as runs
 use Rattle.gixobj_fields.specs.Runs.{Ending, complete}
 use Rattle.gixobj_commit.specs.Lines.{WantsMemory}
 use Rattle.gixobj_commit.specs.declared.lines.State.TheVariants as state
-use Rattle.gixobj_commit.specs.CommitTokens.{HasToken, IsTokenText, TokenView, author_token, committer_token, message_token, parent_token}
-use Rattle.gixobj_commit.specs.TokenGiving.{standing}
+use Rattle.gixobj_commit.specs.CommitTokens.{HasCommitToken, IsCommitTokenText, CommitTokenView, author_token, committer_token, message_token, parent_token}
+use Rattle.gixobj_commit.specs.TokenGiving.{standing_in_commit}
 use Rattle.gixobj_commit.specs.declared.ref_iter.CommitRefIter.{CommitRefIter}
 
 -- the input is the join of a text for each token
-abbrev pub AreTokenTexts : Kind → List ℕ → List TokenView → Type 0
-AreTokenTexts kind input tokens = (texts : List (List ℕ)) × (input ≡ concat texts) × AllZip (IsTokenText kind) tokens texts
+abbrev pub AreCommitTokenTexts : Kind → List ℕ → List CommitTokenView → Type 0
+AreCommitTokenTexts kind input tokens = (texts : List (List ℕ)) × (input ≡ concat texts) × AllZip (IsCommitTokenText kind) tokens texts
 
 -- a reader that began before the tree of this text has gone past these tokens
-abbrev pub HasPassed : Kind → List ℕ → List TokenView → CommitRefIter → Type 0
-HasPassed kind text tokens reader =
-    runs.Passes (HasToken kind) state.Tree text tokens (standing reader).state (standing reader).bytes × ((standing reader).kind ≡ kind)
+abbrev pub HasPassedCommitTokens : Kind → List ℕ → List CommitTokenView → CommitRefIter → Type 0
+HasPassedCommitTokens kind text tokens reader =
+    runs.Passes (HasCommitToken kind) state.Tree text tokens (standing_in_commit reader).state (standing_in_commit reader).bytes × ((standing_in_commit reader).kind ≡ kind)
 
 -- past tokens that are none such, this one comes
-abbrev pub FindsFirst : (TokenView → Type 0) → CommitRefIter → TokenView → Type 0
-FindsFirst = readers.FindsFirst standing HasToken
+abbrev pub FindsFirst : (CommitTokenView → Type 0) → CommitRefIter → CommitTokenView → Type 0
+FindsFirst = readers.FindsFirst standing_in_commit HasCommitToken
 
 -- the whole run of the reader has no such token, and ends so
-abbrev pub LacksAll : (TokenView → Type 0) → CommitRefIter → Ending → Type 0
-LacksAll = readers.LacksAll standing HasToken
+abbrev pub LacksAll : (CommitTokenView → Type 0) → CommitRefIter → Ending → Type 0
+LacksAll = readers.LacksAll standing_in_commit HasCommitToken
 
 -- why no such token is found
-abbrev pub FindsNone : (TokenView → Type 0) → CommitRefIter → Error → Type 0
-FindsNone = readers.FindsNone standing HasToken (λ kind. WantsMemory)
+abbrev pub FindsNone : (CommitTokenView → Type 0) → CommitRefIter → Error → Type 0
+FindsNone = readers.FindsNone standing_in_commit HasCommitToken (λ kind. WantsMemory)
 
 -- why no such token is found, where the bytes may end without one
-abbrev pub FindsFault : (TokenView → Type 0) → CommitRefIter → Error → Type 0
-FindsFault = readers.FindsFault standing HasToken (λ kind. WantsMemory)
+abbrev pub FindsFault : (CommitTokenView → Type 0) → CommitRefIter → Error → Type 0
+FindsFault = readers.FindsFault standing_in_commit HasCommitToken (λ kind. WantsMemory)
 
-abbrev pub IsParentToken : TokenView → Type 0
+abbrev pub IsParentToken : CommitTokenView → Type 0
 IsParentToken (parent_token id) = ⊤
 IsParentToken _ = ⊥
 
-abbrev pub IsAuthorToken : TokenView → Type 0
+abbrev pub IsAuthorToken : CommitTokenView → Type 0
 IsAuthorToken (author_token name email time) = ⊤
 IsAuthorToken _ = ⊥
 
-abbrev pub IsCommitterToken : TokenView → Type 0
+abbrev pub IsCommitterToken : CommitTokenView → Type 0
 IsCommitterToken (committer_token name email time) = ⊤
 IsCommitterToken _ = ⊥
 
 -- an author or a committer
-abbrev pub IsActorToken : TokenView → Type 0
+abbrev pub IsActorToken : CommitTokenView → Type 0
 IsActorToken (author_token name email time) = ⊤
 IsActorToken (committer_token name email time) = ⊤
 IsActorToken _ = ⊥
 
 -- the token is an author or a committer of this name, email and time
-abbrev pub IsActorTokenOf : List ℕ → List ℕ → List ℕ → TokenView → Type 0
+abbrev pub IsActorTokenOf : List ℕ → List ℕ → List ℕ → CommitTokenView → Type 0
 IsActorTokenOf name email time token = (token ≡ author_token name email time) ⊎ (token ≡ committer_token name email time)
 
-abbrev pub IsMessageToken : TokenView → Type 0
+abbrev pub IsMessageToken : CommitTokenView → Type 0
 IsMessageToken (message_token message) = ⊤
 IsMessageToken _ = ⊥
 

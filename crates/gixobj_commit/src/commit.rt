@@ -7,7 +7,7 @@ ghost use Rattle.gixobj_hash.specs.Hash.{IsHexOfAnId, Spells, id_kind};
 ghost use Rattle.gixobj_fields.specs.HeaderReading.{owned_header_of};
 ghost use Rattle.gixobj_hash.specs.declared.decode.Error.TheVariants.{Malformed};
 ghost use Rattle.gixobj_commit.specs.ParentsLeft.{parents_left};
-ghost use Rattle.gixobj_commit.specs.CommitOwned.{IsOwnedForm, IsTimeOfLine, RefusesOwning};
+ghost use Rattle.gixobj_commit.specs.CommitOwned.{IsOwnedFormOfCommit, IsTimeOfLine, RefusesOwningCommit};
 ghost use Rattle.gixobj_commit.specs.CommitViews.{commit_lines};
 ghost use Rattle.gixobj_commit.specs.CommitWriting.{HasIds};
 ghost use Rattle.gixobj_commit.specs.ExtraHeaders.{hash_kind_of, iterator_of};
@@ -144,8 +144,8 @@ impl CommitRef<'_> {
     /// `OutOfMemory` where memory is wanting.
     pub fn into_owned(self, alloc: Global) -> Result<Commit, Error>
         requires { HasIds (commit_lines self) }
-        ensures owned { IfOk result (IsOwnedForm (commit_lines self.entry)) }
-        ensures refusal { IfErr result (RefusesOwning (commit_lines self.entry)) }
+        ensures owned { IfOk result (IsOwnedFormOfCommit (commit_lines self.entry)) }
+        ensures refusal { IfErr result (RefusesOwningCommit (commit_lines self.entry)) }
     {
         owned_copy(alloc, &self)
     }
@@ -153,8 +153,8 @@ impl CommitRef<'_> {
     /// What [`CommitRef::into_owned`] gives.
     pub fn to_owned(self, alloc: Global) -> Result<Commit, Error>
         requires { HasIds (commit_lines self) }
-        ensures owned { IfOk result (IsOwnedForm (commit_lines self.entry)) }
-        ensures refusal { IfErr result (RefusesOwning (commit_lines self.entry)) }
+        ensures owned { IfOk result (IsOwnedFormOfCommit (commit_lines self.entry)) }
+        ensures refusal { IfErr result (RefusesOwningCommit (commit_lines self.entry)) }
     {
         self.into_owned(alloc)
     }
@@ -174,8 +174,8 @@ impl Commit {
 /// What [`CommitRef::into_owned`] gives, of a commit that is only borrowed.
 pub fn owned_copy(alloc: Global, commit: &CommitRef<'_>) -> Result<Commit, Error>
     requires { HasIds (commit_lines commit.now) }
-    ensures owned { IfOk result (IsOwnedForm (commit_lines commit.now)) }
-    ensures refusal { IfErr result (RefusesOwning (commit_lines commit.now)) }
+    ensures owned { IfOk result (IsOwnedFormOfCommit (commit_lines commit.now)) }
+    ensures refusal { IfErr result (RefusesOwningCommit (commit_lines commit.now)) }
 {
     let author = actor_of_line(commit.author)?;
     let committer = actor_of_line(commit.committer)?;

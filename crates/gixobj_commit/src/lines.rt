@@ -3,7 +3,7 @@ ghost use Rattle.std.specs.Prelude.{◌≡◌, ◌≢◌, ◌∷◌, ℕ, List, 
 ghost use Rattle.bstr.specs.BStr.{bstr_bytes};
 ghost use Rattle.gixobj_actor.specs.Actor.{IsActor};
 ghost use Rattle.gixobj_hash.specs.declared.hash.kind.Kind.{Kind};
-ghost use Rattle.gixobj_commit.specs.Lines.{HasActor, HasLine, HasNoActor, IsParsed, RefusesLine, line_view};
+ghost use Rattle.gixobj_commit.specs.Lines.{HasActor, HasLine, HasNoActor, IsParsedLine, RefusesLine, line_view};
 ghost use Rattle.gixobj_commit.specs.declared.lines.State.TheVariants as state;
 ghost use Rattle.gixobj_hash.specs.Bytes.{newline};
 
@@ -65,7 +65,7 @@ pub fn read_line(
     input: &[u8],
 ) -> Result<(Line<'_>, State, &[u8]), Error>
     ensures found { IfOk result (λ it. HasLine kind before input.now (line_view it.0) it.1 it.2.now) }
-    ensures parsed { IfOk result (λ it. IsParsed it.0) }
+    ensures parsed { IfOk result (λ it. IsParsedLine it.0) }
     ensures refusal { IfErr result (RefusesLine kind before input.now) }
 {
     match before {
@@ -83,7 +83,7 @@ pub fn read_line(
 #[tactic(auto, using(crate::specs::Lines::tree_comes))]
 fn read_tree(kind: Kind, input: &[u8]) -> Result<(Line<'_>, State, &[u8]), Error>
     ensures found { IfOk result (λ it. HasLine kind state.Tree input.now (line_view it.0) it.1 it.2.now) }
-    ensures parsed { IfOk result (λ it. IsParsed it.0) }
+    ensures parsed { IfOk result (λ it. IsParsedLine it.0) }
     ensures refusal { IfErr result (RefusesLine kind state.Tree input.now) }
 {
     let Some((hex, rest)) = header_id(input, b"tree", kind) else {
@@ -97,7 +97,7 @@ fn read_tree(kind: Kind, input: &[u8]) -> Result<(Line<'_>, State, &[u8]), Error
 #[tactic(auto, using(crate::specs::Lines::parent_comes, crate::specs::Lines::author_comes))]
 fn read_parent_or_author(kind: Kind, input: &[u8]) -> Result<(Line<'_>, State, &[u8]), Error>
     ensures found { IfOk result (λ it. HasLine kind state.Parents input.now (line_view it.0) it.1 it.2.now) }
-    ensures parsed { IfOk result (λ it. IsParsed it.0) }
+    ensures parsed { IfOk result (λ it. IsParsedLine it.0) }
     ensures refusal { IfErr result (RefusesLine kind state.Parents input.now) }
 {
     if let Some((hex, rest)) = header_id(input, b"parent", kind) {
@@ -114,7 +114,7 @@ fn read_parent_or_author(kind: Kind, input: &[u8]) -> Result<(Line<'_>, State, &
 #[tactic(auto, using(crate::specs::Lines::committer_comes))]
 fn read_committer(input: &[u8]) -> Result<(Line<'_>, State, &[u8]), Error>
     ensures found { (kind : Kind) → IfOk result (λ it. HasLine kind state.Committer input.now (line_view it.0) it.1 it.2.now) }
-    ensures parsed { IfOk result (λ it. IsParsed it.0) }
+    ensures parsed { IfOk result (λ it. IsParsedLine it.0) }
     ensures refusal { (kind : Kind) → IfErr result (RefusesLine kind state.Committer input.now) }
 {
     let Some((line, actor, rest)) = actor_line(input, b"committer") else {
@@ -128,7 +128,7 @@ fn read_committer(input: &[u8]) -> Result<(Line<'_>, State, &[u8]), Error>
 #[tactic(auto, using(crate::specs::Lines::encoding_comes))]
 fn read_encoding_or_header(alloc: Global, input: &[u8]) -> Result<(Line<'_>, State, &[u8]), Error>
     ensures found { (kind : Kind) → IfOk result (λ it. HasLine kind state.Encoding input.now (line_view it.0) it.1 it.2.now) }
-    ensures parsed { IfOk result (λ it. IsParsed it.0) }
+    ensures parsed { IfOk result (λ it. IsParsedLine it.0) }
     ensures refusal { (kind : Kind) → IfErr result (RefusesLine kind state.Encoding input.now) }
 {
     let Some(_) = after_name(input, b"encoding") else {
@@ -149,7 +149,7 @@ fn read_encoding_or_header(alloc: Global, input: &[u8]) -> Result<(Line<'_>, Sta
 #[tactic(auto, using(crate::specs::Lines::header_comes, crate::specs::Lines::message_comes, crate::proofs::LineRefusals::refuses_header))]
 fn read_header_or_message(alloc: Global, input: &[u8]) -> Result<(Line<'_>, State, &[u8]), Error>
     ensures found { (kind : Kind) → IfOk result (λ it. HasLine kind state.ExtraHeaders input.now (line_view it.0) it.1 it.2.now) }
-    ensures parsed { IfOk result (λ it. IsParsed it.0) }
+    ensures parsed { IfOk result (λ it. IsParsedLine it.0) }
     ensures refusal { (kind : Kind) → IfErr result (RefusesLine kind state.ExtraHeaders input.now) }
 {
     if let Some(message) = after_newline(input) {

@@ -1,9 +1,9 @@
 //! Commits told token by token.
 ghost use Rattle.std.specs.Prelude.{◌≡◌, MatchOption, None, Some};
 ghost use Rattle.gixobj_hash.specs.Hash.Borrowed.{borrowed_id};
-ghost use Rattle.gixobj_commit.specs.Lines.{HasHex, IsParsed, line_view};
-ghost use Rattle.gixobj_commit.specs.CommitTokens.{TellsLine, token_view};
-ghost use Rattle.gixobj_commit.specs.TokenGiving.{BorrowsValue, GivesToken, IsAtStart, token_id, tokens_left};
+ghost use Rattle.gixobj_commit.specs.Lines.{HasHex, IsParsedLine, line_view};
+ghost use Rattle.gixobj_commit.specs.CommitTokens.{TellsLine, commit_token_view};
+ghost use Rattle.gixobj_commit.specs.TokenGiving.{BorrowsValue, GivesCommitToken, IsAtStartOfCommit, commit_token_id, commit_tokens_left};
 
 mod access;
 mod filters;
@@ -34,7 +34,7 @@ impl<'a> CommitRefIter<'a> {
     /// A reader of the commit with this text, whose ids are of this kind. It reads nothing yet, and
     /// takes no memory.
     pub fn from_bytes(alloc: Global, bytes: &'a [u8], hash_kind: Kind) -> CommitRefIter<'a>
-        ensures { IsAtStart hash_kind bytes.now result }
+        ensures { IsAtStartOfCommit hash_kind bytes.now result }
     {
         CommitRefIter {
             bytes,
@@ -52,9 +52,9 @@ impl<'a> CommitRefIter<'a> {
 impl<'a> Iterator for CommitRefIter<'a> {
     type Item = Result<Token<'a>, Error>;
 
-    ghost next_gives = { GivesToken };
+    ghost next_gives = { GivesCommitToken };
 
-    ghost remaining = { tokens_left };
+    ghost remaining = { commit_tokens_left };
 
     fn next(&mut self) -> Option<Result<Token<'a>, Error>> {
         if self.bytes.is_empty() {
@@ -110,9 +110,9 @@ impl<'a> Token<'a> {
     /// The token that tells the line. It takes no memory.
     #[tactic(auto, using(crate::specs::CommitTokens::tells_tree, crate::specs::CommitTokens::tells_parent, crate::specs::CommitTokens::tells_author, crate::specs::CommitTokens::tells_committer, crate::specs::CommitTokens::tells_encoding, crate::specs::CommitTokens::tells_header, crate::specs::CommitTokens::tells_message))]
     fn of_line(line: Line<'a>) -> Token<'a>
-        requires parsed { IsParsed line }
+        requires parsed { IsParsedLine line }
         requires ids { HasHex (line_view line) }
-        ensures told { TellsLine (line_view line.entry) (token_view result) }
+        ensures told { TellsLine (line_view line.entry) (commit_token_view result) }
         ensures borrowed { BorrowsValue result }
     {
         match line {
@@ -131,7 +131,7 @@ impl<'a> Token<'a> {
 impl<'a> Token<'a> {
     /// The id of a tree or a parent, borrowed.
     pub fn id(&self) -> Option<oid<'_>>
-        ensures { MatchOption result (token_id (token_view self.now) ≡ None) (λ id. token_id (token_view self.now) ≡ Some (borrowed_id id)) }
+        ensures { MatchOption result (commit_token_id (commit_token_view self.now) ≡ None) (λ id. commit_token_id (commit_token_view self.now) ≡ Some (borrowed_id id)) }
     {
         match self {
             Token::Tree { id } | Token::Parent { id } => Some(id.as_oid()),
@@ -141,7 +141,7 @@ impl<'a> Token<'a> {
 
     /// The id of a tree or a parent.
     pub fn try_into_id(self) -> Option<ObjectId>
-        ensures { result ≡ token_id (token_view self.entry) }
+        ensures { result ≡ commit_token_id (commit_token_view self.entry) }
     {
         match &self {
             Token::Tree { id } | Token::Parent { id } => Some(*id),

@@ -16,7 +16,7 @@ use Rattle.gixobj_files.proofs.Sublists.{all_both, all_weaker}
 use Rattle.gixobj_tree.specs.Entries.{ComesBefore, EachLater, EntryView, entry_key, key_of}
 use Rattle.gixobj_tree.specs.Mode.{is_tree_mode}
 use Rattle.gixobj_directories.specs.declared.open.Child.{Child}
-use Rattle.gixobj_directories.specs.Handing.{behind_next, child_side, next_child}
+use Rattle.gixobj_directories.specs.Handing.{pairs_behind_next, child_side, next_child}
 use Rattle.gixobj_directories.specs.Nested.{AreOrdered, IsLevel, Level, Opened, Part, at_side, below, length-under, opened, part, part_at, part_key, parts, under}
 use Rattle.gixobj_directories.proofs.Levels.{level_at_by}
 use Rattle.gixobj_directories.proofs.Ordered.{Before, differ, level_apart}
@@ -77,7 +77,7 @@ module _ (e : EntryView) (rest : List EntryView) (apart : AllByRecursion (λ y. 
   all_others p [] before other first above = tt
   all_others p (q ∷ qs) before other first above = (not_behind p q before.0 other first above.0, all_others p qs before.1 other first above.1)
 
-step : (node : Opened) (e : EntryView) (rest : List EntryView) (left : List Child) → Ahead node (e ∷ rest) left → Stepped node e rest (next_child e.name left) (behind_next e.name left)
+step : (node : Opened) (e : EntryView) (rest : List EntryView) (left : List Child) → Ahead node (e ∷ rest) left → Stepped node e rest (next_child e.name left) (pairs_behind_next e.name left)
 step node e rest [] a = record {
   here = λ side path. (a.same side).0 path;
   ahead = record { same = λ side. (a.same side).1; above = tt; ordered = tt; apart = a.apart.1; ascending = a.ascending.1; fewer = a.fewer };
@@ -112,7 +112,7 @@ step node e rest (c ∷ cs) a =
 
 -- at the place of an entry
 pub stepped : (node : Opened) (items : List EntryView) (i : ℕ) (e : EntryView) (left : List Child) → i < length items → e ≡ get_or items i e → Ahead node (drop i items) left
-    → Stepped node e (drop (i + 1) items) (next_child e.name left) (behind_next e.name left)
+    → Stepped node e (drop (i + 1) items) (next_child e.name left) (pairs_behind_next e.name left)
 stepped node items i e left low is a =
     let here : drop i items ≡ e ∷ drop (i + 1) items = rw add-one (drop-cons items i e low ∙ ap (λ x. x ∷ drop (suc i) items) (sym is)) in
     step node e (drop (i + 1) items) left (subst (λ es. Ahead node es left) here a)

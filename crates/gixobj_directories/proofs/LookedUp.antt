@@ -2,7 +2,7 @@
 use Rattle.std.proofs.Common.{◌≡◌, ◌++◌, ◌∷◌, ◌∙◌, ℕ, List, [], ap, arith, inl, inr, length, length-append, refl, subst, sym, true, false, None, Some}
 use Rattle.std.specs.Prelude.{All, Bool, IsFalse, MatchOption, Option, if◌then◌else◌}
 use Rattle.std.proofs.lemmas.List.Elements.{All-head, All-tail}
-use Rattle.gixobj_object.specs.Lookups.{HasFirst, IsPath, Name}
+use Rattle.gixobj_object.specs.Lookups.{HasFirstNamed, IsPath, Name}
 use Rattle.gixobj_object.specs.Stores.{Objects, StoredObject}
 use Rattle.gixobj_fields.specs.Runs as runs
 use Rattle.gixobj_fields.specs.Runs.{complete, tells_end, tells_piece}
@@ -32,7 +32,7 @@ passed_has kind text here rest entries (p ∷ passed) e (tells_piece _ _ _ behin
     let same = (one_entry kind text p x after behind other first).1 in
     inr (passed_has kind behind here rest more passed e on (subst (λ (at : List ℕ). runs.Passes (HasEntry kind) tt at passed tt here) same way) has)
 
-first_has : (kind : Kind) (text : List ℕ) (entries : List EntryView) (name : Name) (e : EntryView) → IsTreeText kind text entries → HasFirst kind text name e → Has entries e × (e.name ≡ name)
+first_has : (kind : Kind) (text : List ℕ) (entries : List EntryView) (name : Name) (e : EntryView) → IsTreeText kind text entries → HasFirstNamed kind text name e → Has entries e × (e.name ≡ name)
 first_has kind text entries name e is ((_, _, here, rest, (passed, on, none), has), said) = (passed_has kind text here rest entries passed e (told kind text entries is) on has, said)
 
 module _ (objects : Objects) (trees : Trees) (fits : AreTreesOf objects trees) (T : Table) (agrees : AgreesWithStore T trees) where

@@ -18,7 +18,7 @@ use Rattle.gixobj_directories.specs.Nested.{IsLevel, Opened, Part, dirs_of, in_p
 use Rattle.gixobj_files.specs.Halting.{Halts, at_once, in_vain}
 use Rattle.gixobj_files.specs.Halting as halting
 use Rattle.gixobj_files.specs.Opening.{Dirs, HasAt, IsOpened, in_dir}
-use Rattle.gixobj_files.specs.Tables.{IsEmptyId}
+use Rattle.gixobj_files.specs.Tables.{IsUnaskedId}
 use Rattle.gixobj_directories.specs.Openings.{EndsBefore}
 use Rattle.gixobj_directories.specs.declared.open.Child.{Child}
 use Rattle.gixobj_directories.specs.declared.opening.Unasked.{Unasked}
@@ -206,7 +206,7 @@ no_memory Ends trees name rest es cs level none e entry tree free = at_once name
 
 -- since the directory of the name wasn't found
 pub none_found : (Ends : EntryView → Type 0) (trees : Trees) (name : List ℕ) (rest : Path) (es : List EntryView) (cs : List Child) → IsLevel es (parts cs) → ((at : Path) → in_part name (parts cs) at ≡ None) → (e : EntryView) → IsEntryOf name (Some es) e → is_tree_mode e.mode ≡ true → (Ends e → ⊥)
-    → (IsEmptyId e.id → ⊥) → Halts Ends trees (name ∷ rest) (dirs_of (opened es [] (parts cs))) (dirs_of (opened es [] (parts cs))) (e.id ∷ []) (Some e.id)
+    → (IsUnaskedId e.id → ⊥) → Halts Ends trees (name ∷ rest) (dirs_of (opened es [] (parts cs))) (dirs_of (opened es [] (parts cs))) (e.id ∷ []) (Some e.id)
 none_found Ends trees name rest es cs level none e entry tree free filled = in_vain name rest (dirs_of (opened es [] (parts cs))) e entry tree free (λ at. at_name es [] (parts cs) name at (level_apart level) ∙ none at) filled
 
 -- and so does what open directories are

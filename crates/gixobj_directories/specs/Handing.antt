@@ -38,9 +38,9 @@ next_child name [] = None
 next_child name (c ∷ cs) = if same_name (bstring_bytes c.name) name then Some c else None
 
 -- and those without it
-abbrev pub behind_next : List ℕ → List Child → List Child
-behind_next name [] = []
-behind_next name (c ∷ cs) = if same_name (bstring_bytes c.name) name then cs else c ∷ cs
+abbrev pub pairs_behind_next : List ℕ → List Child → List Child
+pairs_behind_next name [] = []
+pairs_behind_next name (c ∷ cs) = if same_name (bstring_bytes c.name) name then cs else c ∷ cs
 
 -- one of the lists of what is open in a directory, where there is one
 abbrev pub child_side : (Level → List EntryView) → Option Child → Dirs

@@ -3,7 +3,7 @@ use Rattle.std.specs.Prelude.{◌≡◌, ◌++◌, ◌∷◌, ℕ, All, IsFalse,
 use Rattle.gixobj_object.specs.Lookups.{IsPath, Name}
 use Rattle.gixobj_object.specs.Stores.{Objects}
 use Rattle.gixobj_files.specs.Files.{Table, is_null, stands_for}
-use Rattle.gixobj_files.specs.Tables.{IsEmptyId}
+use Rattle.gixobj_files.specs.Tables.{IsUnaskedId}
 use Rattle.gixobj_hash.specs.declared.hash.kind.Kind.{Kind}
 use Rattle.gixobj_hash.specs.declared.kind.Kind.TheVariants.{Tree}
 use Rattle.gixobj_tree.specs.Entries.{EntryView}
@@ -13,7 +13,7 @@ use Rattle.gixobj_directories.specs.Openings.{NamesTree}
 -- the entry is a directory's: a tree's, by an id that names a well-formed one, and is neither null nor the empty tree's
 pub record IsDirectoryIn (objects : Objects) (e : EntryView) : Type 0 where
   pub tree : is_tree_mode e.mode ≡ true
-  pub sought : IsEmptyId e.id → ⊥
+  pub sought : IsUnaskedId e.id → ⊥
   pub entries : List EntryView
   pub named : NamesTree objects e.id entries
 

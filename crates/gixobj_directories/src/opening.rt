@@ -7,7 +7,7 @@ ghost use Rattle.gixobj_files.specs.Edits.{Finds, IsEntryOf, Opens, counted};
 ghost use Rattle.gixobj_files.specs.Files.{Has, Path, Trees};
 ghost use Rattle.gixobj_files.specs.Halting.{Halts};
 ghost use Rattle.gixobj_files.specs.Opening.{IsOpened};
-ghost use Rattle.gixobj_files.specs.Tables.{IsEmptyId};
+ghost use Rattle.gixobj_files.specs.Tables.{IsUnaskedId};
 ghost use Rattle.gixobj_hash.specs.declared.hash.object_id.ObjectId.{ObjectId};
 ghost use Rattle.gixobj_directories.specs.Calls.{names_of};
 ghost use Rattle.gixobj_files.specs.Bases.{opened_bases};
@@ -89,7 +89,7 @@ pub enum Unasked {
 impl Unasked {
     /// Whether an opening ends above a directory of this id.
     fn leaves(self, id: ObjectId) -> bool
-        ensures { IsTrue result ↔ ((self ≡ Left) × IsEmptyId id) }
+        ensures { IsTrue result ↔ ((self ≡ Left) × IsUnaskedId id) }
     {
         match self {
             Unasked::Opened => false,
@@ -100,7 +100,7 @@ impl Unasked {
 
 /// Whether the store isn't asked for an id: the null id, and that of the empty tree.
 fn is_unasked(id: ObjectId) -> bool
-    ensures { IsTrue result ↔ IsEmptyId id }
+    ensures { IsTrue result ↔ IsUnaskedId id }
 {
     id.is_null() || id.is_empty_tree()
 }
@@ -120,7 +120,7 @@ fn next_id(tree: &Tree, name: &BString, unasked: Unasked) -> Option<ObjectId>
 
 /// The tree that a store has by an id.
 fn find_directory<S: Find>(alloc: Global, store: &S, id: ObjectId) -> Result<Tree, Error>
-    requires { IsEmptyId id → ⊥ }
+    requires { IsUnaskedId id → ⊥ }
     ensures found { IfOk result (λ tree. NamesTree (S.objects store.now) id tree) }
     ensures refusal { IfErr result (RefusesDirectory (S.objects store.now) (S.may_fail store.now) id) }
 {
@@ -135,7 +135,7 @@ fn find_directory<S: Find>(alloc: Global, store: &S, id: ObjectId) -> Result<Tre
 
 /// The tree that a store has by an id, and a copy of it.
 fn find_copied<S: Find>(alloc: Global, store: &S, id: ObjectId) -> Result<(Tree, Tree), Error>
-    requires { IsEmptyId id → ⊥ }
+    requires { IsUnaskedId id → ⊥ }
     ensures found { IfOk result (λ it. NamesTree (S.objects store.now) id it.0) }
     ensures copied { IfOk result (λ it. it.1 ≡ it.0) }
     ensures refusal { IfErr result (RefusesDirectory (S.objects store.now) (S.may_fail store.now) id) }
@@ -156,7 +156,7 @@ fn load<S: Find>(
     ensures well_formed { IfOk result (λ it. IsWellFormed it.0) }
     ensures copied { IfOk result (λ it. it.1 ≡ it.0) }
     ensures found { IfOk result (λ it. (trees : Trees) → AreTreesOf (S.objects store.now) trees → (asked : List ObjectId) × Finds trees id it.0 asked × (lookups.new ≡ counted lookups.old asked)) }
-    ensures asked { OnErr result ((IsEmptyId id → ⊥) × (lookups.new ≡ counted lookups.old (id ∷ []))) }
+    ensures asked { OnErr result ((IsUnaskedId id → ⊥) × (lookups.new ≡ counted lookups.old (id ∷ []))) }
     ensures refusal { IfErr result (RefusesDirectory (S.objects store.now) (S.may_fail store.now) id) }
 {
     if is_unasked(id) {

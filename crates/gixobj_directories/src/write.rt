@@ -11,7 +11,7 @@ ghost use Rattle.gixobj_files.specs.HandingOut.{HandsOutSome, Leaves, Saves, ent
 ghost use Rattle.gixobj_files.specs.Opening.{in_path};
 ghost use Rattle.gixobj_files.specs.Tables.{Pair};
 ghost use Rattle.gixobj_directories.specs.Calls.{IsCallableOnTrees, IsStorable, names_of};
-ghost use Rattle.gixobj_directories.specs.Handing.{Stopped, Visits, behind_next, child_side, kept_with, next_child};
+ghost use Rattle.gixobj_directories.specs.Handing.{Stopped, Visits, pairs_behind_next, child_side, kept_with, next_child};
 ghost use Rattle.gixobj_directories.specs.Nested.{base_side, bases_of, dirs_of, entries_side, opened};
 ghost use Rattle.gixobj_directories.specs.OwnTrees.{IsBeside, so_far};
 
@@ -107,7 +107,7 @@ fn leaves<E, F: FnMut(&Tree) -> Result<ObjectId, E>>(
 /// They stand in the order of their entries, so none is sought.
 fn next_of<'a>(left: &'a [Child], entry: &Entry) -> (Option<&'a Child>, &'a [Child])
     ensures next { option_copied result.0 ≡ next_child entry.now.name left.now }
-    ensures behind { result.1.now ≡ behind_next entry.now.name left.now }
+    ensures behind { result.1.now ≡ pairs_behind_next entry.now.name left.now }
 {
     match left.split_first() {
         Some((child, behind)) if child.is_named(&entry.filename) => (Some(child), behind),

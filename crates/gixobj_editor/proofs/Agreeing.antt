@@ -6,7 +6,7 @@ use Rattle.gixobj_object.specs.Stores.{Objects, StoredObject, named}
 use Rattle.gixobj_directories.specs.Openings.{AreTreesOf, NamesTree}
 use Rattle.gixobj_files.proofs.ListedTables.{fitting_table}
 use Rattle.gixobj_files.specs.Files.{Table, Trees}
-use Rattle.gixobj_files.specs.Tables.{AgreesWithPairs, FitsBeside, IsEmptyId, Pair}
+use Rattle.gixobj_files.specs.Tables.{AgreesWithPairs, FitsBeside, IsUnaskedId, Pair}
 use Rattle.gixobj_hash.specs.declared.hash.object_id.ObjectId.{ObjectId}
 use Rattle.gixobj_find.specs.Keeping.{tree_object, with_tree, with_trees}
 use Rattle.gixobj_tree.specs.TreeReading.{IsTreeText}
@@ -33,7 +33,7 @@ module _ (T : Table) where
         let text = subst (λ (o : StoredObject). IsTreeText o.object_hash o.bytes entries) same names.0.3 in
         ap T.tree_at is ∙ has ∙ ap Some (sym (reads entries text names.1))
 
-    at_other : (it : ObjectId) (entries : List EntryView) → (IsEmptyId it → ⊥) → it ≢ pair.0 → NamesTree (with_tree pair objects) it entries → T.tree_at it ≡ Some entries
+    at_other : (it : ObjectId) (entries : List EntryView) → (IsUnaskedId it → ⊥) → it ≢ pair.0 → NamesTree (with_tree pair objects) it entries → T.tree_at it ≡ Some entries
     at_other it entries sought other names =
         agrees it entries sought ((names.0.0, sym (elsewhere objects pair.0 it kept_as other) ∙ names.0.1, names.0.2, names.0.3), names.1)
 

@@ -9,7 +9,7 @@ use Rattle.gixobj_directories.specs.declared.write.Written.{Written}
 use Rattle.gixobj_directories.specs.declared.write.WriteError.{WriteError}
 use Rattle.gixobj_directories.specs.declared.write.WriteError.TheVariants as write
 use Rattle.gixobj_editor.specs.Cursors.{IsWrittenBelow}
-use Rattle.gixobj_editor.specs.Writes.{IsWritten}
+use Rattle.gixobj_editor.specs.Writes.{IsWrittenEditor}
 use Rattle.gixobj_files.specs.Files.{Path}
 use Rattle.gixobj_files.specs.State.{State}
 use Rattle.gixobj_files.specs.Tables.{Pair}
@@ -47,8 +47,8 @@ module _ {F E : Type 0} (of : Shared F (Bor (List EntryView) × Unit {0}) (Resul
   pub callable : (pre : Bor F → Bor (List EntryView) → Type 0) → ((tree : Bor (List EntryView)) → IsStorable tree.now → pre out tree) → AreCalls → IsCallableOnTrees pre (λ f p g. CalledAt lent f p.1 (Ok p.0) g) out
   callable pre may calls = λ answered state folded tree storable. subst (λ (f : Bor F). pre f tree) (sym (folds out answered state refl folded calls).1) (may tree storable)
 
-  pub written : {S : Type 0} (old new : State S) (it : Written) → (last : Bor F) × IsWritten (λ f p g. CalledAt lent f p.1 (Ok p.0) g) out old it new last → AreCalls
-      → IsWritten (Gives answers) tt old it new tt
+  pub written : {S : Type 0} (old new : State S) (it : Written) → (last : Bor F) × IsWrittenEditor (λ f p g. CalledAt lent f p.1 (Ok p.0) g) out old it new last → AreCalls
+      → IsWrittenEditor (Gives answers) tt old it new tt
   written old new it (last, wrote) calls = record {
     handed_out = wrote.handed_out;
     called = (folds out it.trees.items last refl wrote.called calls).0;

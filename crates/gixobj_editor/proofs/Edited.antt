@@ -33,7 +33,7 @@ use Rattle.gixobj_files.specs.Bases.{AreOpenedOn, base_edited, base_opened, edit
 use Rattle.gixobj_files.proofs.Calls.{opened_based, upserted_based}
 use Rattle.gixobj_directories.specs.declared.opening.Error as directory
 use Rattle.gixobj_directories.specs.declared.opening.Error.TheVariants as opening
-use Rattle.gixobj_editor.specs.Upserts.{IsOpenedInPart, IsRefused, IsUpserted, RefusesName, RefusesNames, RefusesUpsert, directory_of, edit_refusal}
+use Rattle.gixobj_editor.specs.Upserts.{IsOpenedInPart, IsRefused, IsUpserted, RefusesEntryName, RefusesNames, RefusesUpsert, directory_of, edit_refusal}
 use Rattle.gixobj_editor.specs.declared.editor.error.Error.{Error}
 use Rattle.gixobj_editor.specs.declared.editor.error.Error.TheVariants as error
 use Rattle.gixobj_editor.proofs.InPart.{halted_in_part, none_in_part, opened_in_part}
@@ -170,7 +170,7 @@ nothing_upserted {S} trees old path none mode id all idle = subst (λ p. IsUpser
     }
 
 -- a name was refused
-pub no_other : (path : Path) (refusal : Error) → ((name : List ℕ) → RefusesName name refusal → ⊥) → RefusesNames path refusal → ⊥
+pub no_other : (path : Path) (refusal : Error) → ((name : List ℕ) → RefusesEntryName name refusal → ⊥) → RefusesNames path refusal → ⊥
 no_other [] refusal never h = h
 no_other (name ∷ path) refusal never (inl h) = never name h
 no_other (name ∷ path) refusal never (inr h) = no_other path refusal never h.1

@@ -15,7 +15,7 @@ use Rattle.gixobj_directories.specs.declared.write.Written.{Written}
 use Rattle.gixobj_editor.specs.Cursors.{IsAssured, IsWrittenBelow, prefix_of}
 use Rattle.gixobj_editor.specs.Removals.{IsRemoved}
 use Rattle.gixobj_editor.specs.Upserts.{IsRefused, IsUpserted, directory_of}
-use Rattle.gixobj_editor.specs.Writes.{IsWritten}
+use Rattle.gixobj_editor.specs.Writes.{IsWrittenEditor}
 use Rattle.gixobj_files.proofs.AssuredFiles.{opens_along}
 use Rattle.gixobj_files.proofs.Canonical.{IsBuilt, IsClean}
 use Rattle.gixobj_files.proofs.EditedFiles.{root_open, root_shut}
@@ -155,7 +155,7 @@ module _ (T : Table) (pairs : List Pair) (known : AgreesWithPairs T pairs) where
       (subst (λ (l : List EntryView). (at : Path) → open_dirs new at ≡ with_path prefix (only l) (open_dirs old) at) own h.dirs) h.bases in
       ((h.is_opened, left.0), subst AreBuilt (sym out.4) left.1)
 
-  pub plain_root : {S F : Type 0} (gave : F → Pair → F → Type 0) (asked answered : F) (old new : State S) (it : Written) → IsPlainState old → IsWritten gave asked old it new answered → Within it.trees.items → IsPlainState new × AreBuilt it.trees.items
+  pub plain_root : {S F : Type 0} (gave : F → Pair → F → Type 0) (asked answered : F) (old new : State S) (it : Written) → IsPlainState old → IsWrittenEditor gave asked old it new answered → Within it.trees.items → IsPlainState new × AreBuilt it.trees.items
   plain_root gave asked answered old new it holds h within =
       let out = h.handed_out in
       let own : h.own ≡ out.2 = last_own h.below (out.0) it.id (out.1) h.own (out.2) (sym h.last ∙ out.4) in

@@ -16,7 +16,7 @@ use Rattle.gixobj_files.specs.Opening.{Dirs}
 use Rattle.gixobj_files.proofs.Coming.{comes_open, open_comes, opens_longer}
 use Rattle.gixobj_files.proofs.Halted.{halted_at, halted_shut}
 use Rattle.gixobj_files.proofs.UnopenedCounts.{IsIdle}
-use Rattle.gixobj_editor.specs.Upserts.{IsJudged, IsOpenedInPart, RefusesName, RefusesNames, directory_of, edit_refusal}
+use Rattle.gixobj_editor.specs.Upserts.{IsJudged, IsOpenedInPart, RefusesEntryName, RefusesNames, directory_of, edit_refusal}
 use Rattle.gixobj_editor.specs.Removals.{Judges, RefusesRemoval}
 use Rattle.gixobj_editor.specs.declared.editor.error.Error.{Error}
 use Rattle.gixobj_editor.specs.declared.editor.error.Error.TheVariants as error
@@ -91,7 +91,7 @@ module _ {Ends : EntryView → Type 0} (idle : IsIdle Ends) (objects : Objects) 
 
   -- a name was refused
   first_refused : (path names : Path) (name : List ℕ) (rest : Path) → AreNames names → path ≡ names ++ name ∷ rest → (old new : Dirs) (asked : List ObjectId) → Opens Ends trees names old new asked → (entries : List EntryView) → new names ≡ Some entries
-      → (refusal : Error) → RefusesName name refusal → RefusesRemoval Ends objects may_fail trees old path refusal
+      → (refusal : Error) → RefusesEntryName name refusal → RefusesRemoval Ends objects may_fail trees old path refusal
   first_refused path names name rest good is old new asked opens entries there error.EmptyPathComponent h = (name, (names, rest, is, good, open_comes idle trees names old new asked opens entries there), h)
   first_refused path names name rest good is old new asked opens entries there error.SlashInPathComponent h = (name, (names, rest, is, good, open_comes idle trees names old new asked opens entries there), h)
   first_refused path names name rest good is old new asked opens entries there (error.FindExistingObject cause) h = absurd h

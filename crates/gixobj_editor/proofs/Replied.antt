@@ -20,7 +20,7 @@ use Rattle.gixobj_hash.specs.declared.hash.object_id.ObjectId.{ObjectId}
 use Rattle.gixobj_tree.specs.Mode.{mode_of_kind}
 use Rattle.gixobj_tree.specs.declared.tree.entry_kind.EntryKind.{EntryKind}
 use Rattle.gixobj_editor.specs.Commands.{Place, at_cursor, path_at}
-use Rattle.gixobj_editor.specs.Replies.{Answers, AreEditReplies, IsEditReply, IsRefusedEdit, IsReplyAt, IsRootSet, Meaning, RefusesAt, reply_to}
+use Rattle.gixobj_editor.specs.Replies.{Answers, AreEditReplies, IsEditReply, IsRefusedEdit, IsReplyAt, IsRootSet, Meaning, RefusesEditAt, reply_to}
 use Rattle.gixobj_editor.specs.RunTables.{OfTrees}
 use Rattle.gixobj_editor.specs.declared.reply.EditReply.{EditReply}
 use Rattle.gixobj_editor.specs.declared.reply.Reply.TheVariants as reply
@@ -35,13 +35,13 @@ module _ {S E : Type 0} (means : Meaning S) (answers : Answers E) (place : Place
   refused Refuses left refusal = subst (λ (l : List BString). IsRefusedEdit means (Refuses l) old (path_at place (names_of l)) new) is (record { left = left; refusal = refusal })
 
   abbrev Upserts : List BString → Error → Trees → Type 0
-  Upserts l error trees = RefusesAt place (names_of l) (RefusesUpsert (means.objects old.store) (means.may_fail old.store) trees (open_dirs old) (path_at place (names_of l))) error
+  Upserts l error trees = RefusesEditAt place (names_of l) (RefusesUpsert (means.objects old.store) (means.may_fail old.store) trees (open_dirs old) (path_at place (names_of l))) error
 
   abbrev Removes : List BString → Error → Trees → Type 0
-  Removes l error trees = RefusesAt place (names_of l) (RefusesRemoval IsNoTree (means.objects old.store) (means.may_fail old.store) trees (open_dirs old) (path_at place (names_of l))) error
+  Removes l error trees = RefusesEditAt place (names_of l) (RefusesRemoval IsNoTree (means.objects old.store) (means.may_fail old.store) trees (open_dirs old) (path_at place (names_of l))) error
 
   abbrev RemovesLeaf : List BString → Error → Trees → Type 0
-  RemovesLeaf l error trees = RefusesAt place (names_of l) (RefusesLeafRemoval (means.objects old.store) (means.may_fail old.store) trees (open_dirs old) (path_at place (names_of l))) error
+  RemovesLeaf l error trees = RefusesEditAt place (names_of l) (RefusesLeafRemoval (means.objects old.store) (means.may_fail old.store) trees (open_dirs old) (path_at place (names_of l))) error
 
   pub upsert_replied : (kind : EntryKind) (id : ObjectId) (done : Result (Unit {0}) Error)
       → OnOk done (Of (λ trees. IsUpserted trees old (path_at place (names_of lent)) (mode_of_kind kind) id new))

@@ -18,7 +18,7 @@ use Rattle.gixobj_directories.specs.Nested.{Opened, bases_of, dirs_of, opened}
 use Rattle.gixobj_directories.proofs.OpeningSteps.{only_is}
 use Rattle.gixobj_directories.proofs.StorablePairs.{leaves_storable}
 use Rattle.gixobj_directories.specs.declared.write.Written.{Written}
-use Rattle.gixobj_editor.specs.Writes.{IsWritten}
+use Rattle.gixobj_editor.specs.Writes.{IsWrittenEditor}
 use Rattle.gixobj_editor.proofs.Edited.{EditedSo, OpenedOn, dirs_at, map_bases, map_dirs, on_map, only_edited_map, same_bases, same_dirs, state_of}
 use Rattle.gixobj_files.specs.Bases.{HasBases, base_edited}
 use Rattle.gixobj_files.specs.Edits.{only}
@@ -32,7 +32,7 @@ each_storable (first ∷ front) pair h k = (h.0, each_storable front pair h.1 k)
 
 module _ {S F : Type 0} (store : S) (hash : Kind) (prefix : Path) (gave : F → Pair → F → Type 0) where
   went_out : (ds : Opened) (n : ℕ) → OpenedOn ds → (it : Written) (below : List Pair) (own base : List EntryView) (asked answered : F) → Saves (dirs_of ds) (bases_of ds) below own it.saved → it.trees.items ≡ below ++ (it.id, own) ∷ []
-      → FoldsTo gave asked (below ++ (it.id, own) ∷ []) answered → IsStorable own → EditedSo ds (opened own base []) → IsWritten gave asked (state_of store hash prefix ds n) it (state_of store hash prefix (opened own base []) n) answered
+      → FoldsTo gave asked (below ++ (it.id, own) ∷ []) answered → IsStorable own → EditedSo ds (opened own base []) → IsWrittenEditor gave asked (state_of store hash prefix ds n) it (state_of store hash prefix (opened own base []) n) answered
   went_out ds n was it below own base asked answered going is called storable left =
       let there : Leaves (map_dirs ds) (map_bases ds) below own going.0 = subst (λ (b : Dirs). Leaves (map_dirs ds) b below own going.0) (sym (same_bases ds)) (subst (λ (d : Dirs). Leaves d (bases_of ds) below own going.0) (sym (same_dirs ds)) going.1) in
       let on = on_map ds was in
@@ -58,8 +58,8 @@ module _ {S F : Type 0} (store : S) (hash : Kind) (prefix : Path) (gave : F → 
       }
 
   pub written_at : (ds ds' : Opened) (n : ℕ) (old : State S) → state_of store hash prefix ds n ≡ old → OpenedOn ds → (it : Written) (below : List Pair) (own base : List EntryView) (asked answered : F) → Saves (dirs_of ds) (bases_of ds) below own it.saved
-      → it.trees.items ≡ below ++ (it.id, own) ∷ [] → FoldsTo gave asked (below ++ (it.id, own) ∷ []) answered → IsStorable own → ds' ≡ opened own base [] → EditedSo ds ds' → IsWritten gave asked old it (state_of store hash prefix ds' n) answered
+      → it.trees.items ≡ below ++ (it.id, own) ∷ [] → FoldsTo gave asked (below ++ (it.id, own) ∷ []) answered → IsStorable own → ds' ≡ opened own base [] → EditedSo ds ds' → IsWrittenEditor gave asked old it (state_of store hash prefix ds' n) answered
   written_at ds ds' n old view was it below own base asked answered going is called storable left edited =
-      subst (λ (o : State S). IsWritten gave asked o it (state_of store hash prefix ds' n) answered) view
-      (subst (λ (d : Opened). IsWritten gave asked (state_of store hash prefix ds n) it (state_of store hash prefix d n) answered) (sym left)
+      subst (λ (o : State S). IsWrittenEditor gave asked o it (state_of store hash prefix ds' n) answered) view
+      (subst (λ (d : Opened). IsWrittenEditor gave asked (state_of store hash prefix ds n) it (state_of store hash prefix d n) answered) (sym left)
       (went_out ds n was it below own base asked answered going is called storable (subst (λ (d : Opened). EditedSo ds d) left edited)))

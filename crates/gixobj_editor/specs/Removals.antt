@@ -18,7 +18,7 @@ use Rattle.gixobj_hash.specs.declared.hash.object_id.ObjectId.{ObjectId}
 use Rattle.gixobj_hash.specs.Bytes.{slash}
 use Rattle.gixobj_tree.specs.Entries.{EntryView, IsEntryName}
 use Rattle.gixobj_tree.specs.Mode.{is_tree_mode}
-use Rattle.gixobj_editor.specs.Upserts.{RefusesName, directory_of}
+use Rattle.gixobj_editor.specs.Upserts.{RefusesEntryName, directory_of}
 use Rattle.gixobj_editor.specs.declared.editor.error.Error.{Error}
 use Rattle.gixobj_editor.specs.declared.editor.error.Error.TheVariants as error
 
@@ -28,7 +28,7 @@ Judges Ends trees dirs path name = (place rest : Path) × (path ≡ place ++ nam
 
 -- it comes to a name that no entry may have
 abbrev pub RefusesOne : (EntryView → Type 0) → Trees → Dirs → Path → Error → Type 0
-RefusesOne Ends trees dirs path refusal = (name : List ℕ) × Judges Ends trees dirs path name × RefusesName name refusal
+RefusesOne Ends trees dirs path refusal = (name : List ℕ) × Judges Ends trees dirs path name × RefusesEntryName name refusal
 
 -- it comes to a directory that isn't opened
 abbrev pub RefusesOnTheWay : Objects → (ObjectId → Bool) → Trees → Dirs → Path → directory.Error → Type 0

@@ -13,7 +13,7 @@ use Rattle.gixobj_directories.specs.declared.write.Written.{Written}
 use Rattle.gixobj_editor.specs.Cursors.{IsAssured, IsWrittenBelow, RefusesCursor, RefusesFromRoot, prefix_of}
 use Rattle.gixobj_editor.specs.Removals.{IsLeafRemoved, IsRemoved, RefusesLeafRemoval, RefusesRemoval}
 use Rattle.gixobj_editor.specs.Upserts.{IsForAName, IsRefused, IsUpserted, RefusesUpsert}
-use Rattle.gixobj_editor.specs.Writes.{IsWritten}
+use Rattle.gixobj_editor.specs.Writes.{IsWrittenEditor}
 use Rattle.gixobj_editor.specs.declared.editor.error.Error.{Error}
 use Rattle.gixobj_editor.specs.declared.editor.error.Error.TheVariants as editing
 use Rattle.gixobj_files.specs.Bases.{HasBases}
@@ -44,9 +44,9 @@ abbrev pub IsCallable : {F : Type 0} → (F → Bor (List EntryView) → Type 0)
 IsCallable pre out = (tree : Bor (List EntryView)) → IsStorable tree.now → pre out tree
 
 -- why an edit at the path is refused
-abbrev pub RefusesAt : Place → Path → (Error → Type 0) → Error → Type 0
-RefusesAt at_root path refuses error = refuses error
-RefusesAt (at_cursor prefix) path refuses error = RefusesFromRoot path refuses error
+abbrev pub RefusesEditAt : Place → Path → (Error → Type 0) → Error → Type 0
+RefusesEditAt at_root path refuses error = refuses error
+RefusesEditAt (at_cursor prefix) path refuses error = RefusesFromRoot path refuses error
 
 -- the open directories that a write hands out
 abbrev pub dirs_at : Place → Dirs → Dirs
@@ -78,7 +78,7 @@ pub record IsRefusedEdit {S : Type 0} (means : Meaning S) (Refuses : Trees → T
 
 -- a successful write
 abbrev pub IsWrittenAt : {S E : Type 0} → Answers E → Place → Written → State S → State S → Type 0
-IsWrittenAt answers at_root it old new = IsWritten (Gives answers) tt old it new tt
+IsWrittenAt answers at_root it old new = IsWrittenEditor (Gives answers) tt old it new tt
 IsWrittenAt answers (at_cursor prefix) it old new = IsWrittenBelow (Gives answers) tt old prefix it new tt
 
 -- a successful write, and then its trees were kept so in the store
@@ -110,14 +110,14 @@ module _ {S E : Type 0} (means : Meaning S) (answers : Answers E) where
   abbrev pub IsEditReply : Place → State S → Edit → EditReply E → State S → Type 0
   IsEditReply place old (edit.Upsert path kind id) edit_reply.Done new = OfTrees (means.objects old.store) (λ trees. IsUpserted trees old (path_at place (names_of path.items)) (mode_of_kind kind) id new)
   IsEditReply place old (edit.Upsert path kind id) (edit_reply.Refused error) new =
-      IsRefusedEdit means (λ trees. RefusesAt place (names_of path.items) (RefusesUpsert (means.objects old.store) (means.may_fail old.store) trees (open_dirs old) (path_at place (names_of path.items))) error) old (path_at place (names_of path.items)) new
+      IsRefusedEdit means (λ trees. RefusesEditAt place (names_of path.items) (RefusesUpsert (means.objects old.store) (means.may_fail old.store) trees (open_dirs old) (path_at place (names_of path.items))) error) old (path_at place (names_of path.items)) new
       × (IsForAName error → new ≡ old)
   IsEditReply place old (edit.Remove path) edit_reply.Done new = OfTrees (means.objects old.store) (λ trees. IsRemoved IsNoTree trees old (path_at place (names_of path.items)) new)
   IsEditReply place old (edit.Remove path) (edit_reply.Refused error) new =
-      IsRefusedEdit means (λ trees. RefusesAt place (names_of path.items) (RefusesRemoval IsNoTree (means.objects old.store) (means.may_fail old.store) trees (open_dirs old) (path_at place (names_of path.items))) error) old (path_at place (names_of path.items)) new
+      IsRefusedEdit means (λ trees. RefusesEditAt place (names_of path.items) (RefusesRemoval IsNoTree (means.objects old.store) (means.may_fail old.store) trees (open_dirs old) (path_at place (names_of path.items))) error) old (path_at place (names_of path.items)) new
   IsEditReply place old (edit.RemoveLeaf path) edit_reply.Done new = OfTrees (means.objects old.store) (λ trees. IsLeafRemoved trees old (path_at place (names_of path.items)) new)
   IsEditReply place old (edit.RemoveLeaf path) (edit_reply.Refused error) new =
-      IsRefusedEdit means (λ trees. RefusesAt place (names_of path.items) (RefusesLeafRemoval (means.objects old.store) (means.may_fail old.store) trees (open_dirs old) (path_at place (names_of path.items))) error) old (path_at place (names_of path.items)) new
+      IsRefusedEdit means (λ trees. RefusesEditAt place (names_of path.items) (RefusesLeafRemoval (means.objects old.store) (means.may_fail old.store) trees (open_dirs old) (path_at place (names_of path.items))) error) old (path_at place (names_of path.items)) new
   IsEditReply place old edit.Write (edit_reply.Written it) new = IsWriteKept means (IsWrittenAt answers place it old) (KeepsAll it.trees.items) old new
   IsEditReply place old edit.Write (edit_reply.NotKept it count error) new =
       IsWriteKept means (IsWrittenAt answers place it old) (λ before after. StopsKeeping (means.may_fail old.store) it.trees.items before after count error) old new

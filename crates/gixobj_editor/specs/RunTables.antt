@@ -3,7 +3,7 @@ use Rattle.std.specs.Prelude.{◌≡◌, ℕ, List, Some, take}
 use Rattle.gixobj_object.specs.Stores.{Objects}
 use Rattle.gixobj_directories.specs.Openings.{AreTreesOf, NamesTree}
 use Rattle.gixobj_files.specs.Files.{Table, Trees}
-use Rattle.gixobj_files.specs.Tables.{AgreesWithPairs, IsEmptyId, Pair}
+use Rattle.gixobj_files.specs.Tables.{AgreesWithPairs, IsUnaskedId, Pair}
 use Rattle.gixobj_hash.specs.Hash.{id_kind}
 use Rattle.gixobj_hash.specs.declared.hash.object_id.ObjectId.{ObjectId}
 use Rattle.gixobj_find.specs.Keeping.{with_trees}
@@ -19,7 +19,7 @@ OfTrees objects P = (trees : Trees) → AreTreesOf objects trees → P trees
 
 -- the table has the well-formed trees that ids name as objects, but for the ids that are never asked for
 abbrev pub AgreesWithObjects : Table → Objects → Type 0
-AgreesWithObjects T objects = (id : ObjectId) (entries : List EntryView) → (IsEmptyId id → ⊥) → NamesTree objects id entries → T.tree_at id ≡ Some entries
+AgreesWithObjects T objects = (id : ObjectId) (entries : List EntryView) → (IsUnaskedId id → ⊥) → NamesTree objects id entries → T.tree_at id ≡ Some entries
 
 -- the table has what a run's writes handed out, and agrees with the store that the run found, and with each that keeping one more
 -- tree made of it

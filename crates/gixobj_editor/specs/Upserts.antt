@@ -28,18 +28,18 @@ directory_of (name ∷ []) = []
 directory_of (name ∷ next ∷ rest) = name ∷ directory_of (next ∷ rest)
 
 -- a name that no entry may have
-abbrev pub RefusesName : List ℕ → Error → Type 0
-RefusesName name error.EmptyPathComponent = name ≡ []
-RefusesName name error.SlashInPathComponent = (name ≢ []) × Contains name slash
-RefusesName name (error.FindExistingObject cause) = ⊥
-RefusesName name (error.CannotRemoveNonLeaf path) = ⊥
-RefusesName name error.MalformedTree = ⊥
-RefusesName name error.OutOfMemory = ⊥
+abbrev pub RefusesEntryName : List ℕ → Error → Type 0
+RefusesEntryName name error.EmptyPathComponent = name ≡ []
+RefusesEntryName name error.SlashInPathComponent = (name ≢ []) × Contains name slash
+RefusesEntryName name (error.FindExistingObject cause) = ⊥
+RefusesEntryName name (error.CannotRemoveNonLeaf path) = ⊥
+RefusesEntryName name error.MalformedTree = ⊥
+RefusesEntryName name error.OutOfMemory = ⊥
 
 -- the first name that no entry may have decides
 abbrev pub RefusesNames : Path → Error → Type 0
 RefusesNames [] refusal = ⊥
-RefusesNames (name ∷ path) refusal = RefusesName name refusal ⊎ (IsEntryName name × RefusesNames path refusal)
+RefusesNames (name ∷ path) refusal = RefusesEntryName name refusal ⊎ (IsEntryName name × RefusesNames path refusal)
 
 -- if there is a first name, no entry may have it
 abbrev pub StartsRefused : Path → Type 0

@@ -12,7 +12,7 @@ use Rattle.gixobj_tree.specs.Entries.{EntryView}
 
 -- a write that came through: its pairs went out, the root's own last, and the closure was called on these trees alone, in this order;
 -- the root alone is open, with the tree handed out last; the tree that is named has the editor's files, which stay
-pub record IsWritten {S F : Type 0} (gave : F → Pair → F → Type 0) (asked : F) (old : State S) (it : Written) (new : State S) (answered : F) : Type 0 where
+pub record IsWrittenEditor {S F : Type 0} (gave : F → Pair → F → Type 0) (asked : F) (old : State S) (it : Written) (new : State S) (answered : F) : Type 0 where
   pub handed_out : HandsOut (open_dirs old) (open_bases old) it.saved it.trees.items
   pub called : FoldsTo gave asked it.trees.items answered
   pub storable : All (λ pair. IsStorable pair.1) it.trees.items

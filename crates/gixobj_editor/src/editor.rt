@@ -16,7 +16,7 @@ ghost use Rattle.gixobj_files.specs.State.{EditorFiles, open_bases, open_dirs, r
 ghost use Rattle.gixobj_files.specs.HandingOut.{HandsOutSome};
 ghost use Rattle.gixobj_directories.specs.Calls.{IsCallableOnTrees, names_of};
 ghost use Rattle.gixobj_directories.specs.Handing.{Stopped};
-ghost use Rattle.gixobj_editor.specs.Writes.{IsWritten};
+ghost use Rattle.gixobj_editor.specs.Writes.{IsWrittenEditor};
 ghost use Rattle.gixobj_directories.specs.Openings.{AreTreesOf};
 ghost use Rattle.gixobj_editor.specs.Upserts.{IsForAName, IsRefused, IsUpserted, RefusesUpsert};
 ghost use Rattle.gixobj_editor.specs.Removals.{IsLeafRemoved, IsRemoved, RefusesLeafRemoval, RefusesRemoval};
@@ -315,7 +315,7 @@ impl<S> Editor<S> {
         out: F,
     ) -> Result<Written, WriteError<E>>
         requires { IsCallableOnTrees F.pre (λ f p g. CalledAt F.FnMut f p.1 (Ok p.0) g) out }
-        ensures written { IfOk result (λ it. (last : F) × IsWritten (λ f p g. CalledAt F.FnMut f p.1 (Ok p.0) g) out self.old it self.new last) }
+        ensures written { IfOk result (λ it. (last : F) × IsWrittenEditor (λ f p g. CalledAt F.FnMut f p.1 (Ok p.0) g) out self.old it self.new last) }
         ensures stopped { IfErr result (λ error. (last : F) × Stopped (λ f p g. CalledAt F.FnMut f p.1 (Ok p.0) g) (λ f t e g. CalledAt F.FnMut f t (Err e) g) (HandsOutSome (open_dirs self.old) (open_bases self.old)) out last error) }
         ensures unchanged { OnErr result (self.new ≡ self.old) }
     {
@@ -342,7 +342,7 @@ impl<S> Editor<S> {
         out: &mut F,
     ) -> Result<Written, WriteError<E>>
         requires { IsCallableOnTrees F.pre (λ f p g. CalledAt F.FnMut f p.1 (Ok p.0) g) out.old }
-        ensures written { IfOk result (λ it. IsWritten (λ f p g. CalledAt F.FnMut f p.1 (Ok p.0) g) out.old self.old it self.new out.new) }
+        ensures written { IfOk result (λ it. IsWrittenEditor (λ f p g. CalledAt F.FnMut f p.1 (Ok p.0) g) out.old self.old it self.new out.new) }
         ensures stopped { IfErr result (Stopped (λ f p g. CalledAt F.FnMut f p.1 (Ok p.0) g) (λ f t e g. CalledAt F.FnMut f t (Err e) g) (HandsOutSome (open_dirs self.old) (open_bases self.old)) out.old out.new) }
         ensures unchanged { OnErr result (self.new ≡ self.old) }
     {

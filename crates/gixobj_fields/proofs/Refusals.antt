@@ -3,7 +3,7 @@ use Rattle.std.proofs.Common.{ℕ, List, ◌++◌, inl, inr}
 use Rattle.gixobj_fields.specs.Streams.{Puts, PutsFront, SinkView}
 use Rattle.gixobj_fields.specs.declared.encode.Error.{Error}
 use Rattle.gixobj_fields.specs.declared.encode.Error.TheVariants as error
-use Rattle.gixobj_fields.specs.Writing.{FailsAsSink, Refused, RefusesNothing, SaysWhy, StopsAt}
+use Rattle.gixobj_fields.specs.Writing.{FailsAsSink, Refused, RefusesNothing, RefusesWriting, StopsAt}
 use Rattle.gixobj_fields.proofs.Puts.{front_within, puts_more}
 
 stops_behind : (R Q : Refused → List ℕ → Type 0) (a b c : SinkView) (front : List ℕ) → Puts a b front
@@ -13,7 +13,7 @@ stops_behind R Q a b c front p step value s = (front ++ s.0, step value s.0 s.1,
 -- what an error says of a part behind a front, it says of the whole
 pub says_why_behind : (R Q : Refused → List ℕ → Type 0) (a b c : SinkView) (front part whole : List ℕ) → Puts a b front
     → ((value : Refused) (parts : List ℕ) → R value parts → Q value (front ++ parts)) → (PutsFront b c part → PutsFront a c whole)
-    → (e : Error) → SaysWhy R b c part e → SaysWhy Q a c whole e
+    → (e : Error) → RefusesWriting R b c part e → RefusesWriting Q a c whole e
 says_why_behind R Q a b c front part whole p step fails (error.Writer cause) s = fails s
 says_why_behind R Q a b c front part whole p step fails (error.NewlineInHeaderValue value) s = stops_behind R Q a b c front p step _ s
 says_why_behind R Q a b c front part whole p step fails error.EmptyValue s = stops_behind R Q a b c front p step _ s
@@ -26,12 +26,12 @@ says_why_behind R Q a b c front part whole p step fails error.OutOfMemory (value
 
 -- the same of a front, the part and what follows
 pub says_why_within : (R Q : Refused → List ℕ → Type 0) (a b c : SinkView) (front part rest : List ℕ) → Puts a b front
-    → ((value : Refused) (parts : List ℕ) → R value parts → Q value (front ++ parts)) → (e : Error) → SaysWhy R b c part e → SaysWhy Q a c (front ++ (part ++ rest)) e
+    → ((value : Refused) (parts : List ℕ) → R value parts → Q value (front ++ parts)) → (e : Error) → RefusesWriting R b c part e → RefusesWriting Q a c (front ++ (part ++ rest)) e
 says_why_within R Q a b c front part rest p step e s =
     says_why_behind R Q a b c front part (front ++ (part ++ rest)) p step (front_within a b c front part rest p) e s
 
 -- what an error says of a text, it says of a longer one
-pub says_why_longer : (R : Refused → List ℕ → Type 0) (a b : SinkView) (part whole : List ℕ) → (PutsFront a b part → PutsFront a b whole) → (e : Error) → SaysWhy R a b part e → SaysWhy R a b whole e
+pub says_why_longer : (R : Refused → List ℕ → Type 0) (a b : SinkView) (part whole : List ℕ) → (PutsFront a b part → PutsFront a b whole) → (e : Error) → RefusesWriting R a b part e → RefusesWriting R a b whole e
 says_why_longer R a b part whole fails (error.Writer cause) s = fails s
 says_why_longer R a b part whole fails (error.NewlineInHeaderValue value) s = s
 says_why_longer R a b part whole fails error.EmptyValue s = s
@@ -45,7 +45,7 @@ none_stops : (R : Refused → List ℕ → Type 0) (a b : SinkView) (value : Ref
 none_stops R a b value nothing s = nothing value s.0 s.1
 
 -- a writer that refuses nothing fails as its sink does
-pub fails_as_sink : (R : Refused → List ℕ → Type 0) (a b : SinkView) (text : List ℕ) (e : Error) → RefusesNothing R → SaysWhy R a b text e → FailsAsSink a b text e
+pub fails_as_sink : (R : Refused → List ℕ → Type 0) (a b : SinkView) (text : List ℕ) (e : Error) → RefusesNothing R → RefusesWriting R a b text e → FailsAsSink a b text e
 fails_as_sink R a b text (error.Writer cause) nothing s = s
 fails_as_sink R a b text (error.NewlineInHeaderValue value) nothing s = none_stops R a b _ nothing s
 fails_as_sink R a b text error.EmptyValue nothing s = none_stops R a b _ nothing s

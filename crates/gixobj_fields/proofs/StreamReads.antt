@@ -7,7 +7,7 @@ use Rattle.std.specs.Io.KnownBytes.{Consumes, IsAtEnd, Keeps}
 use Rattle.std.specs.declared.io.Error as io
 use Rattle.gixobj_hash.specs.Encode.{loose_header_text}
 use Rattle.gixobj_hash.specs.Hash.{digest_of, id_from, id_of}
-use Rattle.gixobj_hash.specs.Hash.Hasher.{Holds}
+use Rattle.gixobj_hash.specs.Hash.Hasher.{HoldsMessage}
 use Rattle.gixobj_hash.specs.declared.hash.hasher.Hasher.{Hasher}
 use Rattle.gixobj_hash.specs.declared.hash.kind.Kind.{Kind}
 use Rattle.gixobj_hash.specs.declared.hash.object_id.ObjectId.{ObjectId}
@@ -92,8 +92,8 @@ refused_behind may_fail may_fail' first now before here after len missing Unexpe
 
 -- the digest of the header and then of the content is the id
 pub id_of_content : (hash : Kind) (kind : object.Kind) (before after : Option (List ℕ)) (len : ℕ) (start end : Hasher) (id : ObjectId)
-    → Holds hash start (loose_header_text kind len) → (content : List ℕ) × ReadsExactly before after len content × AddsBytes start end content
-    → ((by : Kind) (message : List ℕ) → Holds by end message → id ≡ id_from by (digest_of by message)) → ReadsObject hash kind before after len id
+    → HoldsMessage hash start (loose_header_text kind len) → (content : List ℕ) × ReadsExactly before after len content × AddsBytes start end content
+    → ((by : Kind) (message : List ℕ) → HoldsMessage by end message → id ≡ id_from by (digest_of by message)) → ReadsObject hash kind before after len id
 id_of_content hash kind before after len start end id header (content, read, adds) digest =
     (content, read, rw read.counted (digest hash (loose_header_text kind len ++ content) (adds hash (loose_header_text kind len) header)))
 

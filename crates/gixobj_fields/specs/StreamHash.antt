@@ -2,7 +2,7 @@
 use Rattle.std.specs.Prelude.{◌≡◌, ◌<◌, ◌++◌, ℕ, List, Option, length}
 use Rattle.std.specs.Io.KnownBytes.{Consumes, IsAtEnd}
 use Rattle.gixobj_hash.specs.Hash.{id_of}
-use Rattle.gixobj_hash.specs.Hash.Hasher.{Holds}
+use Rattle.gixobj_hash.specs.Hash.Hasher.{HoldsMessage}
 use Rattle.gixobj_hash.specs.declared.hash.hasher.Hasher.{Hasher}
 use Rattle.gixobj_hash.specs.declared.hash.kind.Kind.{Kind}
 use Rattle.gixobj_hash.specs.declared.hash.object_id.ObjectId.{ObjectId}
@@ -27,7 +27,7 @@ pub record ReadsFront (before after : Option (List ℕ)) (count : ℕ) : Type 0 
 
 -- the digest in the making took these bytes behind its message
 abbrev pub AddsBytes : Hasher → Hasher → List ℕ → Type 0
-AddsBytes before after bytes = (kind : Kind) (message : List ℕ) → Holds kind before message → Holds kind after (message ++ bytes)
+AddsBytes before after bytes = (kind : Kind) (message : List ℕ) → HoldsMessage kind before message → HoldsMessage kind after (message ++ bytes)
 
 -- so many bytes were read, and the id is that of the object of this kind whose content they are
 abbrev pub ReadsObject : Kind → object.Kind → Option (List ℕ) → Option (List ℕ) → ℕ → ObjectId → Type 0

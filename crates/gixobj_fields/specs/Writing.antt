@@ -33,15 +33,15 @@ abbrev pub StopsAt : (Refused → List ℕ → Type 0) → SinkView → SinkView
 StopsAt Refuses before after value = (parts : List ℕ) × Refuses value parts × Puts before after parts
 
 -- what an error says of a writer of this text that refuses values so
-abbrev pub SaysWhy : (Refused → List ℕ → Type 0) → SinkView → SinkView → List ℕ → Error → Type 0
-SaysWhy Refuses before after text (error.Writer cause) = PutsFront before after text
-SaysWhy Refuses before after text (error.NewlineInHeaderValue value) = StopsAt Refuses before after (header_with_newline (bstring_bytes value))
-SaysWhy Refuses before after text error.EmptyValue = StopsAt Refuses before after empty_header
-SaysWhy Refuses before after text error.StartsWithDash = StopsAt Refuses before after name_with_dash
-SaysWhy Refuses before after text (error.InvalidRefName fault) = StopsAt Refuses before after (bad_name fault)
-SaysWhy Refuses before after text (error.NullbyteInFilename name) = StopsAt Refuses before after (name_with_zero_byte (bstring_bytes name))
-SaysWhy Refuses before after text error.IllegalActor = StopsAt Refuses before after illegal_actor
-SaysWhy Refuses before after text error.OutOfMemory =
+abbrev pub RefusesWriting : (Refused → List ℕ → Type 0) → SinkView → SinkView → List ℕ → Error → Type 0
+RefusesWriting Refuses before after text (error.Writer cause) = PutsFront before after text
+RefusesWriting Refuses before after text (error.NewlineInHeaderValue value) = StopsAt Refuses before after (header_with_newline (bstring_bytes value))
+RefusesWriting Refuses before after text error.EmptyValue = StopsAt Refuses before after empty_header
+RefusesWriting Refuses before after text error.StartsWithDash = StopsAt Refuses before after name_with_dash
+RefusesWriting Refuses before after text (error.InvalidRefName fault) = StopsAt Refuses before after (bad_name fault)
+RefusesWriting Refuses before after text (error.NullbyteInFilename name) = StopsAt Refuses before after (name_with_zero_byte (bstring_bytes name))
+RefusesWriting Refuses before after text error.IllegalActor = StopsAt Refuses before after illegal_actor
+RefusesWriting Refuses before after text error.OutOfMemory =
     (value : List ℕ) × (StopsAt Refuses before after (header_with_newline value) ⊎ StopsAt Refuses before after (name_with_zero_byte value))
 
 -- the error is the sink's, which took a front of the text, but not all

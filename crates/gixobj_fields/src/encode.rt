@@ -7,7 +7,7 @@ ghost use Rattle.gixobj_hash.specs.Hash.{hex_text};
 ghost use Rattle.gixobj_fields.specs.FieldWriting.{IsLastLine, RefusesField, folded};
 ghost use Rattle.gixobj_fields.specs.HeaderText.{field_text};
 ghost use Rattle.gixobj_fields.specs.Streams.{Puts, PutsOrFails};
-ghost use Rattle.gixobj_fields.specs.Writing.{AddsSize, RefusesNothing, SaysWhy};
+ghost use Rattle.gixobj_fields.specs.Writing.{AddsSize, RefusesNothing, RefusesWriting};
 ghost use Rattle.gixobj_hash.specs.Bytes.{newline, space};
 
 use crate::streams::{Sink, put_parts};
@@ -158,7 +158,7 @@ pub fn header_field<S: Sink>(
 ) -> Result<(), Error>
     ensures written { OnOk result (Puts (S.view sink.old) (S.view sink.new) (field_text name.now value.now)) }
     ensures nothing_refused { OnOk result (RefusesNothing (RefusesField value.now)) }
-    ensures refusal { IfErr result (SaysWhy (RefusesField value.now) (S.view sink.old) (S.view sink.new) (field_text name.now value.now)) }
+    ensures refusal { IfErr result (RefusesWriting (RefusesField value.now) (S.view sink.old) (S.view sink.new) (field_text name.now value.now)) }
     ensures same_loan { S.loan sink.new ≡ S.loan sink.old }
 {
     if value.is_empty() {

@@ -2,7 +2,7 @@
 ghost use Rattle.std.specs.Prelude.{◌≡◌, ℕ, List};
 ghost use Rattle.gixobj_fields.specs.FieldWriting.{header_text};
 ghost use Rattle.gixobj_fields.specs.Streams.{SinkView};
-ghost use Rattle.gixobj_fields.specs.Writing.{FailsAsSink, RefusesNothing, SaysWhy};
+ghost use Rattle.gixobj_fields.specs.Writing.{FailsAsSink, RefusesNothing, RefusesWriting};
 ghost use Rattle.gixobj_fields.specs.declared.encode.Error.{Error};
 ghost use Rattle.gixobj_fields.specs.HeaderText.{HasField, HasHeader, Header, IsHeaderText};
 
@@ -25,5 +25,5 @@ pub fn header_reads_back()
 /// then a front of its text, but not all, has been put.
 pub fn writers_fail_as_their_sinks<T: WriteTo>(object: &T)
     ensures { (before after : SinkView) (error : Error) → RefusesNothing (T.refuses object.now) →
-        SaysWhy (T.refuses object.now) before after (T.text object.now) error → FailsAsSink before after (T.text object.now) error }
+        RefusesWriting (T.refuses object.now) before after (T.text object.now) error → FailsAsSink before after (T.text object.now) error }
 {}

@@ -4,7 +4,7 @@ ghost use Rattle.std.specs.Io.KnownBytes.{Appends};
 ghost use Rattle.std.specs.Option.{SomeIff};
 ghost use Rattle.gixobj_hash.specs.Encode.{loose_header_text};
 ghost use Rattle.gixobj_fields.specs.Streams.{Puts, list_view, writer_view};
-ghost use Rattle.gixobj_fields.specs.Writing.{IsSize, RefusesNothing, SaysWhy};
+ghost use Rattle.gixobj_fields.specs.Writing.{IsSize, RefusesNothing, RefusesWriting};
 
 use crate::encode;
 use crate::streams::{Sink, ToWrite};
@@ -44,7 +44,7 @@ pub trait WriteTo {
         requires { can_write self.now }
         ensures written { OnOk result (Puts (S.view sink.old) (S.view sink.new) (text self.now)) }
         ensures nothing_refused { OnOk result (RefusesNothing (refuses self.now)) }
-        ensures refusal { IfErr result (SaysWhy (refuses self.now) (S.view sink.old) (S.view sink.new) (text self.now)) }
+        ensures refusal { IfErr result (RefusesWriting (refuses self.now) (S.view sink.old) (S.view sink.new) (text self.now)) }
         ensures same_loan { S.loan sink.new ≡ S.loan sink.old };
 
     /// The kind of the object.
@@ -66,7 +66,7 @@ pub trait WriteTo {
         requires { can_write self.now }
         ensures written { OnOk result (Appends (W.contents out.old) (W.contents out.new) (text self.now)) }
         ensures nothing_refused { OnOk result (RefusesNothing (refuses self.now)) }
-        ensures refusal { IfErr result (SaysWhy (refuses self.now) (writer_view (W.contents out.old)) (writer_view (W.contents out.new)) (text self.now)) }
+        ensures refusal { IfErr result (RefusesWriting (refuses self.now) (writer_view (W.contents out.old)) (writer_view (W.contents out.new)) (text self.now)) }
     {
         self.write_into(alloc, &mut ToWrite(out))
     }
@@ -78,7 +78,7 @@ pub trait WriteTo {
         requires { can_write self.now }
         ensures written { OnOk result (out.new.items ≡ out.old.items ++ text self.now) }
         ensures nothing_refused { OnOk result (RefusesNothing (refuses self.now)) }
-        ensures refusal { IfErr result (SaysWhy (refuses self.now) (list_view out.old) (list_view out.new) (text self.now)) }
+        ensures refusal { IfErr result (RefusesWriting (refuses self.now) (list_view out.old) (list_view out.new) (text self.now)) }
     {
         self.write_into(alloc, out)
     }

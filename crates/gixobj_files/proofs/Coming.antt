@@ -3,11 +3,11 @@ use Rattle.std.proofs.Common.{◌≡◌, ◌≢◌, ◌⊎◌, inl, inr, ℕ, Li
 use Rattle.gixobj_tree.specs.Entries.{EntryView}
 use Rattle.gixobj_hash.specs.Hash.{id_kind}
 use Rattle.gixobj_hash.specs.declared.hash.object_id.ObjectId.{ObjectId}
-use Rattle.gixobj_files.specs.Edits.{Finds, IsUnasked, Opens, arrived, down, entry_at, entry_of, found, only, stops, with_dir}
+use Rattle.gixobj_files.specs.Edits.{Finds, IsUnasked, Opens, arrived, down, entry_at, first_entry_of, found, only, stops, with_dir}
 use Rattle.gixobj_files.specs.Files.{Path, Table, Trees}
 use Rattle.gixobj_files.specs.Halting.{ComesTo}
 use Rattle.gixobj_files.specs.Opening.{Dirs, HasAt, in_dir}
-use Rattle.gixobj_files.specs.Tables.{IsEmptyId}
+use Rattle.gixobj_files.specs.Tables.{IsUnaskedId}
 use Rattle.gixobj_files.specs.Unopened.{told_entry}
 use Rattle.gixobj_files.proofs.OpeningFiles.{inside_is, opens_root}
 use Rattle.gixobj_files.proofs.RemovedFiles.{IsBare, IsReached}
@@ -16,7 +16,7 @@ use Rattle.gixobj_files.proofs.UnopenedCounts.{IsIdle, entry_has, found_below, t
 -- where nothing is open there is no entry
 entry_nowhere : (path : Path) (dirs : Dirs) → ((at : Path) → dirs at ≡ None) → entry_at path dirs ≡ None
 entry_nowhere [] dirs none = refl
-entry_nowhere (name ∷ []) dirs none = ap (entry_of name) (none [])
+entry_nowhere (name ∷ []) dirs none = ap (first_entry_of name) (none [])
 entry_nowhere (name ∷ next ∷ rest) dirs none = entry_nowhere (next ∷ rest) (in_dir name dirs) (λ at. none (name ∷ at))
 
 -- below a name that isn't open
@@ -80,7 +80,7 @@ module _ {Ends : EntryView → Type 0} (idle : IsIdle Ends) (trees : Trees) wher
       inside (inr (inr (x, told, is_tree, is_free, known))) = inr (inr (x, sym (found_below trees name next rest d e entries first entry tree (none []) finds) ∙ told, is_tree, is_free, known))
 
   -- and it comes to each directory that it opened
-  finds_known : (it : ObjectId) (entries : List EntryView) (asks : List ObjectId) → Finds trees it entries asks → IsEmptyId it ⊎ ((es : List EntryView) × (trees it ≡ Some es))
+  finds_known : (it : ObjectId) (entries : List EntryView) (asks : List ObjectId) → Finds trees it entries asks → IsUnaskedId it ⊎ ((es : List EntryView) × (trees it ≡ Some es))
   finds_known it entries asks (formed, inl (empty, nothing, none)) = inl empty
   finds_known it entries asks (formed, inr (filled, named, asked)) = inr (entries, named)
 

@@ -4,7 +4,7 @@ use Rattle.std.specs.Prelude.{◌&&◌}
 use Rattle.gixobj_tree.specs.Entries.{EntryView}
 use Rattle.gixobj_tree.specs.Mode.{is_tree_mode}
 use Rattle.gixobj_hash.specs.declared.hash.object_id.ObjectId.{ObjectId}
-use Rattle.gixobj_files.specs.Edits.{Finds, IsEntryOf, Opens, arrived, down, entry_of, found, only, stops}
+use Rattle.gixobj_files.specs.Edits.{Finds, IsEntryOf, Opens, arrived, down, first_entry_of, found, only, stops}
 use Rattle.gixobj_files.specs.Files.{Path, Trees}
 use Rattle.gixobj_files.specs.Halting.{Halts, IsAbove, IsNextUnopened, IsShutAbove, IsUnopenedAbove, at_once, in_vain}
 use Rattle.gixobj_files.specs.Halting as halting
@@ -213,7 +213,7 @@ module _ (trees : Trees) where
       absurd (let bad : true ≡ false = sym unopened ∙ subst (λ n. is_unopened trees d (n ∷ more) ≡ false) same (unopened_nowhere trees name more d (λ e h n. idle e (other e h n)) none) in cc bad)
   opens_known idle path old new asked (down name behind d inner e entries asked_more has named is opens) first [] rest joined unopened entry told =
       let same = same_head name first _ _ joined in
-      absurd (let bad : true ≡ false = sym unopened ∙ subst (λ n. is_unopened trees d (n ∷ []) ≡ false) same (ap (λ o. is_shut o && is_sought_tree (entry_of name (d []))) is) in cc bad)
+      absurd (let bad : true ≡ false = sym unopened ∙ subst (λ n. is_unopened trees d (n ∷ []) ≡ false) same (ap (λ o. is_shut o && is_sought_tree (first_entry_of name (d []))) is) in cc bad)
   opens_known idle path old new asked (down name behind d inner e entries asked_more has named is opens) first (second ∷ more) rest joined unopened entry told =
       let same = same_head name first _ _ joined in
       let there : d (first ∷ []) ≡ Some entries = subst (λ n. d (n ∷ []) ≡ Some entries) same is in
@@ -222,8 +222,8 @@ module _ (trees : Trees) where
       (subst (λ n. told_entry trees (second ∷ more) (in_dir n d) ≡ Some entry) (sym same) (sym (told_open trees first second more d entries there) ∙ told))
   opens_known idle path old new asked (found name behind d inner e entries asks asked_more own tree free none finds opens) first [] rest joined unopened entry told =
       let same = same_head name first _ _ joined in
-      let here : entry_of name (d []) ≡ Some entry = subst (λ n. entry_of n (d []) ≡ Some entry) (sym same) told in
-      let it : e ≡ entry = told_one e entry (entry_of name (d [])) (the_entry name (d []) e own) here in
+      let here : first_entry_of name (d []) ≡ Some entry = subst (λ n. first_entry_of n (d []) ≡ Some entry) (sym same) told in
+      let it : e ≡ entry = told_one e entry (first_entry_of name (d [])) (the_entry name (d []) e own) here in
       let asked_for : is_sought e.id ≡ true = sym (unopened_here trees name d e own tree (none [])) ∙ subst (λ n. is_unopened trees d (n ∷ []) ≡ true) (sym same) unopened in
       (entries, ap (λ (x : EntryView). trees x.id) (sym it) ∙ known_one e.id entries asks finds asked_for)
   opens_known idle path old new asked (found name behind d inner e entries asks asked_more own tree free none finds opens) first (second ∷ more) rest joined unopened entry told =

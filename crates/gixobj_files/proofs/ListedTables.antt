@@ -12,7 +12,7 @@ use Rattle.gixobj_hash.specs.declared.hash.kind.Kind.TheVariants as hash
 use Rattle.gixobj_hash.specs.declared.hash.object_id.ObjectId.{ObjectId}
 use Rattle.gixobj_hash.specs.declared.kind.Kind.TheVariants.{Tree}
 use Rattle.gixobj_files.specs.Files.{Table, Trees, is_null}
-use Rattle.gixobj_files.specs.Tables.{AgreesWithPairs, AgreesWithStore, FitsBeside, IsEmptyId, IsFirst, IsOwnTable, IsTableOf, Pair}
+use Rattle.gixobj_files.specs.Tables.{AgreesWithPairs, AgreesWithStore, FitsBeside, IsUnaskedId, IsFirst, IsOwnTable, IsTableOf, Pair}
 use Rattle.gixobj_hash.proofs.SameIds.{same_ids}
 
 -- the ids of the empty tree, computed, aren't null
@@ -80,14 +80,14 @@ table_of pairs =
     (chosen_table choose, λ it some other. subst (IsFirst pairs it) (sym (chooses choose it some other)) (first_of pairs it).1)
 
 -- an id that is neither null nor an empty tree's
-filled_id : (it : ObjectId) → (IsEmptyId it → ⊥) → is_null it ≡ false
+filled_id : (it : ObjectId) → (IsUnaskedId it → ⊥) → is_null it ≡ false
 filled_id it sought = elim (is_null it) as (λ b. is_null it ≡ b → b ≡ false) [ true ↦ λ null. absurd (sought (inl null)) | false ↦ λ some. refl ] refl
 
 kind_of_empty : (hash : Kind) → id_kind (id_of hash Tree []) ≡ hash
 kind_of_empty hash.Sha1 = refl
 kind_of_empty hash.Sha256 = refl
 
-no_empty_id : (it : ObjectId) → (IsEmptyId it → ⊥) → IsFilled it
+no_empty_id : (it : ObjectId) → (IsUnaskedId it → ⊥) → IsFilled it
 no_empty_id it sought hash is = sought (inr (is ∙ ap (λ (h : Kind). id_of h Tree []) (sym (ap id_kind is ∙ kind_of_empty hash))))
 
 pub own_table : (trees : Trees) → (T : Table) × IsOwnTable T trees

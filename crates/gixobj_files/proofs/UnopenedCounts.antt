@@ -12,10 +12,10 @@ use Rattle.gixobj_hash.specs.declared.hash.object_id.ObjectId.{ObjectId}
 use Rattle.gixobj_hash.specs.declared.hash.object_id.ObjectId.TheVariants as id
 use Rattle.gixobj_hash.specs.declared.kind.Kind.TheVariants.{Tree}
 use Rattle.gixobj_files.specs.Editing.{same_name}
-use Rattle.gixobj_files.specs.Edits.{Finds, IsEntryOf, IsUnasked, Opens, arrived, down, entry_of, found, only, stops}
+use Rattle.gixobj_files.specs.Edits.{Finds, IsEntryOf, IsUnasked, Opens, arrived, down, first_entry_of, found, only, stops}
 use Rattle.gixobj_files.specs.Files.{Has, Path, Trees, is_null}
 use Rattle.gixobj_files.specs.Opening.{Dirs, HasAt, in_dir}
-use Rattle.gixobj_files.specs.Tables.{IsEmptyId}
+use Rattle.gixobj_files.specs.Tables.{IsUnaskedId}
 use Rattle.gixobj_files.specs.Unopened.{is_empty_tree_id, is_shut, is_sought, is_sought_tree, is_unopened, list_of, shut_or_open, strict_beginnings, told_entry, told_in, tree_of, unopened_count}
 
 -- which ids are asked for
@@ -23,13 +23,13 @@ empty_tree_id : (it : ObjectId) → is_empty_tree_id it ≡ true → it ≡ id_o
 empty_tree_id (id.Sha1 bytes) is = ap id.Sha1 ((bytes_decides bytes (id_bytes (id_of hash.Sha1 Tree []))).0 is)
 empty_tree_id (id.Sha256 bytes) is = ap id.Sha256 ((bytes_decides bytes (id_bytes (id_of hash.Sha256 Tree []))).0 is)
 
-pub sought_if : (it : ObjectId) → (IsEmptyId it → ⊥) → (is_null it ≡ false) × (is_empty_tree_id it ≡ false)
+pub sought_if : (it : ObjectId) → (IsUnaskedId it → ⊥) → (is_null it ≡ false) × (is_empty_tree_id it ≡ false)
 sought_if it filled = (
   elim (is_null it) as (λ b. is_null it ≡ b → b ≡ false) [ true ↦ λ is. absurd (filled (inl is)) | false ↦ λ is. refl ] refl,
   elim (is_empty_tree_id it) as (λ b. is_empty_tree_id it ≡ b → b ≡ false) [ true ↦ λ is. absurd (filled (inr (empty_tree_id it is))) | false ↦ λ is. refl ] refl,
 )
 
-pub sought : (it : ObjectId) → (IsEmptyId it → ⊥) → is_sought it ≡ true
+pub sought : (it : ObjectId) → (IsUnaskedId it → ⊥) → is_sought it ≡ true
 sought it filled = let both = sought_if it filled in rw (both.0, both.1) refl
 
 not_either : (x y : Bool) → (x ≡ true) ⊎ (y ≡ true) → (not x && not y) ≡ false
@@ -41,7 +41,7 @@ not_either false false (inr h) = absurd (cc h)
 is_empty_id : (it : ObjectId) → it ≡ id_of (id_kind it) Tree [] → is_empty_tree_id it ≡ true
 is_empty_id it is = (bytes_decides (id_bytes it) (id_bytes (id_of (id_kind it) Tree []))).1 (ap id_bytes is)
 
-pub unsought : (it : ObjectId) → IsEmptyId it → is_sought it ≡ false
+pub unsought : (it : ObjectId) → IsUnaskedId it → is_sought it ≡ false
 unsought it (inl null) = not_either (is_null it) (is_empty_tree_id it) (inl null)
 unsought it (inr is) = not_either (is_null it) (is_empty_tree_id it) (inr (is_empty_id it is))
 
@@ -66,11 +66,11 @@ find_none name (x ∷ xs) is e h named =
     here (inl same) other k = let yes : same_name x.name name ≡ true = (bytes_decides x.name name).1 (ap (λ (y : EntryView). y.name) same ∙ named) in let bad : true ≡ false = sym yes ∙ other in cc bad
     here (inr l) other k = k l
 
-pub entry_has : (name : List ℕ) (here : Option (List EntryView)) (e : EntryView) → entry_of name here ≡ Some e → HasAt here e × (e.name ≡ name)
+pub entry_has : (name : List ℕ) (here : Option (List EntryView)) (e : EntryView) → first_entry_of name here ≡ Some e → HasAt here e × (e.name ≡ name)
 entry_has name None e is = absurd (cc is)
 entry_has name (Some es) e is = find_has name es e is
 
-entry_none : (name : List ℕ) (here : Option (List EntryView)) → entry_of name here ≡ None → (e : EntryView) → HasAt here e → e.name ≡ name → ⊥
+entry_none : (name : List ℕ) (here : Option (List EntryView)) → first_entry_of name here ≡ None → (e : EntryView) → HasAt here e → e.name ≡ name → ⊥
 entry_none name None is e h named = h
 entry_none name (Some es) is e h named = find_none name es is e h named
 
@@ -78,10 +78,10 @@ pub found_or_none : (o : Option EntryView) → (o ≡ None) ⊎ ((e : EntryView)
 found_or_none None = inl refl
 found_or_none (Some e) = inr (e, refl)
 
-pub the_entry : (name : List ℕ) (here : Option (List EntryView)) (e : EntryView) → IsEntryOf name here e → entry_of name here ≡ Some e
-the_entry name here e entry = by_cases (found_or_none (entry_of name here))
+pub the_entry : (name : List ℕ) (here : Option (List EntryView)) (e : EntryView) → IsEntryOf name here e → first_entry_of name here ≡ Some e
+the_entry name here e entry = by_cases (found_or_none (first_entry_of name here))
   where
-    by_cases : (entry_of name here ≡ None) ⊎ ((x : EntryView) × (entry_of name here ≡ Some x)) → entry_of name here ≡ Some e
+    by_cases : (first_entry_of name here ≡ None) ⊎ ((x : EntryView) × (first_entry_of name here ≡ Some x)) → first_entry_of name here ≡ Some e
     by_cases (inl none) = absurd (entry_none name here none e entry.0 entry.1)
     by_cases (inr some) = let has = entry_has name here some.0 some.1 in some.1 ∙ ap Some (entry.2 some.0 has.0 has.1)
 
@@ -160,25 +160,25 @@ module _ (trees : Trees) where
   told_only (name ∷ []) entries = refl
   told_only (name ∷ next ∷ rest) entries = refl
 
-  told_shut : (name first : List ℕ) (path : Path) (dirs : Dirs) → dirs (name ∷ []) ≡ None → told_entry trees (name ∷ first ∷ path) dirs ≡ told_in trees (first ∷ path) (list_of trees (entry_of name (dirs [])))
-  told_shut name first path dirs none = ap (λ o. shut_or_open o (told_in trees (first ∷ path) (list_of trees (entry_of name (dirs [])))) (told_entry trees (first ∷ path) (in_dir name dirs))) none
+  told_shut : (name first : List ℕ) (path : Path) (dirs : Dirs) → dirs (name ∷ []) ≡ None → told_entry trees (name ∷ first ∷ path) dirs ≡ told_in trees (first ∷ path) (list_of trees (first_entry_of name (dirs [])))
+  told_shut name first path dirs none = ap (λ o. shut_or_open o (told_in trees (first ∷ path) (list_of trees (first_entry_of name (dirs [])))) (told_entry trees (first ∷ path) (in_dir name dirs))) none
 
   -- nothing is below an id that isn't asked for
-  unasked_told : (it : ObjectId) → IsEmptyId it → (path : Path) → told_in trees path (tree_of trees it) ≡ None
+  unasked_told : (it : ObjectId) → IsUnaskedId it → (path : Path) → told_in trees path (tree_of trees it) ≡ None
   unasked_told it empty path =
       elim (is_null it) as (λ b. is_null it ≡ b → told_in trees path (cond b None (cond (is_empty_tree_id it) (Some []) (trees it))) ≡ None) [
         | true ↦ λ null. told_none path
         | false ↦ λ some. ap (λ b. told_in trees path (cond b (Some []) (trees it))) (is_empty empty some) ∙ told_nothing path
       ] refl
     where
-      is_empty : IsEmptyId it → is_null it ≡ false → is_empty_tree_id it ≡ true
+      is_empty : IsUnaskedId it → is_null it ≡ false → is_empty_tree_id it ≡ true
       is_empty (inl null) some = absurd (let bad : true ≡ false = sym null ∙ some in cc bad)
       is_empty (inr is) some = is_empty_id it is
 
   -- no entry of the name, or one that isn't asked for
   idle_entry : (name : List ℕ) (dirs : Dirs) → ((e : EntryView) → HasAt (dirs []) e → e.name ≡ name → IsUnasked e)
-      → (is_sought_tree (entry_of name (dirs [])) ≡ false) × ((path : Path) → told_in trees path (list_of trees (entry_of name (dirs []))) ≡ None)
-  idle_entry name dirs idle = by_cases (found_or_none (entry_of name (dirs [])))
+      → (is_sought_tree (first_entry_of name (dirs [])) ≡ false) × ((path : Path) → told_in trees path (list_of trees (first_entry_of name (dirs []))) ≡ None)
+  idle_entry name dirs idle = by_cases (found_or_none (first_entry_of name (dirs [])))
     where
       by_kind : (e : EntryView) → IsUnasked e → (is_sought_tree (Some e) ≡ false) × ((path : Path) → told_in trees path (list_of trees (Some e)) ≡ None)
       by_kind e (inl mode) = (ap (λ b. b && is_sought e.id) mode, λ path. ap (λ b. told_in trees path (cond b (tree_of trees e.id) None)) mode ∙ told_none path)
@@ -187,7 +187,7 @@ module _ (trees : Trees) where
         λ path. elim (is_tree_mode e.mode) as (λ b. told_in trees path (cond b (tree_of trees e.id) None) ≡ None) [ true ↦ unasked_told e.id empty path | false ↦ told_none path ],
       )
 
-      by_cases : (entry_of name (dirs []) ≡ None) ⊎ ((x : EntryView) × (entry_of name (dirs []) ≡ Some x)) → (is_sought_tree (entry_of name (dirs [])) ≡ false) × ((path : Path) → told_in trees path (list_of trees (entry_of name (dirs []))) ≡ None)
+      by_cases : (first_entry_of name (dirs []) ≡ None) ⊎ ((x : EntryView) × (first_entry_of name (dirs []) ≡ Some x)) → (is_sought_tree (first_entry_of name (dirs [])) ≡ false) × ((path : Path) → told_in trees path (list_of trees (first_entry_of name (dirs []))) ≡ None)
       by_cases (inl none) = (ap is_sought_tree none, λ path. ap (λ o. told_in trees path (list_of trees o)) none ∙ told_none path)
       by_cases (inr some) =
           let has = entry_has name (dirs []) some.0 some.1 in
@@ -217,7 +217,7 @@ module _ (trees : Trees) where
 
   -- below an open directory
   pub told_open : (name first : List ℕ) (path : Path) (dirs : Dirs) (entries : List EntryView) → dirs (name ∷ []) ≡ Some entries → told_entry trees (name ∷ first ∷ path) dirs ≡ told_entry trees (first ∷ path) (in_dir name dirs)
-  told_open name first path dirs entries is = ap (λ o. shut_or_open o (told_in trees (first ∷ path) (list_of trees (entry_of name (dirs [])))) (told_entry trees (first ∷ path) (in_dir name dirs))) is
+  told_open name first path dirs entries is = ap (λ o. shut_or_open o (told_in trees (first ∷ path) (list_of trees (first_entry_of name (dirs [])))) (told_entry trees (first ∷ path) (in_dir name dirs))) is
 
   pub unopened_open : (name first : List ℕ) (path : Path) (dirs : Dirs) (entries : List EntryView) → dirs (name ∷ []) ≡ Some entries → is_unopened trees dirs (name ∷ first ∷ path) ≡ is_unopened trees (in_dir name dirs) (first ∷ path)
   unopened_open name first path dirs entries is = ap (λ o. is_shut (dirs (name ∷ first ∷ path)) && is_sought_tree o) (told_open name first path dirs entries is)
@@ -231,18 +231,18 @@ module _ (trees : Trees) where
   -- a shut directory
   pub unopened_here : (name : List ℕ) (dirs : Dirs) (e : EntryView) → IsEntryOf name (dirs []) e → is_tree_mode e.mode ≡ true → dirs (name ∷ []) ≡ None → is_unopened trees dirs (name ∷ []) ≡ is_sought e.id
   unopened_here name dirs e entry tree none =
-      ap (λ o. is_shut o && is_sought_tree (entry_of name (dirs []))) none ∙ ap is_sought_tree (the_entry name (dirs []) e entry) ∙ ap (λ b. b && is_sought e.id) tree
+      ap (λ o. is_shut o && is_sought_tree (first_entry_of name (dirs []))) none ∙ ap is_sought_tree (the_entry name (dirs []) e entry) ∙ ap (λ b. b && is_sought e.id) tree
 
   -- no directory of the name that is asked for
   pub unopened_nowhere : (name : List ℕ) (path : Path) (dirs : Dirs) → ((e : EntryView) → HasAt (dirs []) e → e.name ≡ name → IsUnasked e) → ((path : Path) → dirs (name ∷ path) ≡ None) → is_unopened trees dirs (name ∷ path) ≡ false
-  unopened_nowhere name [] dirs idle none = ap (λ o. is_shut o && is_sought_tree (entry_of name (dirs []))) (none []) ∙ (idle_entry name dirs idle).0
+  unopened_nowhere name [] dirs idle none = ap (λ o. is_shut o && is_sought_tree (first_entry_of name (dirs []))) (none []) ∙ (idle_entry name dirs idle).0
   unopened_nowhere name (first ∷ path) dirs idle none = ap (λ o. is_shut o && is_sought_tree (told_entry trees (name ∷ first ∷ path) dirs)) (none (first ∷ path)) ∙ ap is_sought_tree (told_nowhere name first path dirs idle none)
 
   -- counts, a name deeper
   pub count_open : (name : List ℕ) (rest : Path) (last : List ℕ) (behind : Path) (dirs : Dirs) (entries : List EntryView) → dirs (name ∷ []) ≡ Some entries
       → unopened_count trees dirs (name ∷ (rest ++ last ∷ behind)) ≡ unopened_count trees (in_dir name dirs) (rest ++ last ∷ behind)
   count_open name rest last behind dirs entries is =
-      let here : one_if (is_unopened trees dirs (name ∷ [])) ≡ 0 = ap (λ o. one_if (is_shut o && is_sought_tree (entry_of name (dirs [])))) is in
+      let here : one_if (is_unopened trees dirs (name ∷ [])) ≡ 0 = ap (λ o. one_if (is_shut o && is_sought_tree (first_entry_of name (dirs [])))) is in
       let below = same_passes (λ q. is_unopened trees dirs (name ∷ q)) (is_unopened trees (in_dir name dirs)) (λ first q. unopened_open name first q dirs entries is) (rest ++ last ∷ behind) in
       omega (arith, passes_deeper (is_unopened trees dirs) name rest last behind, here, below)
 
@@ -253,7 +253,7 @@ module _ (trees : Trees) where
       let below = same_passes (λ q. is_unopened trees dirs (name ∷ q)) (is_unopened trees (only entries)) (λ next q. unopened_found name next q dirs e entries first entry tree none finds) (rest ++ last ∷ behind) in
       omega (arith, passes_deeper (is_unopened trees dirs) name rest last behind, here, below)
 
-  pub count_vain : (name : List ℕ) (rest : Path) (last : List ℕ) (behind : Path) (dirs : Dirs) (e : EntryView) → IsEntryOf name (dirs []) e → is_tree_mode e.mode ≡ true → dirs (name ∷ []) ≡ None → (IsEmptyId e.id → ⊥)
+  pub count_vain : (name : List ℕ) (rest : Path) (last : List ℕ) (behind : Path) (dirs : Dirs) (e : EntryView) → IsEntryOf name (dirs []) e → is_tree_mode e.mode ≡ true → dirs (name ∷ []) ≡ None → (IsUnaskedId e.id → ⊥)
       → 1 ≤ unopened_count trees dirs (name ∷ (rest ++ last ∷ behind))
   count_vain name rest last behind dirs e entry tree none filled =
       let here : one_if (is_unopened trees dirs (name ∷ [])) ≡ 1 = ap one_if (unopened_here name dirs e entry tree none ∙ sought e.id filled) in

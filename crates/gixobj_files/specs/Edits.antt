@@ -8,7 +8,7 @@ use Rattle.gixobj_hash.specs.declared.hash.object_id.ObjectId.{ObjectId}
 use Rattle.gixobj_files.specs.Editing.{has_tree, same_name, with_entry, without}
 use Rattle.gixobj_files.specs.Files.{Path, Trees}
 use Rattle.gixobj_files.specs.Opening.{Dirs, HasAt, in_dir}
-use Rattle.gixobj_files.specs.Tables.{IsEmptyId}
+use Rattle.gixobj_files.specs.Tables.{IsUnaskedId}
 
 -- the entries of a directory that is opened as empty where it isn't open
 abbrev pub or_empty : Option (List EntryView) → List EntryView
@@ -45,14 +45,14 @@ removed_dirs (name ∷ next ∷ rest) dirs [] = dirs []
 removed_dirs (name ∷ next ∷ rest) dirs (first ∷ path) = if same_name name first then removed_dirs (next ∷ rest) (in_dir name dirs) path else dirs (first ∷ path)
 
 -- the first entry of a name
-abbrev pub entry_of : List ℕ → Option (List EntryView) → Option EntryView
-entry_of name None = None
-entry_of name (Some entries) = find (λ e. same_name e.name name) entries
+abbrev pub first_entry_of : List ℕ → Option (List EntryView) → Option EntryView
+first_entry_of name None = None
+first_entry_of name (Some entries) = find (λ e. same_name e.name name) entries
 
 -- the entry at a path, by open directories alone
 abbrev pub entry_at : Path → Dirs → Option EntryView
 entry_at [] dirs = None
-entry_at (name ∷ []) dirs = entry_of name (dirs [])
+entry_at (name ∷ []) dirs = first_entry_of name (dirs [])
 entry_at (name ∷ next ∷ rest) dirs = entry_at (next ∷ rest) (in_dir name dirs)
 
 -- a directory that is or isn't open, and nothing in it
@@ -82,7 +82,7 @@ IsEntryOf name here e = HasAt here e × (e.name ≡ name) × ((other : EntryView
 -- what an id is opened as, a well-formed list, and the ids asked for: none for an id that stands for no files
 abbrev pub Finds : Trees → ObjectId → List EntryView → List ObjectId → Type 0
 Finds trees id entries asked =
-    IsWellFormed entries × ((IsEmptyId id × (entries ≡ []) × (asked ≡ [])) ⊎ ((IsEmptyId id → ⊥) × (trees id ≡ Some entries) × (asked ≡ id ∷ [])))
+    IsWellFormed entries × ((IsUnaskedId id × (entries ≡ []) × (asked ≡ [])) ⊎ ((IsUnaskedId id → ⊥) × (trees id ≡ Some entries) × (asked ≡ id ∷ [])))
 
 -- a count that stays at the greatest u64
 abbrev pub counted : ℕ → List ObjectId → ℕ
@@ -100,7 +100,7 @@ abbrev pub IsNoTree : EntryView → Type 0
 IsNoTree e = is_tree_mode e.mode ≡ false
 
 abbrev pub IsUnasked : EntryView → Type 0
-IsUnasked e = IsNoTree e ⊎ IsEmptyId e.id
+IsUnasked e = IsNoTree e ⊎ IsUnaskedId e.id
 
 -- each directory on the path is opened, from the top, until there is none or the opening ends before its entry: which are open then,
 -- and the ids asked for

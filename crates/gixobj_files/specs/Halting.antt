@@ -6,14 +6,14 @@ use Rattle.gixobj_hash.specs.declared.hash.object_id.ObjectId.{ObjectId}
 use Rattle.gixobj_files.specs.Edits.{Finds, IsEntryOf, only, with_dir}
 use Rattle.gixobj_files.specs.Files.{Path, Trees}
 use Rattle.gixobj_files.specs.Opening.{Dirs, HasAt, in_dir}
-use Rattle.gixobj_files.specs.Tables.{IsEmptyId}
+use Rattle.gixobj_files.specs.Tables.{IsUnaskedId}
 use Rattle.gixobj_files.specs.Unopened.{is_unopened, told_entry}
 
 -- the opening of the directories on a path came to a halt: which are open then, the ids asked for, and the id whose tree wasn't
 -- opened, if one was asked for in vain
 pub data Halts (Ends : EntryView → Type 0) (trees : Trees) : Path → Dirs → Dirs → List ObjectId → Option ObjectId → Type 0 where
   at_once : (name : List ℕ) (rest : Path) (dirs : Dirs) (e : EntryView) → IsEntryOf name (dirs []) e → is_tree_mode e.mode ≡ true → (Ends e → ⊥) → ((path : Path) → dirs (name ∷ path) ≡ None) → Halts Ends trees (name ∷ rest) dirs dirs [] None
-  in_vain : (name : List ℕ) (rest : Path) (dirs : Dirs) (e : EntryView) → IsEntryOf name (dirs []) e → is_tree_mode e.mode ≡ true → (Ends e → ⊥) → ((path : Path) → dirs (name ∷ path) ≡ None) → (IsEmptyId e.id → ⊥)
+  in_vain : (name : List ℕ) (rest : Path) (dirs : Dirs) (e : EntryView) → IsEntryOf name (dirs []) e → is_tree_mode e.mode ≡ true → (Ends e → ⊥) → ((path : Path) → dirs (name ∷ path) ≡ None) → (IsUnaskedId e.id → ⊥)
       → Halts Ends trees (name ∷ rest) dirs dirs (e.id ∷ []) (Some e.id)
   down : (name : List ℕ) (rest : Path) (dirs inner : Dirs) (e : EntryView) (entries : List EntryView) (asked : List ObjectId) (vain : Option ObjectId) → HasAt (dirs []) e → e.name ≡ name → dirs (name ∷ []) ≡ Some entries
       → Halts Ends trees rest (in_dir name dirs) inner asked vain → Halts Ends trees (name ∷ rest) dirs (with_dir name inner dirs) asked vain
@@ -44,7 +44,7 @@ IsNextUnopened trees dirs front more id =
 abbrev pub ComesTo : (EntryView → Type 0) → Trees → Dirs → Path → Type 0
 ComesTo Ends trees dirs place =
     (place ≡ []) ⊎ ((entries : List EntryView) × (dirs place ≡ Some entries))
-    ⊎ ((e : EntryView) × (told_entry trees place dirs ≡ Some e) × (is_tree_mode e.mode ≡ true) × (Ends e → ⊥) × (IsEmptyId e.id ⊎ ((entries : List EntryView) × (trees e.id ≡ Some entries))))
+    ⊎ ((e : EntryView) × (told_entry trees place dirs ≡ Some e) × (is_tree_mode e.mode ≡ true) × (Ends e → ⊥) × (IsUnaskedId e.id ⊎ ((entries : List EntryView) × (trees e.id ≡ Some entries))))
 
 -- a directory above the path isn't open, and the opening of the path goes into it
 pub record IsShutAbove (Ends : EntryView → Type 0) (trees : Trees) (dirs : Dirs) (path : Path) : Type 0 where

@@ -7,7 +7,7 @@ use Rattle.gixobj_hash.specs.Hash.{id_bytes, id_kind, id_of}
 use Rattle.gixobj_hash.specs.declared.hash.object_id.ObjectId.{ObjectId}
 use Rattle.gixobj_hash.specs.declared.kind.Kind.TheVariants.{Tree}
 use Rattle.gixobj_files.specs.Editing.{same_name}
-use Rattle.gixobj_files.specs.Edits.{entry_of}
+use Rattle.gixobj_files.specs.Edits.{first_entry_of}
 use Rattle.gixobj_files.specs.Files.{Path, Trees, is_null}
 use Rattle.gixobj_files.specs.Opening.{Dirs, in_dir}
 
@@ -30,8 +30,8 @@ list_of trees (Some e) = if is_tree_mode e.mode then tree_of trees e.id else Non
 -- the entry at a path below a list, by the store's own table
 abbrev pub told_in : Trees → Path → Option (List EntryView) → Option EntryView
 told_in trees [] entries = None
-told_in trees (name ∷ []) entries = entry_of name entries
-told_in trees (name ∷ next ∷ rest) entries = told_in trees (next ∷ rest) (list_of trees (entry_of name entries))
+told_in trees (name ∷ []) entries = first_entry_of name entries
+told_in trees (name ∷ next ∷ rest) entries = told_in trees (next ∷ rest) (list_of trees (first_entry_of name entries))
 
 -- the first where a directory is shut, the second where it is open
 abbrev pub shut_or_open : Option (List EntryView) → Option EntryView → Option EntryView → Option EntryView
@@ -41,9 +41,9 @@ shut_or_open (Some entries) shut opened = opened
 -- the entry at a path: by open lists, else by the store's own table
 abbrev pub told_entry : Trees → Path → Dirs → Option EntryView
 told_entry trees [] dirs = None
-told_entry trees (name ∷ []) dirs = entry_of name (dirs [])
+told_entry trees (name ∷ []) dirs = first_entry_of name (dirs [])
 told_entry trees (name ∷ next ∷ rest) dirs =
-    shut_or_open (dirs (name ∷ [])) (told_in trees (next ∷ rest) (list_of trees (entry_of name (dirs [])))) (told_entry trees (next ∷ rest) (in_dir name dirs))
+    shut_or_open (dirs (name ∷ [])) (told_in trees (next ∷ rest) (list_of trees (first_entry_of name (dirs [])))) (told_entry trees (next ∷ rest) (in_dir name dirs))
 
 -- the beginnings of a path, but for the root and the path itself
 abbrev pub strict_beginnings : Path → List Path

@@ -2,7 +2,7 @@
 ghost use Rattle.std.specs.Prelude.{◌≡◌};
 ghost use Rattle.gixobj_hash.specs.Encode.{loose_header_text};
 ghost use Rattle.gixobj_hash.specs.Hash.{id_of};
-ghost use Rattle.gixobj_hash.specs.Hash.Hasher.{Holds};
+ghost use Rattle.gixobj_hash.specs.Hash.Hasher.{HoldsMessage};
 
 use crate::hash::ObjectId;
 pub use crate::hash::hasher::Hasher;
@@ -22,7 +22,7 @@ pub fn compute_hash(hash: hash::Kind, kind: Kind, content: &[u8]) -> ObjectId
 /// The digest of the loose header of an object of this kind and size, to go on with its content. It
 /// takes no memory.
 pub fn object_hasher(hash: hash::Kind, kind: Kind, size: u64) -> Hasher
-    ensures { Holds hash result (loose_header_text kind size) }
+    ensures { HoldsMessage hash result (loose_header_text kind size) }
 {
     let mut digits = Buffer::new();
     let mut hasher = Hasher::new(hash);

@@ -7,7 +7,7 @@ use Rattle.gixobj_directories.specs.Handing.{Stopped}
 use Rattle.gixobj_directories.specs.declared.write.WriteError.{WriteError}
 use Rattle.gixobj_directories.specs.declared.write.WriteError.TheVariants as write
 use Rattle.gixobj_directories.specs.declared.write.Written.{Written}
-use Rattle.gixobj_editor.specs.Writes.{IsWritten}
+use Rattle.gixobj_editor.specs.Writes.{IsWrittenEditor}
 use Rattle.gixobj_fields.specs.declared.encode.Error as encode
 use Rattle.gixobj_files.specs.State.{State}
 use Rattle.gixobj_files.specs.Tables.{Pair}
@@ -31,7 +31,7 @@ module _ {F : Type 0} (hash : hash.Kind) (of : Mut F (Bor (List EntryView) × Un
       let later = folds next last pairs now.1 rest in
       ((tt, now.0, later.0), later.1)
 
-  pub written : {S : Type 0} (old new : State S) (it : Written) → (last : F) × IsWritten (λ f p g. CalledAt of f p.1 (Ok p.0) g) out old it new last → IsWritten (Gives (Digests hash)) tt old it new tt
+  pub written : {S : Type 0} (old new : State S) (it : Written) → (last : F) × IsWrittenEditor (λ f p g. CalledAt of f p.1 (Ok p.0) g) out old it new last → IsWrittenEditor (Gives (Digests hash)) tt old it new tt
   written old new it (last, wrote) = record {
     handed_out = wrote.handed_out;
     called = (folds out last it.trees.items refl wrote.called).0;

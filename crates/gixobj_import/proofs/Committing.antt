@@ -9,7 +9,7 @@ use Rattle.gixobj_hash.specs.declared.hash.object_id.ObjectId.{ObjectId}
 use Rattle.gixobj_editor.specs.Replies.{Meaning}
 use Rattle.gixobj_import.specs.ByDigest.{AddsByDigest, NamesByDigest}
 use Rattle.gixobj_import.specs.Commits.{only_parent, step_text}
-use Rattle.gixobj_import.specs.Imports.{AreCommitsOf, IsNew}
+use Rattle.gixobj_import.specs.Imports.{AreCommitsOf, IsNewImporter}
 use Rattle.gixobj_import.specs.Steps.{AreImported, HaveHex, IsImported}
 use Rattle.gixobj_import.specs.declared.import.Imported.{Imported}
 use Rattle.gixobj_import.specs.declared.import.Importer.{Importer}
@@ -51,7 +51,7 @@ module _ {S : Type 0} (means : Meaning S) (laws : OfStores) where
   commits old new (step ∷ steps) [] done hex final adds = absurd done
 
   -- those of a new importer
-  pub commits_of_new : (old new : Importer S) (steps : List Step) (imported : List Imported) → AreImported means old steps imported new → IsNew old → (final : Objects) → AddsByDigest (objects_of means laws new) final
+  pub commits_of_new : (old new : Importer S) (steps : List Step) (imported : List Imported) → AreImported means old steps imported new → IsNewImporter old → (final : Objects) → AddsByDigest (objects_of means laws new) final
       → AreCommitsOf old.hash None steps imported final
   commits_of_new old new steps imported done is final adds =
       let P : ObjectId → Type 0 = λ id. IsHexOf old.hash (hex_text id) in

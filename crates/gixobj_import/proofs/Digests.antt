@@ -5,7 +5,7 @@ use Rattle.std.specs.FinMap as finite
 use Rattle.std.specs.List.{FoldsTo}
 use Rattle.gixobj_object.specs.Stores.{Objects, StoredObject, named}
 use Rattle.gixobj_directories.specs.declared.write.Written.{Written}
-use Rattle.gixobj_editor.specs.Writes.{IsWritten}
+use Rattle.gixobj_editor.specs.Writes.{IsWrittenEditor}
 use Rattle.gixobj_files.specs.State.{State}
 use Rattle.gixobj_files.specs.Tables.{Pair}
 use Rattle.gixobj_hash.specs.Hash.{IsHexOfAnId, IsId, Spells, hash_len, hex_text, id_from, id_kind, id_of}
@@ -87,7 +87,7 @@ last_has P [] x all = All-head P x [] all
 last_has P (y ∷ xs) x all = last_has P xs x (All-tail P y (xs ++ x ∷ []) all)
 
 -- the id of the root is a digest of this kind
-pub root_kind : {S : Type 0} (k : hash.Kind) (old new : State S) (it : Written) → IsWritten (Gives (Digests k)) tt old it new tt → id_kind it.id ≡ k
+pub root_kind : {S : Type 0} (k : hash.Kind) (old new : State S) (it : Written) → IsWrittenEditor (Gives (Digests k)) tt old it new tt → id_kind it.id ≡ k
 root_kind k old new it wrote =
     let all = subst (All (IsDigest k)) wrote.last (all_digests k it.trees.items wrote.called) in
     kind_of_digest k Tree (tree_text wrote.own) it.id (last_has (IsDigest k) wrote.below (it.id, wrote.own) all)

@@ -15,7 +15,7 @@ use Rattle.gixobj_editor.specs.Replies.{Meaning}
 use Rattle.gixobj_editor.specs.RunTables.{AgreesWithObjects}
 use Rattle.gixobj_import.specs.Commits.{step_text}
 use Rattle.gixobj_import.specs.Edited.{steps_if_done}
-use Rattle.gixobj_import.specs.Imports.{AgreesWithImports, AgreesWithStep, HasFilesOf, HaveFiles, HaveFilesOfNothing, IsNew, edits_of, pairs_of_imports, with_imports}
+use Rattle.gixobj_import.specs.Imports.{AgreesWithImports, AgreesWithStep, HasFilesOf, HaveFiles, HaveFilesOfNothing, IsNewImporter, edits_of, pairs_of_imports, with_imports}
 use Rattle.gixobj_import.specs.Steps.{AreImported, IsImported}
 use Rattle.gixobj_import.specs.declared.import.Imported.{Imported}
 use Rattle.gixobj_import.specs.declared.import.Importer.{Importer}
@@ -106,7 +106,7 @@ module _ {S : Type 0} (means : Meaning S) (laws : OfStores) where
     same_have A B steps imported same have k it at = same_trans _ _ _ (have k it at) (same_history T n (edits_of (take (suc k) steps)) A B same)
 
   -- those of a new importer
-  pub files_of_new : (old new : Importer S) (steps : List Step) (imported : List Imported) → AreImported means old steps imported new → IsNew old → HaveFilesOfNothing (objects_of means laws old) steps imported
+  pub files_of_new : (old new : Importer S) (steps : List Step) (imported : List Imported) → AreImported means old steps imported new → IsNewImporter old → HaveFilesOfNothing (objects_of means laws old) steps imported
   files_of_new old new steps imported done is T n agrees =
       let alone = ap (λ (s : State S). s.dirs) is.editor in
       same_have T n (EditorFiles T n old.editor) NoFiles steps imported (nothing_open old.editor alone T n)

@@ -2,7 +2,7 @@
 use Rattle.std.proofs.Common.{◌≡◌, ◌∙◌, ℕ, All, List, ap, subst, sym}
 use Rattle.gixobj_object.specs.Stores.{Objects}
 use Rattle.gixobj_directories.specs.declared.write.Written.{Written}
-use Rattle.gixobj_editor.specs.Writes.{IsWritten}
+use Rattle.gixobj_editor.specs.Writes.{IsWrittenEditor}
 use Rattle.gixobj_files.specs.State.{State, with_store}
 use Rattle.gixobj_files.specs.Tables.{Pair}
 use Rattle.gixobj_hash.specs.declared.hash.kind.Kind as hash
@@ -14,7 +14,7 @@ use Rattle.gixobj_editor.specs.Replies.{Gives, IsWriteKept, IsWrittenAt, KeepsAl
 use Rattle.gixobj_editor.specs.declared.reply.EditReply.TheVariants as reply
 use Rattle.gixobj_import.specs.Edited.{Digests, IsWriteReplied}
 
-module _ {S : Type 0} (means : Meaning S) (hash : hash.Kind) (old between new : State S) (start left : S) (it : Written) (lent : List Pair) (written : IsWritten (Gives (Digests hash)) tt old it between tt)
+module _ {S : Type 0} (means : Meaning S) (hash : hash.Kind) (old between new : State S) (start left : S) (it : Written) (lent : List Pair) (written : IsWrittenEditor (Gives (Digests hash)) tt old it between tt)
     (starts : start ≡ between.store) (all : lent ≡ it.trees.items) (rest : new ≡ with_store between left) (may_fail : (id : ObjectId) → means.may_fail left id ≡ means.may_fail start id) where
   start_is : start ≡ old.store
   start_is = starts ∙ ap (λ (s : State S). s.store) written.rest

@@ -7,8 +7,8 @@ use Rattle.bstr.specs.Owned.{bstring_bytes}
 use Rattle.gixobj_actor.specs.Actor.{IsWritable}
 use Rattle.gixobj_actor.specs.ActorWriting.{IsLegal, owned_text}
 use Rattle.gixobj_actor.specs.declared.actor.Signature.{Signature}
-use Rattle.gixobj_commit.specs.CommitViews.{owned_lines}
-use Rattle.gixobj_commit.specs.CommitWriting.{RefusesEncoding, RefusesOwned, before_author, before_committer}
+use Rattle.gixobj_commit.specs.CommitViews.{owned_commit_lines}
+use Rattle.gixobj_commit.specs.CommitWriting.{RefusesEncoding, RefusesOwnedCommit, before_author, before_committer}
 use Rattle.gixobj_commit.specs.declared.commit.Commit.{Commit}
 use Rattle.gixobj_fields.specs.Writing.{RefusesNothing, illegal_actor}
 use Rattle.gixobj_hash.specs.Hash.{hex_text}
@@ -59,20 +59,20 @@ legal_copied : (actor copy : Signature) → SameActor actor copy → IsLegal act
 legal_copied actor copy same legal = (subst IsWritable (sym same.name) legal.0, subst IsWritable (sym same.email) legal.1)
 
 -- of a commit that was written both actors can be
-written_legal : (commit : Commit) → RefusesNothing (RefusesOwned commit) → IsLegal commit.author × IsLegal commit.committer
+written_legal : (commit : Commit) → RefusesNothing (RefusesOwnedCommit commit) → IsLegal commit.author × IsLegal commit.committer
 written_legal commit nothing =
     ⊎_elim
-    (λ author. ⊎_elim (λ committer. (author, committer)) (λ other. absurd (nothing illegal_actor (before_committer (owned_lines commit)) (inr (inl (author, other, refl, refl))))) (legal_or_not commit.committer))
-    (λ other. absurd (nothing illegal_actor (before_author (owned_lines commit)) (inl (other, refl, refl))))
+    (λ author. ⊎_elim (λ committer. (author, committer)) (λ other. absurd (nothing illegal_actor (before_committer (owned_commit_lines commit)) (inr (inl (author, other, refl, refl))))) (legal_or_not commit.committer))
+    (λ other. absurd (nothing illegal_actor (before_author (owned_commit_lines commit)) (inl (other, refl, refl))))
     (legal_or_not commit.author)
 
 module _ (step : Step) (commit : Commit) (author : SameActor step.author commit.author) (committer : SameActor step.committer commit.committer) where
-  pub actors_legal : RefusesNothing (RefusesOwned commit) → IsLegal step.author × IsLegal step.committer
+  pub actors_legal : RefusesNothing (RefusesOwnedCommit commit) → IsLegal step.author × IsLegal step.committer
   actors_legal nothing =
       let legal = written_legal commit nothing in
       (copied_legal step.author commit.author author legal.0, copied_legal step.committer commit.committer committer legal.1)
 
-  pub actor_refused : (tree : ObjectId) (parent : Option ObjectId) (parts : List ℕ) → owned_lines commit ≡ step_commit step tree parent → RefusesOwned commit illegal_actor parts → ¬ (IsLegal step.author) ⊎ ¬ (IsLegal step.committer)
+  pub actor_refused : (tree : ObjectId) (parent : Option ObjectId) (parts : List ℕ) → owned_commit_lines commit ≡ step_commit step tree parent → RefusesOwnedCommit commit illegal_actor parts → ¬ (IsLegal step.author) ⊎ ¬ (IsLegal step.committer)
   actor_refused tree parent parts lines (inl (other, is, before)) = inl (λ legal. other (legal_copied step.author commit.author author legal))
   actor_refused tree parent parts lines (inr (inl (legal, other, is, before))) = inr (λ it. other (legal_copied step.committer commit.committer committer it))
   actor_refused tree parent parts lines (inr (inr (legal, other, refused))) = absurd (subst (λ (it : CommitLines). RefusesEncoding it.encoding illegal_actor) lines refused.0)

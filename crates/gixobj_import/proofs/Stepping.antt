@@ -12,7 +12,7 @@ use Rattle.gixobj_hash.specs.declared.hash.object_id.ObjectId.{ObjectId}
 use Rattle.gixobj_editor.specs.Replies.{Meaning}
 use Rattle.gixobj_editor.specs.declared.reply.EditReply.TheVariants as reply
 use Rattle.gixobj_import.specs.Edited.{AreDone, IsWriteBehind, IsWriteReplied}
-use Rattle.gixobj_import.specs.Steps.{AreImported, IsFailed, IsImported, RefusesCommit, RefusesEdits, RefusesStep, RefusesText, RefusesWrite, Stops}
+use Rattle.gixobj_import.specs.Steps.{AreImported, IsFailed, IsImported, RefusesCommit, RefusesEdits, RefusesStep, RefusesStepText, RefusesWrite, Stops}
 use Rattle.gixobj_import.specs.declared.import.ImportError.{ImportError}
 use Rattle.gixobj_import.specs.declared.import.ImportError.TheVariants as import
 use Rattle.gixobj_import.specs.declared.import.Imported.{Imported}
@@ -97,7 +97,7 @@ module _ {S : Type 0} (means : Meaning S) where
   write_refused_behind hash edits old edited new (Err error) done refusal = edits_refused hash edits old edited new error done refusal
 
   -- a commit that isn't written
-  pub text_refused : (hash : hash.Kind) (step : Step) (tree : ObjectId) (parent : Option ObjectId) (old new : State S) (error : ImportError) → RefusesText step error → new ≡ old → RefusesCommit means hash step tree parent old error new
+  pub text_refused : (hash : hash.Kind) (step : Step) (tree : ObjectId) (parent : Option ObjectId) (old new : State S) (error : ImportError) → RefusesStepText step error → new ≡ old → RefusesCommit means hash step tree parent old error new
   text_refused hash step tree parent old new (import.Edit index error) refused same = absurd refused
   text_refused hash step tree parent old new (import.Write error) refused same = absurd refused
   text_refused hash step tree parent old new (import.NotKept error) refused same = absurd refused

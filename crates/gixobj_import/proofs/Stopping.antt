@@ -2,7 +2,7 @@
 use Rattle.std.proofs.Common.{inl, inr, List, [], ◌∷◌, None, ap, length, take}
 use Rattle.gixobj_editor.specs.Replies.{Meaning}
 use Rattle.gixobj_import.specs.ByDigest.{AddsByDigest}
-use Rattle.gixobj_import.specs.Imports.{AreCommitsOf, HaveFilesOfNothing, IsNew}
+use Rattle.gixobj_import.specs.Imports.{AreCommitsOf, HaveFilesOfNothing, IsNewImporter}
 use Rattle.gixobj_import.specs.Steps.{Stops}
 use Rattle.gixobj_import.specs.declared.import.ImportError.{ImportError}
 use Rattle.gixobj_import.specs.declared.import.Imported.{Imported}
@@ -21,14 +21,14 @@ module _ {S : Type 0} (means : Meaning S) (laws : OfStores) where
       (refused_adds means laws at.reached new at.refused error at.refusal)
   stopped_adds old new steps imported error (inr nothing) = adds_none _ _ (ap (objects_of means laws) nothing.unchanged)
 
-  pub commits_of_stopped : (old new : Importer S) (steps : List Step) (imported : List Imported) (error : ImportError) → Stops means old steps imported error new → IsNew old
+  pub commits_of_stopped : (old new : Importer S) (steps : List Step) (imported : List Imported) (error : ImportError) → Stops means old steps imported error new → IsNewImporter old
       → AreCommitsOf old.hash None (take (length imported) steps) imported (objects_of means laws new)
   commits_of_stopped old new steps imported error (inl at) is =
       commits_of_new means laws old at.reached (take (length imported) steps) imported at.imported is (objects_of means laws new) (refused_adds means laws at.reached new at.refused error at.refusal)
   commits_of_stopped old new steps [] error (inr nothing) is = tt
   commits_of_stopped old new steps (it ∷ imported) error (inr nothing) is = cc nothing.nothing
 
-  pub files_of_stopped : (old new : Importer S) (steps : List Step) (imported : List Imported) (error : ImportError) → Stops means old steps imported error new → IsNew old
+  pub files_of_stopped : (old new : Importer S) (steps : List Step) (imported : List Imported) (error : ImportError) → Stops means old steps imported error new → IsNewImporter old
       → HaveFilesOfNothing (objects_of means laws old) (take (length imported) steps) imported
   files_of_stopped old new steps imported error (inl at) is = files_of_new means laws old at.reached (take (length imported) steps) imported at.imported is
   files_of_stopped old new steps [] error (inr nothing) is = λ T n agrees k it at. cc at

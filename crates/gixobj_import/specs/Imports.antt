@@ -28,7 +28,7 @@ abbrev pub without_files : {S : Type 0} → S → hash.Kind → State S
 without_files store hash = record { dirs = root_alone []; bases = root_alone []; store = store; lookups = 0; object_hash = hash; prefix = [] }
 
 -- an importer that has imported nothing
-pub record IsNew {S : Type 0} (importer : Importer S) : Type 0 where
+pub record IsNewImporter {S : Type 0} (importer : Importer S) : Type 0 where
   pub editor : importer.editor ≡ without_files importer.editor.store importer.hash
   pub last : importer.last ≡ None
   pub ready : importer.failed ≡ false

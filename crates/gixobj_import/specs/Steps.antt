@@ -33,10 +33,10 @@ abbrev pub HaveHex : hash.Kind → List ObjectId → Type 0
 HaveHex hash ids = All (λ id. IsHexOf hash (hex_text id)) ids
 
 -- why a step's commit has no written bytes: an actor can't be written, or memory was wanting
-abbrev pub RefusesText : Step → ImportError → Type 0
-RefusesText step (import.Commit error) = (error ≡ IllegalActor) × (¬ (IsLegal step.author) ⊎ ¬ (IsLegal step.committer))
-RefusesText step import.OutOfMemory = ⊤
-RefusesText step other = ⊥
+abbrev pub RefusesStepText : Step → ImportError → Type 0
+RefusesStepText step (import.Commit error) = (error ≡ IllegalActor) × (¬ (IsLegal step.author) ⊎ ¬ (IsLegal step.committer))
+RefusesStepText step import.OutOfMemory = ⊤
+RefusesStepText step other = ⊥
 
 module _ {S : Type 0} (means : Meaning S) where
   -- the store doesn't keep the commit, and means what it did; all else of the editor stays
@@ -61,7 +61,7 @@ module _ {S : Type 0} (means : Meaning S) where
   -- was wanting
   abbrev pub RefusesCommit : hash.Kind → Step → ObjectId → Option ObjectId → State S → ImportError → State S → Type 0
   RefusesCommit hash step tree parent old (import.NotKept error) new = IsCommitUnkept (id_of hash Commit (step_text step tree parent)) old error new
-  RefusesCommit hash step tree parent old error new = RefusesText step error × (new ≡ old)
+  RefusesCommit hash step tree parent old error new = RefusesStepText step error × (new ≡ old)
 
   -- why a write by digests isn't done and kept: it is refused, or the store doesn't keep all of its trees
   abbrev pub RefusesWrite : hash.Kind → State S → ImportError → State S → Type 0

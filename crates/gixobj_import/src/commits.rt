@@ -1,10 +1,10 @@
 //! The commit of a step.
 ghost use Rattle.std.specs.Prelude.{◌≡◌, IfErr, IfOk, OnOk};
 ghost use Rattle.gixobj_actor.specs.ActorWriting.{IsLegal, owned_text};
-ghost use Rattle.gixobj_commit.specs.CommitViews.{owned_lines};
+ghost use Rattle.gixobj_commit.specs.CommitViews.{owned_commit_lines};
 ghost use Rattle.gixobj_import.specs.Commits.{NamesSignature, SameActor, only_parent, step_commit, step_text};
 ghost use Rattle.gixobj_import.specs.Edited.{meaning};
-ghost use Rattle.gixobj_import.specs.Steps.{IsCommitKept, RefusesCommit, RefusesText};
+ghost use Rattle.gixobj_import.specs.Steps.{IsCommitKept, RefusesCommit, RefusesStepText};
 
 use crate::import::{ImportError, Step};
 use crate::written::is_an_id;
@@ -59,7 +59,7 @@ fn text_of(
 ) -> Result<Vec<u8>, ImportError>
     ensures text { IfOk result (λ text. text.items ≡ step_text step.now tree parent) }
     ensures legal { OnOk result (IsLegal step.now.author × IsLegal step.now.committer) }
-    ensures refusal { IfErr result (RefusesText step.now) }
+    ensures refusal { IfErr result (RefusesStepText step.now) }
 {
     let commit = commit_of(alloc, step, tree, parent)?;
     let mut text = Vec::new(alloc);
@@ -77,7 +77,7 @@ fn commit_of(
     tree: ObjectId,
     parent: Option<ObjectId>,
 ) -> Result<Commit, OutOfMemory>
-    ensures lines { IfOk result (λ it. owned_lines it ≡ step_commit step.now tree parent) }
+    ensures lines { IfOk result (λ it. owned_commit_lines it ≡ step_commit step.now tree parent) }
     ensures author { IfOk result (λ it. SameActor step.now.author it.author) }
     ensures committer { IfOk result (λ it. SameActor step.now.committer it.committer) }
 {

@@ -6,7 +6,7 @@ ghost use Rattle.gixobj_files.specs.Files.{Table};
 ghost use Rattle.gixobj_files.specs.State.{open_bases, open_dirs};
 ghost use Rattle.gixobj_import.specs.ByDigest.{AddsByDigest};
 ghost use Rattle.gixobj_import.specs.Edited.{meaning};
-ghost use Rattle.gixobj_import.specs.Imports.{AgreesWithStep, AreCommitsOf, HasFilesOf, HaveFilesOfNothing, IsNew, before};
+ghost use Rattle.gixobj_import.specs.Imports.{AgreesWithStep, AreCommitsOf, HasFilesOf, HaveFilesOfNothing, IsNewImporter, before};
 ghost use Rattle.gixobj_import.specs.Steps.{AreImported, IsImported, RefusesStep, Stops, over_store};
 ghost use Rattle.gixobj_import.specs.contracts.import.Importer.{the_row};
 
@@ -114,7 +114,7 @@ impl<S> Importer<S> {
     /// An importer that begins with no files and no commit, over a store, with ids of this kind of
     /// digest. It takes no memory: `alloc` is kept for later.
     pub fn new(alloc: Global, store: S, hash: hash::Kind) -> Importer<S>
-        ensures new { IsNew result }
+        ensures new { IsNewImporter result }
         ensures store { result.editor.store ≡ store }
         ensures hash { result.hash ≡ hash }
         ensures bases { (T : Table)
@@ -217,16 +217,16 @@ pub fn import_all<S: Keep + KeepCommit>(
     ensures adds { AddsByDigest (S.objects importer.old.editor.store)
         (S.objects importer.new.editor.store) }
     // A new importer's commits and files, where all steps are imported.
-    ensures commits { IfOk result (λ all. IsNew importer.old
+    ensures commits { IfOk result (λ all. IsNewImporter importer.old
         → AreCommitsOf importer.old.hash None steps.now all.items
         (S.objects importer.new.editor.store)) }
-    ensures files { IfOk result (λ all. IsNew importer.old
+    ensures files { IfOk result (λ all. IsNewImporter importer.old
         → HaveFilesOfNothing (S.objects importer.old.editor.store) steps.now all.items) }
     // And those of the steps before the one that was refused.
-    ensures commits_done { IfErr result (λ it. IsNew importer.old
+    ensures commits_done { IfErr result (λ it. IsNewImporter importer.old
         → AreCommitsOf importer.old.hash None (before it.done.items steps.now) it.done.items
         (S.objects importer.new.editor.store)) }
-    ensures files_done { IfErr result (λ it. IsNew importer.old
+    ensures files_done { IfErr result (λ it. IsNewImporter importer.old
         → HaveFilesOfNothing (S.objects importer.old.editor.store)
         (before it.done.items steps.now) it.done.items) }
 {

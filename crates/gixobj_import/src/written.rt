@@ -1,7 +1,7 @@
 //! The write behind the edits of a step: each tree by the digest of its written bytes.
 ghost use Rattle.std.specs.Prelude.{◌≡◌, ◌∷◌, [], Contains, IfErr, IfOk, OnErr};
 ghost use Rattle.gixobj_directories.specs.Handing.{Stopped};
-ghost use Rattle.gixobj_editor.specs.Writes.{IsWritten};
+ghost use Rattle.gixobj_editor.specs.Writes.{IsWrittenEditor};
 ghost use Rattle.gixobj_files.specs.HandingOut.{HandsOutSome};
 ghost use Rattle.gixobj_files.specs.State.{open_bases, open_dirs};
 ghost use Rattle.gixobj_hash.specs.Hash.{IsId};
@@ -88,7 +88,7 @@ fn write_by_digests<S>(
     hash: hash::Kind,
 ) -> Result<Written, WriteError<encode::Error>>
     ensures written { IfOk result (λ it.
-        IsWritten (Gives (Digests hash)) tt editor.old it editor.new tt) }
+        IsWrittenEditor (Gives (Digests hash)) tt editor.old it editor.new tt) }
     ensures stopped { IfErr result (λ error. Stopped (Gives (Digests hash)) (Denies (Digests hash))
         (HandsOutSome (open_dirs editor.old) (open_bases editor.old)) tt tt error) }
     ensures unchanged { OnErr result (editor.new ≡ editor.old) }

@@ -4,7 +4,7 @@ use Rattle.std.proofs.lemmas.List.{length-take-le, take-append-drop, take_rest}
 use Rattle.gixobj_hash.specs.Decode.{HasLooseHeader}
 use Rattle.gixobj_hash.specs.declared.kind.Kind.{Kind}
 use Rattle.gixobj_hash.specs.declared.hash.kind.Kind as hash
-use Rattle.gixobj_object.specs.LooseObjects.{BeginsWithHeader, HasContent, IsTooLarge, RefusesLooseObject, RefusesSize}
+use Rattle.gixobj_object.specs.LooseObjects.{BeginsWithHeader, HasContent, IsTooLarge, RefusesLooseObject, RefusesContentSize}
 use Rattle.gixobj_object.specs.declared.object.borrowed.decode.LooseDecodeError.{LooseDecodeError}
 use Rattle.gixobj_object.specs.declared.object.borrowed.decode.LooseDecodeError.TheVariants.{InvalidContent, InvalidHeader, OutOfMemory}
 
@@ -24,7 +24,7 @@ content_follows input kind size behind content begins fits is =
 
 -- why there is no content of the size that the header says is why there is no loose object
 pub no_content : (kinds : hash.Kind) (input : List ℕ) (kind : Kind) (size : ℕ) (behind : List ℕ)
-    → BeginsWithHeader input kind size behind → (error : LooseDecodeError) → RefusesSize behind size error → RefusesLooseObject kinds input error
+    → BeginsWithHeader input kind size behind → (error : LooseDecodeError) → RefusesContentSize behind size error → RefusesLooseObject kinds input error
 no_content kinds input kind size behind begins (InvalidHeader error) refused = inr ((kind, size, behind, begins, refused.0), refused.1)
 no_content kinds input kind size behind begins (OutOfMemory said) refused = subst (λ (it : ℕ). IsTooLarge input it) (sym refused.1) (kind, behind, begins, refused.0)
 no_content kinds input kind size behind begins (InvalidContent error) refused = absurd refused

@@ -16,7 +16,7 @@ use Rattle.std.specs.declared.ops.ControlFlow.{ControlFlow}
 use Rattle.std.specs.declared.ops.ControlFlow.TheVariants.{Break, Continue}
 use Rattle.gixobj_tree.specs.TreeViews.{entry_view}
 use Rattle.gixobj_tree.specs.declared.tree.borrowed.entry_ref.EntryRef.{EntryRef}
-use Rattle.gixobj_object.specs.Lookups.{FoundIn, HasFirst, HasNone, IsAtPath, IsNamed, IsPath, IsStep, LeadsTo, Name, RefusesPath}
+use Rattle.gixobj_object.specs.Lookups.{FoundIn, HasFirstNamed, HasNoEntryNamed, IsAtPath, IsNamed, IsPath, IsStep, LeadsTo, Name, RefusesPath}
 use Rattle.gixobj_object.specs.Stores.{Objects, RefusesFind, StoredObject, named}
 use Rattle.gixobj_object.specs.declared.find.Error.{Error}
 use Rattle.gixobj_object.specs.declared.find.Error.TheVariants.{OutOfMemory, Store}
@@ -44,10 +44,10 @@ comes_once kind input name (x ∷ passed) (y ∷ others) e it (here, rest, (_, a
     let (same_entry, same_rest) = one_entry kind input x y after after' first first' in
     comes_once kind after name passed others e it (here, rest, on, has, others_more name x passed none, is) (here', rest', subst (λ (at : List ℕ). runs.Passes (HasEntry kind) tt at others tt here') (sym same_rest) on', has', others_more name y others none', is')
 
-as_coming : (kind : hash.Kind) (input : List ℕ) (name : Name) (e : EntryView) → HasFirst kind input name e → (passed : List EntryView) × Comes kind input passed name e
+as_coming : (kind : hash.Kind) (input : List ℕ) (name : Name) (e : EntryView) → HasFirstNamed kind input name e → (passed : List EntryView) × Comes kind input passed name e
 as_coming kind input name e ((_, _, here, rest, (passed, on, none), has), is) = (passed, (here, rest, on, has, none, is))
 
-pub first_is_one : (kind : hash.Kind) (input : List ℕ) (name : Name) (e it : EntryView) → HasFirst kind input name e → HasFirst kind input name it → e ≡ it
+pub first_is_one : (kind : hash.Kind) (input : List ℕ) (name : Name) (e it : EntryView) → HasFirstNamed kind input name e → HasFirstNamed kind input name it → e ≡ it
 first_is_one kind input name e it first first' =
     let (passed, comes) = as_coming kind input name e first in
     let (others, comes') = as_coming kind input name it first' in
@@ -69,7 +69,7 @@ none_comes kind input name told (x ∷ passed) ending e (tells_piece _ _ _ behin
     let same_rest = (one_entry kind input x y after behind first first').1 in
     none_comes kind behind name more passed ending e told' (others_more name y more lacks) (here, rest, subst (λ (at : List ℕ). runs.Passes (HasEntry kind) tt at passed tt here) same_rest on, has, others_more name x passed none, is)
 
-pub lacked : (kind : hash.Kind) (input : List ℕ) (name : Name) (ending : Ending) → runs.LacksAll (HasEntry kind) (IsNamed name) tt input ending → HasNone kind input name
+pub lacked : (kind : hash.Kind) (input : List ℕ) (name : Name) (ending : Ending) → runs.LacksAll (HasEntry kind) (IsNamed name) tt input ending → HasNoEntryNamed kind input name
 lacked kind input name ending (told, tells, lacks) e first =
     let (passed, comes) = as_coming kind input name e first in
     none_comes kind input name told passed ending e tells lacks comes
@@ -107,7 +107,7 @@ pub no_path_in_others : (objects : Objects) (tree : StoredObject) (names : List 
 no_path_in_others objects tree [] e other path = no_path_of_no_name objects (Some tree) e path
 no_path_in_others objects tree (name ∷ more) e other path = other (first_on_path objects tree name more e path).1.0
 
-pub no_path_without : (objects : Objects) (tree : StoredObject) (name : Name) (more : List Name) (e : EntryView) → HasNone tree.object_hash tree.bytes name → ¬ LeadsTo objects (Some tree) (name ∷ more) e
+pub no_path_without : (objects : Objects) (tree : StoredObject) (name : Name) (more : List Name) (e : EntryView) → HasNoEntryNamed tree.object_hash tree.bytes name → ¬ LeadsTo objects (Some tree) (name ∷ more) e
 no_path_without objects tree name more e none path =
     let (at, found) = first_on_path objects tree name more e path in
     none at found.1

@@ -16,7 +16,7 @@ use Rattle.gixobj_tree.specs.TreeViews.{entry_view}
 use Rattle.gixobj_tree.specs.declared.tree.borrowed.entry_ref.EntryRef.{EntryRef}
 use Rattle.gixobj_object.proofs.Paths.{Follows, breaks_at, ends_at, follows_first, follows_on, no_path_in_none, tree_or_other}
 use Rattle.gixobj_object.specs.EntryGiving.{IsAtEntry, bytes_left}
-use Rattle.gixobj_object.specs.Lookups.{HasFirst, HasNone, IsAtPath, IsStep, LeadsTo, Name, RefusesPath, RefusesPathText, tree_left}
+use Rattle.gixobj_object.specs.Lookups.{HasFirstNamed, HasNoEntryNamed, IsAtPath, IsStep, LeadsTo, Name, RefusesPath, RefusesPathText, tree_left}
 use Rattle.gixobj_object.specs.Stores.{IsFound, Objects, StoredObject, named, stored}
 use Rattle.gixobj_object.specs.declared.«data».Data.{Data}
 use Rattle.gixobj_object.specs.declared.find.Error.{Error}
@@ -26,13 +26,13 @@ use Rattle.gixobj_object.specs.declared.tree.TreeRefIter.{TreeRefIter}
 pub first_name : {name : BString} {more : List BString} {names : List BString} {it : Name} {others : List Name} → names ≡ name ∷ more → map bstring_bytes names ≡ it ∷ others → bstring_bytes name ≡ it
 first_name split same = let here = sym (ap (map bstring_bytes) split) ∙ same in cc here
 
-pub first_of_reader : (kind : hash.Kind) (text : List ℕ) (name said : Name) (e : EntryView) (reader : TreeRefIter) → IsAtEntry kind text reader → said ≡ name → HasFirst reader.hash_kind (bytes_left reader) said e → HasFirst kind text name e
+pub first_of_reader : (kind : hash.Kind) (text : List ℕ) (name said : Name) (e : EntryView) (reader : TreeRefIter) → IsAtEntry kind text reader → said ≡ name → HasFirstNamed reader.hash_kind (bytes_left reader) said e → HasFirstNamed kind text name e
 first_of_reader kind text name said e reader start same first =
-    subst (λ (it : Name). HasFirst kind text it e) same (subst (λ (it : Standing hash.Kind ⊤). HasFirst it.kind it.bytes said e) start first)
+    subst (λ (it : Name). HasFirstNamed kind text it e) same (subst (λ (it : Standing hash.Kind ⊤). HasFirstNamed it.kind it.bytes said e) start first)
 
-pub none_of_reader : (kind : hash.Kind) (text : List ℕ) (name said : Name) (reader : TreeRefIter) → IsAtEntry kind text reader → said ≡ name → HasNone reader.hash_kind (bytes_left reader) said → HasNone kind text name
+pub none_of_reader : (kind : hash.Kind) (text : List ℕ) (name said : Name) (reader : TreeRefIter) → IsAtEntry kind text reader → said ≡ name → HasNoEntryNamed reader.hash_kind (bytes_left reader) said → HasNoEntryNamed kind text name
 none_of_reader kind text name said reader start same none =
-    subst (λ (it : Name). HasNone kind text it) same (subst (λ (it : Standing hash.Kind ⊤). HasNone it.kind it.bytes said) start none)
+    subst (λ (it : Name). HasNoEntryNamed kind text it) same (subst (λ (it : Standing hash.Kind ⊤). HasNoEntryNamed it.kind it.bytes said) start none)
 
 -- why no path by its names is followed is why none in a text is
 pub in_a_text : (objects : Objects) (may_fail : ObjectId → Bool) (it : StoredObject) (names : List Name) (error : Error) → RefusesPath objects may_fail (Some it) names error → RefusesPathText objects may_fail (Some it) names error

@@ -12,32 +12,32 @@ use Rattle.gixobj_tree.specs.Entries.{EntryView}
 use Rattle.gixobj_tree.specs.TreeReading.{HasEntry, TellsEntries}
 use Rattle.gixobj_tree.specs.TreeViews.{entry_view}
 use Rattle.gixobj_tree.specs.declared.tree.borrowed.entry_ref.EntryRef.{EntryRef}
-use Rattle.gixobj_object.specs.EntryGiving.{GivesEntry, HasPassed, IsAtEntry, IsTail, bytes_left, standing}
+use Rattle.gixobj_object.specs.EntryGiving.{GivesEntry, HasPassedEntries, IsAtEntry, IsTail, bytes_left, standing_in_tree}
 use Rattle.gixobj_object.specs.declared.tree.TreeRefIter.{TreeRefIter}
 
-pub starts : (kind : Kind) (text : List ℕ) (reader : TreeRefIter) → IsAtEntry kind text reader → HasPassed kind text [] reader
+pub starts : (kind : Kind) (text : List ℕ) (reader : TreeRefIter) → IsAtEntry kind text reader → HasPassedEntries kind text [] reader
 starts kind text reader start = ((refl, sym (ap (λ (it : Standing Kind ⊤). it.bytes) start)), ap (λ (it : Standing Kind ⊤). it.kind) start)
 
-pub goes_on : (kind : Kind) (text : List ℕ) (entries : List EntryView) (at after : TreeRefIter) (entry : EntryRef) → HasPassed kind text entries at → GivesEntry at (Some (Ok entry)) after → HasPassed kind text (entries ++ entry_view entry ∷ []) after
+pub goes_on : (kind : Kind) (text : List ℕ) (entries : List EntryView) (at after : TreeRefIter) (entry : EntryRef) → HasPassedEntries kind text entries at → GivesEntry at (Some (Ok entry)) after → HasPassedEntries kind text (entries ++ entry_view entry ∷ []) after
 goes_on kind text entries at after entry (passed, same_kind) (has, kept, such) =
-    let here = subst (λ (it : Kind). HasEntry it tt (standing at).bytes (entry_view entry) tt (standing after).bytes) same_kind has in
-    (passes_one (HasEntry kind) tt tt tt text (standing at).bytes (standing after).bytes entries (entry_view entry) passed here, kept ∙ same_kind)
+    let here = subst (λ (it : Kind). HasEntry it tt (standing_in_tree at).bytes (entry_view entry) tt (standing_in_tree after).bytes) same_kind has in
+    (passes_one (HasEntry kind) tt tt tt text (standing_in_tree at).bytes (standing_in_tree after).bytes entries (entry_view entry) passed here, kept ∙ same_kind)
 
-pub ends : (kind : Kind) (text : List ℕ) (entries : List EntryView) (at after : TreeRefIter) → HasPassed kind text entries at → GivesEntry at None after → TellsEntries kind text entries complete
+pub ends : (kind : Kind) (text : List ℕ) (entries : List EntryView) (at after : TreeRefIter) → HasPassedEntries kind text entries at → GivesEntry at None after → TellsEntries kind text entries complete
 ends kind text entries at after (passed, same_kind) gives =
-    let end : TellsEntries kind (standing at).bytes [] complete = rw gives.0 (tells_end tt) in
-    tells_passed (HasEntry kind) tt tt text (standing at).bytes entries complete passed end
+    let end : TellsEntries kind (standing_in_tree at).bytes [] complete = rw gives.0 (tells_end tt) in
+    tells_passed (HasEntry kind) tt tt text (standing_in_tree at).bytes entries complete passed end
 
 malformed_only : (at after : TreeRefIter) (error : Error) → GivesEntry at (Some (Err error)) after → GivesEntry at (Some (Err Malformed)) after
 malformed_only at after Malformed gives = gives
 malformed_only at after OutOfMemory gives = absurd gives.1
 
-pub stops : (kind : Kind) (text : List ℕ) (entries : List EntryView) (at after : TreeRefIter) (error : Error) → HasPassed kind text entries at → GivesEntry at (Some (Err error)) after → TellsEntries kind text entries broken
+pub stops : (kind : Kind) (text : List ℕ) (entries : List EntryView) (at after : TreeRefIter) (error : Error) → HasPassedEntries kind text entries at → GivesEntry at (Some (Err error)) after → TellsEntries kind text entries broken
 stops kind text entries at after error (passed, same_kind) gives =
     let refused = malformed_only at after error gives in
-    let none = subst (λ (it : Kind). (e : EntryView) (behind : ⊤) (rest : List ℕ) → HasEntry it tt (standing at).bytes e behind rest → ⊥) same_kind refused.1 in
-    let stop : TellsEntries kind (standing at).bytes [] broken = tells_error tt (standing at).bytes refused.0 none in
-    tells_passed (HasEntry kind) tt tt text (standing at).bytes entries broken passed stop
+    let none = subst (λ (it : Kind). (e : EntryView) (behind : ⊤) (rest : List ℕ) → HasEntry it tt (standing_in_tree at).bytes e behind rest → ⊥) same_kind refused.1 in
+    let stop : TellsEntries kind (standing_in_tree at).bytes [] broken = tells_error tt (standing_in_tree at).bytes refused.0 none in
+    tells_passed (HasEntry kind) tt tt text (standing_in_tree at).bytes entries broken passed stop
 
 -- ---- what is left is the end of the text
 

@@ -1,8 +1,8 @@
 -- Objects of any kind, borrowed: their kind, their text as it is written, what is refused, and copies with parts of their own.
 use Rattle.std.specs.Prelude.{◌≡◌, ◌≢◌, ℕ, List, [], ⊤}
-use Rattle.gixobj_commit.specs.CommitOwned.{IsOwnedForm as IsOwnedCommit, RefusesOwning as RefusesOwningCommit}
+use Rattle.gixobj_commit.specs.CommitOwned.{IsOwnedFormOfCommit as IsOwnedCommit, RefusesOwningCommit}
 use Rattle.gixobj_commit.specs.CommitViews.{commit_lines}
-use Rattle.gixobj_commit.specs.CommitWriting.{HasIds, RefusesLines as RefusesCommitLines, commit_text, in_lower_case}
+use Rattle.gixobj_commit.specs.CommitWriting.{HasIds, RefusesCommitLines, commit_text, in_lower_case}
 use Rattle.gixobj_fields.specs.Writing.{Refused}
 use Rattle.gixobj_hash.specs.Hash.{IsHexOfAnId}
 use Rattle.gixobj_hash.specs.declared.decode.Error.{Error}
@@ -11,9 +11,9 @@ use Rattle.gixobj_hash.specs.declared.kind.Kind.{Kind}
 use Rattle.gixobj_hash.specs.declared.kind.Kind.TheVariants as kind
 use Rattle.gixobj_object.specs.declared.object.Object.{Object}
 use Rattle.gixobj_object.specs.declared.object.Object.TheVariants as own
-use Rattle.gixobj_tag.specs.TagOwned.{IsOwnedForm as IsOwnedTag, RefusesOwning as RefusesOwningTag}
+use Rattle.gixobj_tag.specs.TagOwned.{IsOwnedFormOfTag as IsOwnedTag, RefusesOwningTag}
 use Rattle.gixobj_tag.specs.TagViews.{tag_lines}
-use Rattle.gixobj_tag.specs.TagWriting.{RefusesLines as RefusesTagLines, tag_text}
+use Rattle.gixobj_tag.specs.TagWriting.{RefusesTagLines, tag_text}
 use Rattle.gixobj_tree.specs.TreeViews.{tree_entries}
 use Rattle.gixobj_tree.specs.TreeText.{RefusesTree, tree_text}
 use Rattle.gixobj_object.specs.declared.object.borrowed.ObjectRef.{ObjectRef}

@@ -16,28 +16,28 @@ abbrev pub bytes_left : TreeRefIter → List ℕ
 bytes_left reader = reader.bytes.now
 
 -- where a reader stands: before each entry it is in the same state
-abbrev pub standing : TreeRefIter → Standing Kind ⊤
-standing reader = record { kind = reader.hash_kind; state = tt; bytes = bytes_left reader }
+abbrev pub standing_in_tree : TreeRefIter → Standing Kind ⊤
+standing_in_tree reader = record { kind = reader.hash_kind; state = tt; bytes = bytes_left reader }
 
 -- the reader stands before this text of a tree whose ids are of this kind
 abbrev pub IsAtEntry : Kind → List ℕ → TreeRefIter → Type 0
-IsAtEntry kind text reader = standing reader ≡ record { kind = kind; state = tt; bytes = text }
+IsAtEntry kind text reader = standing_in_tree reader ≡ record { kind = kind; state = tt; bytes = text }
 
 -- no more entries come than bytes are left
 abbrev pub entries_left : TreeRefIter → Count
 entries_left reader = at_most (length (bytes_left reader))
 
 -- no entry wants memory
-abbrev pub WantsNothing : Kind → ⊤ → List ℕ → Type 0
-WantsNothing kind before input = ⊥
+abbrev pub NoEntryWantsMemory : Kind → ⊤ → List ℕ → Type 0
+NoEntryWantsMemory kind before input = ⊥
 
 -- what one call answers: the next entry; an error, behind which no bytes are left; or nothing, without bytes
 abbrev pub GivesEntry : TreeRefIter → Option (Result EntryRef Error) → TreeRefIter → Type 0
-GivesEntry = Gives standing HasEntry WantsNothing entry_view (λ entry. ⊤)
+GivesEntry = Gives standing_in_tree HasEntry NoEntryWantsMemory entry_view (λ entry. ⊤)
 
 -- a reader of this text has gone past these entries
-abbrev pub HasPassed : Kind → List ℕ → List EntryView → TreeRefIter → Type 0
-HasPassed kind text entries reader = runs.Passes (HasEntry kind) tt text entries tt (bytes_left reader) × ((standing reader).kind ≡ kind)
+abbrev pub HasPassedEntries : Kind → List ℕ → List EntryView → TreeRefIter → Type 0
+HasPassedEntries kind text entries reader = runs.Passes (HasEntry kind) tt text entries tt (bytes_left reader) × ((standing_in_tree reader).kind ≡ kind)
 
 -- the text ends with this
 abbrev pub IsTail : List ℕ → List ℕ → Type 0

@@ -28,26 +28,26 @@ abbrev pub IsNamed : Name → EntryView → Type 0
 IsNamed name e = e.name ≡ name
 
 -- the first entry of this name that is told of a tree's text: none is told behind a damaged one
-abbrev pub HasFirst : hash.Kind → List ℕ → Name → EntryView → Type 0
-HasFirst hash text name e = runs.FindsFirst (HasEntry hash) (IsNamed name) tt text e × IsNamed name e
+abbrev pub HasFirstNamed : hash.Kind → List ℕ → Name → EntryView → Type 0
+HasFirstNamed hash text name e = runs.FindsFirst (HasEntry hash) (IsNamed name) tt text e × IsNamed name e
 
 -- no entry of this name is told
-abbrev pub HasNone : hash.Kind → List ℕ → Name → Type 0
-HasNone hash text name = (e : EntryView) → ¬ HasFirst hash text name e
+abbrev pub HasNoEntryNamed : hash.Kind → List ℕ → Name → Type 0
+HasNoEntryNamed hash text name = (e : EntryView) → ¬ HasFirstNamed hash text name e
 
 -- ---- one step
 
 -- what a step into a tree answers: the entry of the last name, the id of an entry where more names follow, or nothing where there is no such entry
 abbrev pub IsStep : StoredObject → List Name → ControlFlow (Option EntryRef) ObjectId → Type 0
-IsStep tree names (Break (Some entry)) = (name : Name) × (names ≡ name ∷ []) × HasFirst tree.object_hash tree.bytes name (entry_view entry)
-IsStep tree names (Break None) = (name : Name) (more : List Name) → names ≡ name ∷ more → HasNone tree.object_hash tree.bytes name
-IsStep tree names (Continue id) = (name : Name) × (more : List Name) × (e : EntryView) × (names ≡ name ∷ more) × (more ≢ []) × HasFirst tree.object_hash tree.bytes name e × (e.id ≡ id)
+IsStep tree names (Break (Some entry)) = (name : Name) × (names ≡ name ∷ []) × HasFirstNamed tree.object_hash tree.bytes name (entry_view entry)
+IsStep tree names (Break None) = (name : Name) (more : List Name) → names ≡ name ∷ more → HasNoEntryNamed tree.object_hash tree.bytes name
+IsStep tree names (Continue id) = (name : Name) × (more : List Name) × (e : EntryView) × (names ≡ name ∷ more) × (more ≢ []) × HasFirstNamed tree.object_hash tree.bytes name e × (e.id ≡ id)
 
 -- ---- paths
 
 -- there is an object, it is a tree, and this is its first entry of the name
 abbrev pub FoundIn : Option StoredObject → Name → EntryView → Type 0
-FoundIn (Some it) name e = (it.kind ≡ Tree) × HasFirst it.object_hash it.bytes name e
+FoundIn (Some it) name e = (it.kind ≡ Tree) × HasFirstNamed it.object_hash it.bytes name e
 FoundIn None name e = ⊥
 
 -- where the names of a path are sought: in the first object, and then in those that the entries' ids name

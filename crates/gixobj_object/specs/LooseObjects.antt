@@ -41,10 +41,10 @@ IsInvalidHeader (header.InvalidHeader message) = ⊤
 IsInvalidHeader _ = ⊥
 
 -- why there is no content of this size in front of what follows a header: it is longer, or no address reaches its end
-abbrev pub RefusesSize : List ℕ → ℕ → LooseDecodeError → Type 0
-RefusesSize behind size (InvalidHeader error) = (length behind < size) × IsInvalidHeader error
-RefusesSize behind size (OutOfMemory said) = (2 ^ 64 ≤ size) × (said ≡ size)
-RefusesSize behind size _ = ⊥
+abbrev pub RefusesContentSize : List ℕ → ℕ → LooseDecodeError → Type 0
+RefusesContentSize behind size (InvalidHeader error) = (length behind < size) × IsInvalidHeader error
+RefusesContentSize behind size (OutOfMemory said) = (2 ^ 64 ≤ size) × (said ≡ size)
+RefusesContentSize behind size _ = ⊥
 
 -- why the input begins with no loose object: why it begins with no header, or fewer bytes follow than the header says; why the content is refused;
 -- or no memory has room for a content of this size

@@ -1,12 +1,12 @@
 -- Objects of any kind with parts of their own: their kind, their text as it is written, and what is refused.
 use Rattle.std.specs.Prelude.{ℕ, List}
-use Rattle.gixobj_commit.specs.CommitViews.{owned_lines as owned_commit_lines}
-use Rattle.gixobj_commit.specs.CommitWriting.{RefusesOwned as RefusesOwnedCommit, commit_text}
+use Rattle.gixobj_commit.specs.CommitViews.{owned_commit_lines}
+use Rattle.gixobj_commit.specs.CommitWriting.{RefusesOwnedCommit, commit_text}
 use Rattle.gixobj_fields.specs.Writing.{Refused}
 use Rattle.gixobj_hash.specs.declared.kind.Kind.{Kind}
 use Rattle.gixobj_hash.specs.declared.kind.Kind.TheVariants as kind
-use Rattle.gixobj_tag.specs.TagViews.{owned_lines as owned_tag_lines}
-use Rattle.gixobj_tag.specs.TagWriting.{RefusesOwned as RefusesOwnedTag, tag_text}
+use Rattle.gixobj_tag.specs.TagViews.{owned_tag_lines}
+use Rattle.gixobj_tag.specs.TagWriting.{RefusesOwnedTag, tag_text}
 use Rattle.gixobj_tree.specs.TreeText.{RefusesTree, tree_text}
 use Rattle.gixobj_object.specs.declared.object.Object.{Object}
 use Rattle.gixobj_object.specs.declared.object.Object.TheVariants as object

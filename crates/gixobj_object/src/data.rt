@@ -4,8 +4,8 @@ ghost use Rattle.gixobj_hash.specs.declared.kind.Kind.TheVariants as object;
 ghost use Rattle.gixobj_object.specs.EntryGiving.{IsAtEntry};
 ghost use Rattle.gixobj_object.specs.BorrowedObjects.{HasObjectIds, IsReadyToWrite};
 ghost use Rattle.gixobj_object.specs.ObjectReading.{IsObjectText, RefusesObjectText};
-ghost use Rattle.gixobj_tag.specs.TokenGiving.{IsAtStart as IsAtStartOfTag};
-ghost use Rattle.gixobj_commit.specs.TokenGiving.{IsAtStart};
+ghost use Rattle.gixobj_tag.specs.TokenGiving.{IsAtStartOfTag};
+ghost use Rattle.gixobj_commit.specs.TokenGiving.{IsAtStartOfCommit};
 
 pub mod verify;
 
@@ -63,7 +63,7 @@ impl<'a> Data<'a> {
     /// It takes no memory.
     pub fn try_into_commit_iter(self, alloc: Global) -> Option<CommitRefIter<'a>>
         ensures accepts { IsSome result ↔ (self.entry.kind ≡ object.Commit) }
-        ensures reader { IfSome result (IsAtStart self.entry.object_hash self.entry.bytes.now) }
+        ensures reader { IfSome result (IsAtStartOfCommit self.entry.object_hash self.entry.bytes.now) }
     {
         match self.kind {
             Kind::Commit => Some(CommitRefIter::from_bytes(alloc, self.bytes, self.object_hash)),

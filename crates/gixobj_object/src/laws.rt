@@ -9,7 +9,7 @@ ghost use Rattle.gixobj_tree.specs.Entries.{EntryView};
 ghost use Rattle.gixobj_tree.specs.TreeReading.{IsTreeText, TellsEntries};
 ghost use Rattle.gixobj_tree.specs.TreeViews.{entry_view};
 ghost use Rattle.gixobj_tree.specs.declared.tree.borrowed.entry_ref.EntryRef.{EntryRef};
-ghost use Rattle.gixobj_object.specs.EntryGiving.{GivesEntry, HasPassed, IsAtEntry, IsTail, bytes_left};
+ghost use Rattle.gixobj_object.specs.EntryGiving.{GivesEntry, HasPassedEntries, IsAtEntry, IsTail, bytes_left};
 ghost use Rattle.gixobj_object.specs.Stores.{Objects, StoredObject, named};
 ghost use Rattle.gixobj_object.specs.TreeReaders.{IsLongestFront};
 ghost use Rattle.gixobj_object.specs.declared.tree.TreeRefIter.{TreeRefIter};
@@ -29,13 +29,13 @@ pub fn tree_readers_read_one_language()
 /// none; each entry that it gives is passed too; where it gives nothing more, those that were passed are
 /// told to the end, and where it gives an error, they are told up to there.
 pub fn entries_are_passed()
-    ensures starts { (kind : Kind) (text : List ℕ) (reader : TreeRefIter) → IsAtEntry kind text reader → HasPassed kind text [] reader }
+    ensures starts { (kind : Kind) (text : List ℕ) (reader : TreeRefIter) → IsAtEntry kind text reader → HasPassedEntries kind text [] reader }
     ensures goes_on { (kind : Kind) (text : List ℕ) (entries : List EntryView) (at after : TreeRefIter) (entry : EntryRef) →
-        HasPassed kind text entries at → GivesEntry at (Some (Ok entry)) after → HasPassed kind text (entries ++ entry_view entry ∷ []) after }
+        HasPassedEntries kind text entries at → GivesEntry at (Some (Ok entry)) after → HasPassedEntries kind text (entries ++ entry_view entry ∷ []) after }
     ensures ends { (kind : Kind) (text : List ℕ) (entries : List EntryView) (at after : TreeRefIter) →
-        HasPassed kind text entries at → GivesEntry at None after → TellsEntries kind text entries complete }
+        HasPassedEntries kind text entries at → GivesEntry at None after → TellsEntries kind text entries complete }
     ensures stops { (kind : Kind) (text : List ℕ) (entries : List EntryView) (at after : TreeRefIter) (error : Error) →
-        HasPassed kind text entries at → GivesEntry at (Some (Err error)) after → TellsEntries kind text entries broken }
+        HasPassedEntries kind text entries at → GivesEntry at (Some (Err error)) after → TellsEntries kind text entries broken }
 {}
 
 /// What a reader of a text has left is the end of that text: at its start, and behind each call. So

@@ -7,7 +7,7 @@ use Rattle.gixobj_hash.specs.declared.hash.kind.Kind as hash
 use Rattle.gixobj_script.proofs.Cuts.{AreInFront, and_the_rest, none_in_front, one_more, parts_of, the_last}
 use Rattle.gixobj_script.specs.Lines.{IsCommandText}
 use Rattle.gixobj_script.specs.Cuts.{IsCutAt}
-use Rattle.gixobj_script.specs.Scripts.{IsFirstBad, IsGoodLine, IsReached, IsScript, PutsLine, RefusesLine, RefusesScript, filled_lines}
+use Rattle.gixobj_script.specs.Scripts.{IsFirstBad, IsGoodLine, IsReached, IsScript, PutsLine, RefusesScriptLine, RefusesScript, filled_lines}
 use Rattle.gixobj_script.specs.declared.script.ScriptError.{ScriptError}
 use Rattle.gixobj_script.specs.declared.script.ScriptError.TheVariants.{BadLine, OutOfMemory}
 use Rattle.gixobj_hash.specs.Bytes.{newline}
@@ -86,7 +86,7 @@ last_reached hash text rest commands number so_far free =
     record { before = so_far.lines; behind = []; cut = the_last newline text rest so_far.lines so_far.front free; good = so_far.good; counted = so_far.counted }
 
 -- what refuses the line that is reached refuses the script
-pub line_refused : (hash : hash.Kind) (text line : List ℕ) (number : ℕ) (error : ScriptError) → IsReached hash text number line → RefusesLine hash number line error → RefusesScript hash text error
+pub line_refused : (hash : hash.Kind) (text line : List ℕ) (number : ℕ) (error : ScriptError) → IsReached hash text number line → RefusesScriptLine hash number line error → RefusesScript hash text error
 line_refused hash text line number (BadLine bad) is (same, wrong) = (let P : ℕ → Type 0 = IsFirstBad hash text in subst P (sym same) (line, is, wrong))
 line_refused hash text line number OutOfMemory is has = (number, line, is, has)
 

@@ -37,5 +37,5 @@ abbrev pub lookups_line : ℕ → List ℕ
 lookups_line lookups = word_and (codes "lookups") (decimal lookups) ++ newline ∷ []
 
 -- a line for each answer, and last the lookups
-abbrev pub lines_of : List Answer → ℕ → List ℕ
-lines_of answers lookups = flat_map answer_line answers ++ lookups_line lookups
+abbrev pub answer_lines_of : List Answer → ℕ → List ℕ
+answer_lines_of answers lookups = flat_map answer_line answers ++ lookups_line lookups

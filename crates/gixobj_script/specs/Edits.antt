@@ -11,7 +11,7 @@ use Rattle.gixobj_files.specs.State.{State, root_alone}
 use Rattle.gixobj_hash.specs.declared.hash.kind.Kind as hash
 use Rattle.gixobj_editor.specs.Replies.{Answers, IsRun, Meaning}
 use Rattle.gixobj_editor.specs.declared.reply.Reply.{Reply}
-use Rattle.gixobj_script.specs.Answers.{lines_of}
+use Rattle.gixobj_script.specs.Answers.{answer_lines_of}
 use Rattle.gixobj_script.specs.Scripts.{IsFirstBad, IsScript, RefusesScript}
 use Rattle.gixobj_script.specs.declared.script.ScriptError.{ScriptError}
 use Rattle.gixobj_script.specs.declared.script.ScriptError.TheVariants as script
@@ -25,7 +25,7 @@ pub record IsTold {S E : Type 0} (means : Meaning S) (answers : Answers E) (hash
   pub replies : List (Reply E)
   pub reads : IsScript hash script (map command_view commands)
   pub ran : IsRun means answers old commands replies new
-  pub tells : text ≡ lines_of (answers_to_all replies) new.lookups
+  pub tells : text ≡ answer_lines_of (answers_to_all replies) new.lookups
 
 -- the script is that of commands, and these were run on the old state and left the new one
 pub record WasRun {S E : Type 0} (means : Meaning S) (answers : Answers E) (hash : hash.Kind) (script : List ℕ) (old new : State S) : Type 0 where
@@ -39,7 +39,7 @@ abbrev pub memory_means : Meaning Memory
 memory_means = record { objects = memory_objects; may_fail = λ store id. false }
 
 -- a new editor on the empty root, over a store that has nothing
-pub record IsNew (hash : hash.Kind) (state : State Memory) : Type 0 where
+pub record IsNewEditor (hash : hash.Kind) (state : State Memory) : Type 0 where
   pub root : state.dirs ≡ root_alone []
   pub bases : state.bases ≡ root_alone []
   pub nothing : memory_objects state.store ≡ finite.empty
@@ -50,7 +50,7 @@ pub record IsNew (hash : hash.Kind) (state : State Memory) : Type 0 where
 pub record IsEdit (hash : hash.Kind) (script text : List ℕ) : Type 0 where
   pub old : State Memory
   pub new : State Memory
-  pub begun : IsNew hash old
+  pub begun : IsNewEditor hash old
   pub told : IsTold memory_means (IsAnsweredDigest hash) hash script old text new
 
 -- the refusal to read a script is that to run it

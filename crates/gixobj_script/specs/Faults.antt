@@ -4,7 +4,7 @@ use Rattle.gixobj_script.specs.declared.editing.EditError.{EditError}
 use Rattle.gixobj_script.specs.declared.editing.EditError.TheVariants as editing
 use Rattle.gixobj_script.specs.declared.fault.Fault.{Fault}
 use Rattle.gixobj_script.specs.declared.fault.Fault.TheVariants as fault
-use Rattle.gixobj_show.specs.Refusal.{line, line_of, status_of}
+use Rattle.gixobj_show.specs.Refusal.{line, line_of, exit_status_of}
 use Rattle.gixobj_show.specs.declared.refusal.Refusal.TheVariants as refusal
 
 -- the fault of a refusal to run a script
@@ -24,4 +24,4 @@ fault_line (fault.Refused it) = line_of it
 -- the exit status
 abbrev pub fault_status : Fault → ℕ
 fault_status (fault.BadLine number) = 1
-fault_status (fault.Refused it) = status_of it
+fault_status (fault.Refused it) = exit_status_of it

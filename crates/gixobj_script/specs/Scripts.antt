@@ -34,9 +34,9 @@ abbrev pub PutsLine : hash.Kind → List ℕ → List CommandView → List Comma
 PutsLine hash line old new = (own : List CommandView) × AllZip (IsCommandText hash) (filled_lines (line ∷ [])) own × (new ≡ old ++ own)
 
 -- why the line of this number isn't put: it is bad; or memory was wanting for its command
-abbrev pub RefusesLine : hash.Kind → ℕ → List ℕ → ScriptError → Type 0
-RefusesLine hash number line (BadLine bad) = (bad ≡ number) × IsBadLine hash line
-RefusesLine hash number line OutOfMemory = HasCommand hash line
+abbrev pub RefusesScriptLine : hash.Kind → ℕ → List ℕ → ScriptError → Type 0
+RefusesScriptLine hash number line (BadLine bad) = (bad ≡ number) × IsBadLine hash line
+RefusesScriptLine hash number line OutOfMemory = HasCommand hash line
 
 -- the line of this number of a text, from 1, where no line before it is bad
 pub record IsReached (hash : hash.Kind) (text : List ℕ) (number : ℕ) (line : List ℕ) : Type 0 where

@@ -1,6 +1,6 @@
 //! What came of a script, told line by line.
 ghost use Rattle.std.specs.Prelude.{◌≡◌, ◌++◌, codes, IfOk, OnOk};
-ghost use Rattle.gixobj_script.specs.Answers.{answer_text, lines_of, refusal_text};
+ghost use Rattle.gixobj_script.specs.Answers.{answer_text, answer_lines_of, refusal_text};
 ghost use Rattle.gixobj_script.specs.Lines.{word_and};
 
 use bstr::BString;
@@ -51,7 +51,7 @@ pub enum Answer {
 /// - `wrote ID COUNT`, `refused out` or `refused memory`, for a write;
 /// - `unkept ID`, for a write of which the store didn't keep all.
 pub fn answer_lines(alloc: Global, answers: &[Answer], lookups: u64) -> Result<Vec<u8>, OutOfMemory>
-    ensures { IfOk result (λ text. text.items ≡ lines_of answers.now lookups) }
+    ensures { IfOk result (λ text. text.items ≡ answer_lines_of answers.now lookups) }
 {
     let mut digits = Buffer::new();
     let mut text = Vec::new(alloc);

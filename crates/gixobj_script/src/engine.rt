@@ -7,7 +7,7 @@ ghost use Rattle.gixobj_script.specs.Words.{AsksForEdit, AsksForNoEdit, AsksToEd
 ghost use Rattle.gixobj_script.specs.declared.fault.Fault.{Fault};
 ghost use Rattle.gixobj_fields.specs.Streams.{writer_view};
 ghost use Rattle.gixobj_show.specs.Engine.{Answered, Refuses, Told, Unread, Unwritten};
-ghost use Rattle.gixobj_show.specs.Refusal.{line_of, status_of};
+ghost use Rattle.gixobj_show.specs.Refusal.{line_of, exit_status_of};
 ghost use Rattle.gixobj_show.specs.declared.refusal.Refusal.{Refusal};
 
 use crate::editing::edit;
@@ -39,7 +39,7 @@ pub fn engine<R: Read, O: Write, E: Write>(
 ) -> u8
     ensures answer { result ≡ 0 → AsksForNoEdit (map string_bytes words.now)
         → Answered (map string_bytes words.now) (R.remaining input.old) (R.remaining input.new) (writer_view (O.contents output.old)) (writer_view (O.contents output.new)) }
-    ensures refusal { result ≢ 0 → AsksForNoEdit (map string_bytes words.now) → (refusal : Refusal) × (result ≡ status_of refusal)
+    ensures refusal { result ≢ 0 → AsksForNoEdit (map string_bytes words.now) → (refusal : Refusal) × (result ≡ exit_status_of refusal)
         × Refuses (map string_bytes words.now) (R.remaining input.old) (R.remaining input.new) ⊤ (writer_view (O.contents output.old)) (writer_view (O.contents output.new)) refusal
         × Told (writer_view (E.contents errors.old)) (writer_view (E.contents errors.new)) (line_of refusal)
         × Unread (input.new ≡ input.old) refusal × Unwritten (output.new ≡ output.old) refusal }
@@ -75,7 +75,7 @@ pub fn run<S: Source, O: Sink, E: Sink>(
 ) -> u8
     ensures answer { result ≡ 0 → AsksForNoEdit (map string_bytes words.now)
         → Answered (map string_bytes words.now) (S.rest input.old) (S.rest input.new) (O.view output.old) (O.view output.new) }
-    ensures refusal { result ≢ 0 → AsksForNoEdit (map string_bytes words.now) → (refusal : Refusal) × (result ≡ status_of refusal)
+    ensures refusal { result ≢ 0 → AsksForNoEdit (map string_bytes words.now) → (refusal : Refusal) × (result ≡ exit_status_of refusal)
         × Refuses (map string_bytes words.now) (S.rest input.old) (S.rest input.new) (S.may_fail input.old) (O.view output.old) (O.view output.new) refusal
         × Told (E.view errors.old) (E.view errors.new) (line_of refusal)
         × Unread (input.new ≡ input.old) refusal × Unwritten (output.new ≡ output.old) refusal }

@@ -1,7 +1,7 @@
 //! Scripts, read whole.
 ghost use Rattle.std.specs.Prelude.{◌≡◌, ◌≢◌, ◌++◌, [], map, IfErr, IfOk, OnOk};
 ghost use Rattle.gixobj_editor.specs.Views.{command_view};
-ghost use Rattle.gixobj_script.specs.Scripts.{IsScript, PutsLine, RefusesLine, RefusesScript};
+ghost use Rattle.gixobj_script.specs.Scripts.{IsScript, PutsLine, RefusesScriptLine, RefusesScript};
 
 use crate::line::read_command;
 use gixobj_editor::Command;
@@ -72,7 +72,7 @@ fn put_line(
     hash: Kind,
 ) -> Result<(), ScriptError>
     ensures put { OnOk result (PutsLine hash line.now (map command_view commands.old.items) (map command_view commands.new.items)) }
-    ensures refusal { IfErr result (RefusesLine hash number line.now) }
+    ensures refusal { IfErr result (RefusesScriptLine hash number line.now) }
 {
     if line.is_empty() {
         return Ok(());

@@ -6,7 +6,7 @@ use Rattle.gixobj_base.specs.hash.hash.kind.Kind as hash
 use Rattle.gixobj_base.specs.hash.hash.object_id.ObjectId.{ObjectId}
 use Rattle.gixobj_base.specs.hash.kind.Kind.{Kind}
 use Rattle.gixobj_show.specs.Listing.{IsBadTree, IsListed, IsOfAnotherKind, RefusesListing}
-use Rattle.gixobj_show.specs.Object.{HasNoHeader, IsShort, RefusesObject}
+use Rattle.gixobj_show.specs.Object.{HasNoLooseHeader, IsShort, RefusesObject}
 use Rattle.gixobj_show.specs.Show.{IsShown, show_line}
 use Rattle.gixobj_show.specs.Words.{AsksFor, AsksForNothing}
 use Rattle.gixobj_show.specs.declared.refusal.Refusal.{Refusal}
@@ -25,9 +25,9 @@ IsTextFor Show hash input text =
 IsTextFor Tree hash input text = IsListed hash input text
 
 -- why the command makes nothing of the input
-abbrev pub RefusesText : Command → hash.Kind → List ℕ → Refusal → Type 0
-RefusesText Show hash input refusal = RefusesObject input refusal
-RefusesText Tree hash input refusal = RefusesListing hash input refusal
+abbrev pub RefusesCommandText : Command → hash.Kind → List ℕ → Refusal → Type 0
+RefusesCommandText Show hash input refusal = RefusesObject input refusal
+RefusesCommandText Tree hash input refusal = RefusesListing hash input refusal
 
 -- this text answers the words
 abbrev pub IsAnswer : List (List ℕ) → List ℕ → List ℕ → Type 0
@@ -49,7 +49,7 @@ Refuses words rest rest' may_fail out out' InputFailed = Asks words × may_fail
 Refuses words rest rest' may_fail out out' OutputFailed =
     (input text : List ℕ) × ReadsAll rest rest' input × IsAnswer words input text × PutsFront out out' text
 Refuses words rest rest' may_fail out out' OutOfMemory = Asks words
-Refuses words rest rest' may_fail out out' BadHeader = Asks words × (input : List ℕ) × ReadsAll rest rest' input × HasNoHeader input
+Refuses words rest rest' may_fail out out' BadHeader = Asks words × (input : List ℕ) × ReadsAll rest rest' input × HasNoLooseHeader input
 Refuses words rest rest' may_fail out out' ShortData = Asks words × (input : List ℕ) × ReadsAll rest rest' input × IsShort input
 Refuses words rest rest' may_fail out out' NotATree =
     (hash : hash.Kind) × (input : List ℕ) × AsksFor words Tree hash × ReadsAll rest rest' input × IsOfAnotherKind input

@@ -9,7 +9,7 @@ use Rattle.gixobj_base.specs.hash.hash.kind.Kind as hash
 use Rattle.gixobj_base.specs.hash.kind.Kind.{Kind}
 use Rattle.gixobj_base.specs.hash.kind.Kind.TheVariants.{Tree}
 use Rattle.gixobj_tree.specs.TreeReading.{BeginsWithEntry, IsNoTreeText, IsTreeText}
-use Rattle.gixobj_show.specs.Object.{BeginsWithObject, HasNoHeader, IsShort}
+use Rattle.gixobj_show.specs.Object.{BeginsWithObject, HasNoLooseHeader, IsShort}
 use Rattle.gixobj_show.specs.declared.refusal.Refusal.{Refusal}
 use Rattle.gixobj_show.specs.declared.refusal.Refusal.TheVariants.{BadHeader, BadTree, NotATree, OutOfMemory, ShortData}
 
@@ -45,18 +45,18 @@ HasFirstEntry hash input =
     (content : List ℕ) × (e : EntryView) × (rest : List ℕ) × BeginsWithObject input Tree content × BeginsWithEntry hash content e rest
 
 -- why the input begins with no loose object of a tree's kind. Only what a bad header hands back takes memory
-abbrev pub RefusesTree : List ℕ → Refusal → Type 0
-RefusesTree input BadHeader = HasNoHeader input
-RefusesTree input OutOfMemory = HasNoHeader input
-RefusesTree input ShortData = IsShort input
-RefusesTree input NotATree = IsOfAnotherKind input
-RefusesTree input _ = ⊥
+abbrev pub RefusesListedTree : List ℕ → Refusal → Type 0
+RefusesListedTree input BadHeader = HasNoLooseHeader input
+RefusesListedTree input OutOfMemory = HasNoLooseHeader input
+RefusesListedTree input ShortData = IsShort input
+RefusesListedTree input NotATree = IsOfAnotherKind input
+RefusesListedTree input _ = ⊥
 
 -- why no tree is listed. What a bad header hands back takes memory, and so do entries and their lines
 abbrev pub RefusesListing : hash.Kind → List ℕ → Refusal → Type 0
-RefusesListing hash input BadHeader = HasNoHeader input
+RefusesListing hash input BadHeader = HasNoLooseHeader input
 RefusesListing hash input ShortData = IsShort input
 RefusesListing hash input NotATree = IsOfAnotherKind input
 RefusesListing hash input BadTree = IsBadTree hash input
-RefusesListing hash input OutOfMemory = HasNoHeader input ⊎ HasFirstEntry hash input
+RefusesListing hash input OutOfMemory = HasNoLooseHeader input ⊎ HasFirstEntry hash input
 RefusesListing hash input _ = ⊥

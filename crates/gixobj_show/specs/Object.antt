@@ -16,8 +16,8 @@ pub record BeginsWithObject (input : List ℕ) (kind : Kind) (content : List ℕ
   pub object : IsObject input kind size content
 
 -- the input begins with no loose header
-abbrev pub HasNoHeader : List ℕ → Type 0
-HasNoHeader input = (kind : Kind) (size used : ℕ) → HasLooseHeader input kind size used → ⊥
+abbrev pub HasNoLooseHeader : List ℕ → Type 0
+HasNoLooseHeader input = (kind : Kind) (size used : ℕ) → HasLooseHeader input kind size used → ⊥
 
 -- the input ends before as many bytes as its header says
 abbrev pub IsShort : List ℕ → Type 0
@@ -25,7 +25,7 @@ IsShort input = (kind : Kind) × (size used : ℕ) × HasLooseHeader input kind 
 
 -- why the input begins with no loose object. Only what a bad header hands back takes memory
 abbrev pub RefusesObject : List ℕ → Refusal → Type 0
-RefusesObject input BadHeader = HasNoHeader input
-RefusesObject input OutOfMemory = HasNoHeader input
+RefusesObject input BadHeader = HasNoLooseHeader input
+RefusesObject input OutOfMemory = HasNoLooseHeader input
 RefusesObject input ShortData = IsShort input
 RefusesObject input _ = ⊥

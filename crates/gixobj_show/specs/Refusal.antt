@@ -20,12 +20,12 @@ line_of NotATree = line (codes "gixobj: not a tree")
 line_of BadTree = line (codes "gixobj: bad tree")
 
 -- the exit status
-abbrev pub status_of : Refusal → ℕ
-status_of Usage = 2
-status_of InputFailed = 1
-status_of OutputFailed = 1
-status_of OutOfMemory = 1
-status_of BadHeader = 1
-status_of ShortData = 1
-status_of NotATree = 1
-status_of BadTree = 1
+abbrev pub exit_status_of : Refusal → ℕ
+exit_status_of Usage = 2
+exit_status_of InputFailed = 1
+exit_status_of OutputFailed = 1
+exit_status_of OutOfMemory = 1
+exit_status_of BadHeader = 1
+exit_status_of ShortData = 1
+exit_status_of NotATree = 1
+exit_status_of BadTree = 1

@@ -1,9 +1,9 @@
 //! The program, over any reader and any two writers.
 ghost use Rattle.std.specs.Prelude.{◌≡◌, ◌≢◌, map, OnOk, IfErr, IfOk, ⊤};
 ghost use Rattle.std.specs.String.{string_bytes};
-ghost use Rattle.gixobj_show.specs.Engine.{Answered, IsTextFor, Refuses, RefusesText, Told, Unread, Unwritten};
+ghost use Rattle.gixobj_show.specs.Engine.{Answered, IsTextFor, Refuses, RefusesCommandText, Told, Unread, Unwritten};
 ghost use Rattle.gixobj_base.specs.Streams.{writer_view};
-ghost use Rattle.gixobj_show.specs.Refusal.{line_of, status_of};
+ghost use Rattle.gixobj_show.specs.Refusal.{line_of, exit_status_of};
 ghost use Rattle.gixobj_show.specs.declared.refusal.Refusal.{Refusal};
 
 use crate::input::read_all;
@@ -34,7 +34,7 @@ pub fn engine<R: Read, O: Write, E: Write>(
 ) -> u8
     ensures answer { result ≡ 0 → Answered (map string_bytes words.now) (R.remaining input.old) (R.remaining input.new) (writer_view (O.contents output.old)) (writer_view (O.contents output.new)) }
     ensures no_error { result ≡ 0 → errors.new ≡ errors.old }
-    ensures refusal { result ≢ 0 → (refusal : Refusal) × (result ≡ status_of refusal)
+    ensures refusal { result ≢ 0 → (refusal : Refusal) × (result ≡ exit_status_of refusal)
         × Refuses (map string_bytes words.now) (R.remaining input.old) (R.remaining input.new) ⊤ (writer_view (O.contents output.old)) (writer_view (O.contents output.new)) refusal
         × Told (writer_view (E.contents errors.old)) (writer_view (E.contents errors.new)) (line_of refusal)
         × Unread (input.new ≡ input.old) refusal × Unwritten (output.new ≡ output.old) refusal }
@@ -59,7 +59,7 @@ pub fn run<S: Source, O: Sink, E: Sink>(
 ) -> u8
     ensures answer { result ≡ 0 → Answered (map string_bytes words.now) (S.rest input.old) (S.rest input.new) (O.view output.old) (O.view output.new) }
     ensures no_error { result ≡ 0 → errors.new ≡ errors.old }
-    ensures refusal { result ≢ 0 → (refusal : Refusal) × (result ≡ status_of refusal)
+    ensures refusal { result ≢ 0 → (refusal : Refusal) × (result ≡ exit_status_of refusal)
         × Refuses (map string_bytes words.now) (S.rest input.old) (S.rest input.new) (S.may_fail input.old) (O.view output.old) (O.view output.new) refusal
         × Told (E.view errors.old) (E.view errors.new) (line_of refusal)
         × Unread (input.new ≡ input.old) refusal × Unwritten (output.new ≡ output.old) refusal }
@@ -103,7 +103,7 @@ fn text_for(
     input: &[u8],
 ) -> Result<SmallVec<u8, 96>, Refusal>
     ensures text { IfOk result (λ text. IsTextFor command hash input.now text.items) }
-    ensures refusal { IfErr result (RefusesText command hash input.now) }
+    ensures refusal { IfErr result (RefusesCommandText command hash input.now) }
 {
     match command {
         Command::Show => Ok(show(alloc, hash, input)?.line(alloc)),
@@ -113,7 +113,7 @@ fn text_for(
 
 /// Says what is wrong, and answers the exit status. Where that can't be said, the status alone says it.
 pub fn tell<E: Sink>(refusal: Refusal, errors: &mut E) -> u8
-    ensures status { result ≡ status_of refusal }
+    ensures status { result ≡ exit_status_of refusal }
     ensures told { Told (E.view errors.old) (E.view errors.new) (line_of refusal) }
     ensures same_loan { E.loan errors.new ≡ E.loan errors.old }
 {

@@ -1,6 +1,6 @@
 //! Why the program gives no answer, and what it says of it.
 ghost use Rattle.std.specs.Prelude.{◌≡◌};
-ghost use Rattle.gixobj_show.specs.Refusal.{line_of, status_of};
+ghost use Rattle.gixobj_show.specs.Refusal.{line_of, exit_status_of};
 
 use gixobj_base::streams::Sink;
 
@@ -44,7 +44,7 @@ impl Refusal {
 
     /// The exit status: 2 for words that ask for nothing, else 1.
     pub fn status(self) -> u8
-        ensures { result ≡ status_of self }
+        ensures { result ≡ exit_status_of self }
     {
         match self {
             Refusal::Usage => 2,

@@ -1,7 +1,7 @@
 //! `tree`: the entries of a loose tree, a line each.
 ghost use Rattle.std.specs.Prelude.{◌≡◌, ◌≢◌, [], ◌++◌, IfOk, IfErr, OnErr, OnOk};
 ghost use Rattle.gixobj_base.specs.hash.kind.Kind.TheVariants.{Tree};
-ghost use Rattle.gixobj_show.specs.Listing.{IsListed, RefusesListing, RefusesTree, entry_line, listing_of};
+ghost use Rattle.gixobj_show.specs.Listing.{IsListed, RefusesListing, RefusesListedTree, entry_line, listing_of};
 ghost use Rattle.gixobj_show.specs.Object.{BeginsWithObject};
 ghost use Rattle.gixobj_tree.specs.TreeViews.{entry_view, tree_entries};
 
@@ -37,7 +37,7 @@ pub fn listing(alloc: Global, hash: hash::Kind, input: &[u8]) -> Result<Vec<u8>,
 /// The content of the loose tree that the input begins with.
 fn tree_content(alloc: Global, input: &[u8]) -> Result<&[u8], Refusal>
     ensures found { IfOk result (λ content. BeginsWithObject input.now Tree content.now) }
-    ensures refusal { IfErr result (RefusesTree input.now) }
+    ensures refusal { IfErr result (RefusesListedTree input.now) }
 {
     let object = loose_object(alloc, input)?;
     match object.kind {

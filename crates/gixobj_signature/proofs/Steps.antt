@@ -5,14 +5,14 @@ use Rattle.std.proofs.Math.Seq.{drop-cons}
 use Rattle.bstr.specs.Owned.{bstring_bytes}
 use Rattle.bstr.specs.declared.bstring.BString.{BString}
 use Rattle.gixobj_signature.specs.Calls.{Answer, CallView, OutputView, ran, failed, no_memory}
-use Rattle.gixobj_signature.specs.Plans.{Begins, Goes, IsLeft, Plan, ask, done, no_more}
+use Rattle.gixobj_signature.specs.Plans.{BeginsPlan, Goes, IsLeft, Plan, ask, done, no_more}
 use Rattle.gixobj_signature.specs.declared.signature.report.TrustLevel.TheVariants as trust
 use Rattle.gixobj_signature.specs.Verifiers.{ProgramView, SshView}
 use Rattle.gixobj_signature.specs.Verifying.{Verified, accepts, on_output, rest_plan, ssh_verified, tries}
 use Rattle.gixobj_signature.specs.VerifyingCalls.{principal_call}
 
 -- any plan may be left before its first call
-pub begins_at_once : {S R : Type 0} (runs : S → CallView → Answer → S → Type 0) (plan : Plan R) (s : S) → Begins runs plan s s
+pub begins_at_once : {S R : Type 0} (runs : S → CallView → Answer → S → Type 0) (plan : Plan R) (s : S) → BeginsPlan runs plan s s
 begins_at_once runs (done it) s = refl
 begins_at_once runs (ask call next) s = inl refl
 begins_at_once runs no_more s = refl
@@ -30,7 +30,7 @@ call_alone call = ask call (λ answer. on_output answer (λ it. no_more))
 follow : {S : Type 0} (runs : S → CallView → Answer → S → Type 0) (next : OutputView → Plan Verified) (answer : Answer) (outcome : Option Verified) (m t : S)
     → Goes runs (on_output answer (λ it. no_more)) m outcome t → Goes runs (on_output answer next) m outcome t
 follow runs next (ran it) (Some r) m t goes = absurd goes
-follow runs next (ran it) None m t goes = subst (λ (end : _). Begins runs (next it) m end) (sym goes) (begins_at_once runs (next it) m)
+follow runs next (ran it) None m t goes = subst (λ (end : _). BeginsPlan runs (next it) m end) (sym goes) (begins_at_once runs (next it) m)
 follow runs next (failed why) outcome m t goes = goes
 follow runs next no_memory outcome m t goes = goes
 

@@ -15,15 +15,15 @@ Carries {S} runs (ask call next) s r t = (answer : Answer) × (m : S) × runs s 
 Carries runs no_more s r t = ⊥
 
 -- the first calls of the plan take the runner from s to t: none of them, some, or all
-abbrev pub Begins : {S R : Type 0} → (S → CallView → Answer → S → Type 0) → Plan R → S → S → Type 0
-Begins runs (done outcome) s t = t ≡ s
-Begins {S} runs (ask call next) s t = (t ≡ s) ⊎ ((answer : Answer) × (m : S) × runs s call answer m × Begins runs (next answer) m t)
-Begins runs no_more s t = t ≡ s
+abbrev pub BeginsPlan : {S R : Type 0} → (S → CallView → Answer → S → Type 0) → Plan R → S → S → Type 0
+BeginsPlan runs (done outcome) s t = t ≡ s
+BeginsPlan {S} runs (ask call next) s t = (t ≡ s) ⊎ ((answer : Answer) × (m : S) × runs s call answer m × BeginsPlan runs (next answer) m t)
+BeginsPlan runs no_more s t = t ≡ s
 
 -- the plan is carried out where there is an outcome, and begun where memory was wanting
 abbrev pub Goes : {S R : Type 0} → (S → CallView → Answer → S → Type 0) → Plan R → S → Option R → S → Type 0
 Goes runs plan s (Some r) t = Carries runs plan s r t
-Goes runs plan s None t = Begins runs plan s t
+Goes runs plan s None t = BeginsPlan runs plan s t
 
 -- the plan p from s is what is left of the plan q from u: whatever comes of p from there comes of q
 abbrev pub IsLeft : {S R : Type 0} → (S → CallView → Answer → S → Type 0) → Plan R → S → Plan R → S → Type 0

@@ -25,8 +25,8 @@ use Rattle.gixobj_commit.specs.declared.lines.State.{State}
 use Rattle.gixobj_commit.specs.declared.lines.State.TheVariants as state
 use Rattle.gixobj_hash.specs.Bytes.{newline, space}
 use Rattle.gixobj_hash.specs.Texts.{IsFree}
-use Rattle.gixobj_commit.specs.Extracting.{HasSignature, IsNamedLine}
-use Rattle.gixobj_commit.specs.CommitSigning.{is_named, with_signature, without_headers}
+use Rattle.gixobj_commit.specs.Extracting.{HasCommitSignature, IsNamedLine}
+use Rattle.gixobj_commit.specs.CommitSigning.{is_header_named, with_signature, without_headers}
 use Rattle.gixobj_signed.specs.LineFields.{HasHeaderNames, HasLineFields, IsOneLine}
 
 -- ---- headers one after the other
@@ -259,22 +259,22 @@ written_header header named =
       value = refl;
     }
 
-unlike_name : (name : List ℕ) (header : Header) → is_named name header ≡ false → header.name ≢ name
+unlike_name : (name : List ℕ) (header : Header) → is_header_named name header ≡ false → header.name ≢ name
 unlike_name name header other same =
     let e : pointwise nat_eq header.name name ≡ true = (bytes_decides header.name name).1 same in
     let f : true ≡ false = sym e ∙ other in
     cc f
 
-kept_one : (name : List ℕ) (header : Header) (headers : List Header) (t : Bool) → is_named name header ≡ t → IsHeaderName header.name → Blocks name (flat_map header_text headers)
+kept_one : (name : List ℕ) (header : Header) (headers : List Header) (t : Bool) → is_header_named name header ≡ t → IsHeaderName header.name → Blocks name (flat_map header_text headers)
     → Blocks name (flat_map header_text (cond (not t) (header ∷ headers) headers))
 kept_one name header headers true is named blocks = blocks
 kept_one name header headers false is named blocks =
     join name (header_text header) (flat_map header_text headers) (one_block name (header_text header) (read_again header) (written_header header named) (unlike_name name header is)) blocks
 
-kept_blocks : (name : List ℕ) (headers : List Header) → All (λ header. IsHeaderName header.name) headers → Blocks name (flat_map header_text (filter (λ header. not (is_named name header)) headers))
+kept_blocks : (name : List ℕ) (headers : List Header) → All (λ header. IsHeaderName header.name) headers → Blocks name (flat_map header_text (filter (λ header. not (is_header_named name header)) headers))
 kept_blocks name [] named = no_block name
 kept_blocks name (header ∷ headers) named =
-    kept_one name header (filter (λ header. not (is_named name header)) headers) (is_named name header) refl (All-head (λ (h : Header). IsHeaderName h.name) header headers named)
+    kept_one name header (filter (λ header. not (is_header_named name header)) headers) (is_header_named name header) refl (All-head (λ (h : Header). IsHeaderName h.name) header headers named)
     (kept_blocks name headers (All-tail (λ (h : Header). IsHeaderName h.name) header headers named))
 
 parents_blocks : (kind : Kind) (parents : List (List ℕ)) → All (λ hex. IsFree newline hex) parents → Blocks (signature_field kind) (flat_map parent_text parents)
@@ -309,7 +309,7 @@ module _ (kind : Kind) (commit : CommitLines) (bytes : List ℕ) (named : HasHea
   the_header = record { name = signature_field kind; value = bytes }
 
   abbrev pub kept_headers : List Header
-  kept_headers = filter (λ header. not (is_named (signature_field kind) header)) commit.extra_headers
+  kept_headers = filter (λ header. not (is_header_named (signature_field kind) header)) commit.extra_headers
 
   abbrev pub unsigned_front : List ℕ
   unsigned_front = (before_encoding commit ++ encoding_text commit.encoding) ++ flat_map header_text kept_headers
@@ -326,7 +326,7 @@ module _ (kind : Kind) (commit : CommitLines) (bytes : List ℕ) (named : HasHea
       ∙ arranged (before_encoding commit ++ encoding_text commit.encoding) (flat_map header_text kept_headers) (header_text the_header) (10 ∷ commit.message)
 
   -- what is extracted is the payload
-  pub payload_extracted : (value signed : List ℕ) → HasSignature kind (commit_text (with_signature kind bytes commit)) value signed
+  pub payload_extracted : (value signed : List ℕ) → HasCommitSignature kind (commit_text (with_signature kind bytes commit)) value signed
       → signed ≡ commit_text (without_headers (signature_field kind) commit)
   unfolding BlocksBefore
   payload_extracted value signed has =

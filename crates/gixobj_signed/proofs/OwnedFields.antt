@@ -6,8 +6,8 @@ use Rattle.std.proofs.lemmas.List.Elements.{All-cons, All-head, All-map, All-nil
 use Rattle.std.specs.List.{AllPass}
 use Rattle.gixobj_actor.specs.ActorWriting.{IsLegal, owned_text}
 use Rattle.gixobj_actor.specs.declared.actor.Signature.{Signature}
-use Rattle.gixobj_commit.specs.CommitViews.{owned_lines}
-use Rattle.gixobj_commit.specs.CommitWriting.{RefusesEncoding, RefusesOwned, before_author, before_committer}
+use Rattle.gixobj_commit.specs.CommitViews.{owned_commit_lines}
+use Rattle.gixobj_commit.specs.CommitWriting.{RefusesEncoding, RefusesOwnedCommit, before_author, before_committer}
 use Rattle.gixobj_commit.specs.declared.commit.Commit.{Commit}
 use Rattle.gixobj_fields.specs.Writing.{Refused, RefusesNothing, header_with_newline, illegal_actor}
 use Rattle.gixobj_hash.specs.Hash.{hex_text, is_lower_hex_digit}
@@ -53,10 +53,10 @@ encoding_has_one_line (Some encoding) written = free_without newline encoding (�
 -- ---- commits
 
 pub owned_fields : (commit : Commit) → IsFree newline (hex_text commit.tree) → All (λ id. IsFree newline (hex_text id)) commit.parents.items
-    → (IsLegal commit.author → IsFree newline (owned_text commit.author)) → (IsLegal commit.committer → IsFree newline (owned_text commit.committer)) → RefusesNothing (RefusesOwned commit)
-    → HasLineFields (owned_lines commit)
+    → (IsLegal commit.author → IsFree newline (owned_text commit.author)) → (IsLegal commit.committer → IsFree newline (owned_text commit.committer)) → RefusesNothing (RefusesOwnedCommit commit)
+    → HasLineFields (owned_commit_lines commit)
 owned_fields commit tree parents author committer written =
-    let lines = owned_lines commit in
+    let lines = owned_commit_lines commit in
     let legal_author : IsLegal commit.author = legal_undenied commit.author (λ no. written illegal_actor (before_author lines) (inl (no, refl, refl))) in
     let legal_committer : IsLegal commit.committer = legal_undenied commit.committer (λ no. written illegal_actor (before_committer lines) (inr (inl (legal_author, no, refl, refl)))) in
     record {

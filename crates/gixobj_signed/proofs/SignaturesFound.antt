@@ -11,12 +11,12 @@ use Rattle.gixobj_hash.specs.declared.decode.Error.TheVariants.{Malformed}
 use Rattle.gixobj_hash.specs.declared.hash.kind.Kind.{Kind}
 use Rattle.gixobj_commit.proofs.LinesTold.{text_told}
 use Rattle.gixobj_commit.proofs.OneLine.{longer_header, no_header, no_line_of_nothing, one_line}
-use Rattle.gixobj_commit.specs.Commit.{AreHeaderTexts, CommitLines, IsCommitText, lines_of}
+use Rattle.gixobj_commit.specs.Commit.{AreHeaderTexts, CommitLines, IsCommitText, lines_of_commit}
 use Rattle.gixobj_commit.specs.Lines.{HasLine, LineView}
 use Rattle.gixobj_commit.specs.declared.lines.State.{State}
 use Rattle.gixobj_commit.specs.declared.lines.State.TheVariants as state
 use Rattle.gixobj_signed.proofs.CommitsExtracted.{Blocks, IsBlockLine, block_line, comes_last, comes_more, ends_at_header, join, no_block, read_again, signature_name, signed_text, the_header, unsigned_front, written_blocks, written_header}
-use Rattle.gixobj_commit.specs.Extracting.{HasNoSignature, IsNamedLine, RefusesSignature}
+use Rattle.gixobj_commit.specs.Extracting.{HasNoSignature, IsNamedLine, RefusesCommitSignature}
 use Rattle.gixobj_commit.specs.CommitSigning.{with_signature}
 use Rattle.gixobj_signed.specs.LineFields.{HasHeaderNames, HasLineFields}
 
@@ -110,5 +110,5 @@ module _ (kind : Kind) (commit : CommitLines) (bytes : List ℕ) (named : HasHea
       written.are (written_header (the_header kind commit bytes named fields) (signature_name kind)) refl (λ same. grind (arith, same))
       (sym read.joined ∙ signed_text kind commit bytes named fields)
 
-pub signature_not_refused : (kind : Kind) (text : List ℕ) (read : CommitLines) → IsCommitText kind text read → RefusesSignature kind text Malformed → ⊥
-signature_not_refused kind text read is (pieces, told, others) = two_endings kind state.Tree text (lines_of read) pieces (text_told kind text read is) told
+pub signature_not_refused : (kind : Kind) (text : List ℕ) (read : CommitLines) → IsCommitText kind text read → RefusesCommitSignature kind text Malformed → ⊥
+signature_not_refused kind text read is (pieces, told, others) = two_endings kind state.Tree text (lines_of_commit read) pieces (text_told kind text read is) told

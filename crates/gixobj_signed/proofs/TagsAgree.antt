@@ -11,7 +11,7 @@ use Rattle.gixobj_text.proofs.MarkerPlaces.{not_both, one_format, one_marker_pla
 use Rattle.gixobj_text.specs.Markers.{BeginsWithMarker, HasNoMarker, IsMarkerOf, IsMarkerPlace, MarksPlace, StartsLine, pgp_message, pgp_signature, signed_message, ssh_signature}
 use Rattle.gixobj_text.specs.declared.signature.Format.{Format}
 use Rattle.gixobj_text.specs.declared.signature.SignatureRef.{SignatureRef}
-use Rattle.gixobj_tag.specs.TagExtracting.{GivesSignature, HasSignature}
+use Rattle.gixobj_tag.specs.TagExtracting.{GivesSignatureOfTag, HasTagSignature}
 use Rattle.gixobj_tag.proofs.WholeTags.{Reads, take_apart}
 use Rattle.gixobj_tag.specs.LineReading.{HasTagger}
 use Rattle.gixobj_tag.specs.Signed.{IsSignature}
@@ -132,7 +132,7 @@ behind_newline_alone rest place format it = newline_by_front rest it.front it.re
 -- what a text's last marker begins, and in which format, or that it has no marker
 abbrev IsFoundIn : List ℕ → Option (List ℕ) → Type 0
 IsFoundIn text None = HasNoMarker text
-IsFoundIn text (Some bytes) = (before : List ℕ) × (format : Format) × HasSignature text bytes before format
+IsFoundIn text (Some bytes) = (before : List ℕ) × (format : Format) × HasTagSignature text bytes before format
 
 right_true : (a b : Bool) → (a && b) ≡ true → b ≡ true
 right_true true b both = both
@@ -206,21 +206,21 @@ tag_found kind text tag reads =
 
 -- ---- both ways to the signature agree
 
-one_signature : (text signature signature' before before' : List ℕ) (format format' : Format) → HasSignature text signature before format → HasSignature text signature' before' format' → (signature ≡ signature') × (format ≡ format')
+one_signature : (text signature signature' before before' : List ℕ) (format format' : Format) → HasTagSignature text signature before format → HasTagSignature text signature' before' format' → (signature ≡ signature') × (format ≡ format')
 one_signature text signature signature' before before' format format' has has' =
     let one = one_marker_place text has.place has'.place format format' has.is_place has'.is_place in
     let split = same_fronts before signature before' signature' (sym has.joined ∙ has'.joined) (has.as_long ∙ one.0 ∙ sym has'.as_long) in
     (split.1, one.1)
 
 -- the format of a signature that is found is that of the marker at its front
-found_format : (text signature before : List ℕ) (format : Format) → HasSignature text signature before format → BeginsWithMarker format signature
+found_format : (text signature before : List ℕ) (format : Format) → HasTagSignature text signature before format → BeginsWithMarker format signature
 found_format text signature before format has =
     let here = has.is_place.here in
     let split = same_fronts here.front here.rest before signature (sym here.joined ∙ has.joined) (here.as_long ∙ sym has.as_long) in
     subst (λ (it : List ℕ). BeginsWithMarker format it) split.1 here.marked
 
 agree : (text : List ℕ) (signature : Option (List ℕ)) (own : Option SignatureRef) (found : Option (SignatureRef × SignedData)) → IsFoundIn text signature → IsSignature signature own
-    → IfSome found (GivesSignature text) → IfNone found (HasNoMarker text) → AreTheSame own found
+    → IfSome found (GivesSignatureOfTag text) → IfNone found (HasNoMarker text) → AreTheSame own found
 agree text None None None is own given none = tt
 agree text None None (Some found) is own given none = absurd (not_both text given.place found.0.format given.is_place is)
 agree text None (Some it) found is own given none = absurd own
@@ -231,5 +231,5 @@ agree text (Some bytes) (Some it) (Some found) (before, format, has) own given n
     (one.0 ∙ sym own.0, one.1 ∙ one_format bytes format it.format (found_format text bytes before format has) own.1)
 
 pub signatures_agree : (kind : Kind) (text : List ℕ) (tag : TagLines) (own : Option SignatureRef) (found : Option (SignatureRef × SignedData)) → IsTagText kind text tag → IsSignature tag.signature own
-    → IfSome found (GivesSignature text) → IfNone found (HasNoMarker text) → AreTheSame own found
+    → IfSome found (GivesSignatureOfTag text) → IfNone found (HasNoMarker text) → AreTheSame own found
 signatures_agree kind text tag own found is = agree text tag.signature own found (tag_found kind text tag (take_apart kind text tag is))

@@ -5,8 +5,8 @@ use Rattle.gixobj_text.specs.Markers.{BeginsWithMarker, IsMarkerPlace, MarksPlac
 use Rattle.gixobj_text.specs.declared.signature.Format.{Format}
 use Rattle.gixobj_tag.specs.TagText.{TagLines, lines_text}
 use Rattle.gixobj_tag.specs.TagWriting.{message_text, tag_text}
-use Rattle.gixobj_tag.specs.TagExtracting.{HasSignature}
-use Rattle.gixobj_tag.specs.TagSigning.{payload_of, signed_as}
+use Rattle.gixobj_tag.specs.TagExtracting.{HasTagSignature}
+use Rattle.gixobj_tag.specs.TagSigning.{payload_of_tag, signed_as}
 use Rattle.gixobj_signed.specs.OneMarker.{HasOneMarker}
 
 -- of two cuts of one text, the longer front is the shorter one and more
@@ -58,7 +58,7 @@ same_fronts (x ∷ a) b (y ∷ c) d same long =
 arranged_tag : (lines message signature : List ℕ) → lines ++ (message ++ 10 ∷ signature) ≡ ((lines ++ (message ++ [])) ++ 10 ∷ []) ++ signature
 arranged_tag lines message signature = simp (append_assoc, append-nil)
 
-signed_tag_text : (tag : TagLines) (bytes : List ℕ) → tag_text (signed_as (Some bytes) tag) ≡ payload_of tag ++ bytes
+signed_tag_text : (tag : TagLines) (bytes : List ℕ) → tag_text (signed_as (Some bytes) tag) ≡ payload_of_tag tag ++ bytes
 signed_tag_text tag bytes = arranged_tag (lines_text tag) (message_text tag.message) bytes
 
 at_payload : (unsigned bytes : List ℕ) (place : ℕ) (format own : Format) → BeginsWithMarker own bytes → ((other_place : ℕ) (other : Format) → MarksPlace bytes other_place other → other_place ≡ 0)
@@ -78,8 +78,8 @@ at_payload unsigned bytes place format own begins one is =
 
 -- what is extracted is the payload, and the signer's text
 pub tag_payload_extracted : (tag : TagLines) (bytes signature signed : List ℕ) (format : Format) → HasOneMarker bytes
-    → HasSignature (tag_text (signed_as (Some bytes) tag)) signature signed format → (signed ≡ payload_of tag) × (signature ≡ bytes)
+    → HasTagSignature (tag_text (signed_as (Some bytes) tag)) signature signed format → (signed ≡ payload_of_tag tag) × (signature ≡ bytes)
 tag_payload_extracted tag bytes signature signed format marker has =
-    let is : IsMarkerPlace (payload_of tag ++ bytes) has.place format = subst (λ (it : List ℕ). IsMarkerPlace it has.place format) (signed_tag_text tag bytes) has.is_place in
-    let place : has.place ≡ length (payload_of tag) = at_payload (tag_text (signed_as None tag)) bytes has.place format marker.format marker.begins marker.one is in
-    same_fronts signed signature (payload_of tag) bytes (sym has.joined ∙ signed_tag_text tag bytes) (has.as_long ∙ place)
+    let is : IsMarkerPlace (payload_of_tag tag ++ bytes) has.place format = subst (λ (it : List ℕ). IsMarkerPlace it has.place format) (signed_tag_text tag bytes) has.is_place in
+    let place : has.place ≡ length (payload_of_tag tag) = at_payload (tag_text (signed_as None tag)) bytes has.place format marker.format marker.begins marker.one is in
+    same_fronts signed signature (payload_of_tag tag) bytes (sym has.joined ∙ signed_tag_text tag bytes) (has.as_long ∙ place)

@@ -16,7 +16,7 @@ WasSigned runs options payload old new = (bytes : List ℕ) × Carries runs (sig
 
 -- whatever the text of a commit is told to sign was signed by the calls that were made
 abbrev pub CommitGivesPayload : {S : Type 0} → (S → CallView → Answer → S → Type 0) → Options → Kind → List ℕ → S → S → Type 0
-CommitGivesPayload runs options kind text old new = (value payload : List ℕ) → commits.HasSignature kind text value payload → WasSigned runs options payload old new
+CommitGivesPayload runs options kind text old new = (value payload : List ℕ) → commits.HasCommitSignature kind text value payload → WasSigned runs options payload old new
 
 -- a signer gave these bytes for the payload; where they begin with their one marker, the text of the tag is told to sign
 -- the payload, by these bytes
@@ -24,4 +24,4 @@ pub record TagGivesPayload {S : Type 0} (runs : S → CallView → Answer → S 
   pub payload : List ℕ
   pub bytes : List ℕ
   pub went : Carries runs (sign_plan (options_view options) payload) old (signature bytes) new
-  pub found : HasOneMarker bytes → (given signed : List ℕ) (format : Format) → tags.HasSignature text given signed format → (signed ≡ payload) × (given ≡ bytes)
+  pub found : HasOneMarker bytes → (given signed : List ℕ) (format : Format) → tags.HasTagSignature text given signed format → (signed ≡ payload) × (given ≡ bytes)

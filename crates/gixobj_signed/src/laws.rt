@@ -1,9 +1,9 @@
 //! Laws of what is signed. Two functions sign, and their contracts say what comes of it; the others do nothing, and
 //! their contract is the law.
 ghost use Rattle.std.specs.Prelude.{◌≡◌, ℕ, IfNone, IfOk, IfSome, List, Option, Some};
-ghost use Rattle.gixobj_commit.specs.CommitSigning.{payload_of, with_signature};
-ghost use Rattle.gixobj_commit.specs.CommitViews.{owned_lines};
-ghost use Rattle.gixobj_commit.specs.CommitWriting.{RefusesOwned, commit_text};
+ghost use Rattle.gixobj_commit.specs.CommitSigning.{payload_of_commit, with_signature};
+ghost use Rattle.gixobj_commit.specs.CommitViews.{owned_commit_lines};
+ghost use Rattle.gixobj_commit.specs.CommitWriting.{RefusesOwnedCommit, commit_text};
 ghost use Rattle.gixobj_fields.specs.Writing.{RefusesNothing};
 ghost use Rattle.gixobj_hash.specs.Hash.{id_kind};
 ghost use Rattle.gixobj_hash.specs.declared.decode.Error.TheVariants.{Malformed};
@@ -22,7 +22,7 @@ ghost use Rattle.gixobj_tag.specs.TagSigning as tag;
 ghost use Rattle.gixobj_tag.specs.TagText.{IsTagText, TagLines};
 ghost use Rattle.gixobj_tag.specs.TagViews as tag_views;
 ghost use Rattle.gixobj_tag.specs.TagWriting.{tag_text};
-ghost use Rattle.gixobj_commit.specs.Extracting.{HasNoSignature, HasSignature, RefusesSignature};
+ghost use Rattle.gixobj_commit.specs.Extracting.{HasNoSignature, HasCommitSignature, RefusesCommitSignature};
 ghost use Rattle.gixobj_signature.specs.declared.signature.signed_data.SignedData.{SignedData};
 
 use crate::one_line::{actor_has_one_line, id_has_one_line, ids_have_one_line};
@@ -38,19 +38,19 @@ use std::alloc::Global;
 pub fn commits_give_their_payloads()
     ensures payload { (kind : Kind) (commit : CommitLines) (bytes value signed : List ℕ) →
         HasHeaderNames commit → HasLineFields commit →
-        HasSignature kind (commit_text (with_signature kind bytes commit)) value signed →
-        signed ≡ payload_of kind commit }
+        HasCommitSignature kind (commit_text (with_signature kind bytes commit)) value signed →
+        signed ≡ payload_of_commit kind commit }
     ensures found { (kind : Kind) (commit : CommitLines) (bytes : List ℕ) →
         HasHeaderNames commit → HasLineFields commit →
         ¬ HasNoSignature kind (commit_text (with_signature kind bytes commit)) }
     ensures no_fault { (kind : Kind) (text : List ℕ) (read : CommitLines) →
-        IsCommitText kind text read → ¬ RefusesSignature kind text Malformed }
+        IsCommitText kind text read → ¬ RefusesCommitSignature kind text Malformed }
 {}
 
 /// An owned commit of which its writer refuses nothing, as of each that is signed, has no newline in a field of one
 /// line.
 pub fn owned_commits_have_line_fields(commit: &Commit)
-    ensures { RefusesNothing (RefusesOwned commit.now) → HasLineFields (owned_lines commit.now) }
+    ensures { RefusesNothing (RefusesOwnedCommit commit.now) → HasLineFields (owned_commit_lines commit.now) }
 {
     id_has_one_line(&commit.tree);
     ids_have_one_line(commit.parents.as_slice());
@@ -66,10 +66,10 @@ pub fn signed_commit_gives_its_payload<R: Runner>(
     options: Options,
     runner: &mut R,
 ) -> Result<Commit, Error>
-    ensures found { IfOk result (λ signed. HasHeaderNames (owned_lines commit) →
-        ¬ HasNoSignature (id_kind commit.tree) (commit_text (owned_lines signed))) }
-    ensures payload { IfOk result (λ signed. HasHeaderNames (owned_lines commit) →
-        CommitGivesPayload R.runs options (id_kind commit.tree) (commit_text (owned_lines signed))
+    ensures found { IfOk result (λ signed. HasHeaderNames (owned_commit_lines commit) →
+        ¬ HasNoSignature (id_kind commit.tree) (commit_text (owned_commit_lines signed))) }
+    ensures payload { IfOk result (λ signed. HasHeaderNames (owned_commit_lines commit) →
+        CommitGivesPayload R.runs options (id_kind commit.tree) (commit_text (owned_commit_lines signed))
         runner.old runner.new) }
 {
     owned_commits_have_line_fields(&commit);
@@ -80,8 +80,8 @@ pub fn signed_commit_gives_its_payload<R: Runner>(
 /// a marker and has no other at the start of a line.
 pub fn tags_give_their_payloads()
     ensures { (lines : TagLines) (bytes signature signed : List ℕ) (format : Format) → HasOneMarker bytes →
-        tags.HasSignature (tag_text (tag.signed_as (Some bytes) lines)) signature signed format →
-        (signed ≡ tag.payload_of lines) × (signature ≡ bytes) }
+        tags.HasTagSignature (tag_text (tag.signed_as (Some bytes) lines)) signature signed format →
+        (signed ≡ tag.payload_of_tag lines) × (signature ≡ bytes) }
 {}
 
 /// Signs a tag, as [`Tag::sign`] does. Where the signer's text begins with its one marker, what the text of the
@@ -93,7 +93,7 @@ pub fn signed_tag_gives_its_payload<R: Runner>(
     runner: &mut R,
 ) -> Result<Tag, Error>
     ensures { IfOk result (λ signed.
-        TagGivesPayload R.runs options (tag_text (tag_views.owned_lines signed)) runner.old runner.new) }
+        TagGivesPayload R.runs options (tag_text (tag_views.owned_tag_lines signed)) runner.old runner.new) }
 {
     tag.sign(alloc, options, runner)
 }
@@ -104,5 +104,5 @@ pub fn tag_signatures_agree()
     ensures { (kind : Kind) (text : List ℕ) (lines : TagLines)
         (own : Option SignatureRef) (found : Option (SignatureRef × SignedData)) →
         IsTagText kind text lines → IsSignature lines.signature own →
-        IfSome found (tags.GivesSignature text) → IfNone found (HasNoMarker text) → AreTheSame own found }
+        IfSome found (tags.GivesSignatureOfTag text) → IfNone found (HasNoMarker text) → AreTheSame own found }
 {}

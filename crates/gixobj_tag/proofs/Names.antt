@@ -11,7 +11,7 @@ use Rattle.std.specs.Prelude.{◌↔◌, ◌⊎◌, ◌==◌, All, MatchBool, co
 use Rattle.bstr.specs.Text.{Contains as Occurs}
 use Rattle.gixobj_fields.specs.declared.encode.RefNameFault.{RefNameFault}
 use Rattle.gixobj_fields.specs.declared.encode.RefNameFault.TheVariants as fault
-use Rattle.gixobj_tag.specs.NameRule.{BeginsWith, EndsWith, HasFault, Holds, IsFirstFault, IsForbidden, IsTagName, RefusesName, faults}
+use Rattle.gixobj_tag.specs.NameRule.{BeginsWith, EndsWith, HasFault, Holds, IsFirstFault, IsForbidden, IsTagName, RefusesTagName, faults}
 use Rattle.gixobj_tag.specs.declared.name.Error.{Error}
 use Rattle.gixobj_tag.specs.declared.name.Error.TheVariants.{InvalidRefName, StartsWithDash}
 use Rattle.gixobj_hash.proofs.Splits.{free_by_test}
@@ -247,14 +247,14 @@ one_first_fault name a b first second =
     one_in_order name first.before first.after second.before second.after a b (sym first.joined ∙ second.joined) first.none second.none first.here second.here
 
 -- a name is refused in one way at most
-pub one_refusal : (name : List ℕ) (a b : Error) → RefusesName name a → RefusesName name b → a ≡ b
+pub one_refusal : (name : List ℕ) (a b : Error) → RefusesTagName name a → RefusesTagName name b → a ≡ b
 one_refusal name (InvalidRefName a) (InvalidRefName b) first second = ap (λ (it : RefNameFault). InvalidRefName it) (one_first_fault name a b first second)
 one_refusal name (InvalidRefName a) StartsWithDash first second = absurd (second.0 a first.here)
 one_refusal name StartsWithDash (InvalidRefName b) first second = absurd (first.0 b second.here)
 one_refusal name StartsWithDash StartsWithDash first second = refl
 
 -- a name that is refused is no tag's
-pub refused_not_valid : (name : List ℕ) (error : Error) → RefusesName name error → ¬ IsTagName name
+pub refused_not_valid : (name : List ℕ) (error : Error) → RefusesTagName name error → ¬ IsTagName name
 refused_not_valid name (InvalidRefName fault) first valid = valid.0 fault first.here
 refused_not_valid name StartsWithDash refused valid = valid.1 refused.1
 

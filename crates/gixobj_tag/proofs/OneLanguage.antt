@@ -16,18 +16,18 @@ use Rattle.gixobj_hash.specs.declared.kind.Kind.{Kind}
 use Rattle.gixobj_tag.proofs.Bodies.{one_body}
 use Rattle.gixobj_tag.proofs.WholeTags.{Reads, put_together, take_apart}
 use Rattle.gixobj_tag.specs.LineReading.{HasName, HasTagger}
-use Rattle.gixobj_tag.specs.Readers.{AreTokensOf, MayMiss, NameCame, TellsTagger, misses_body, misses_nothing, misses_tagger_and_body, tells_no_tagger, tells_tagger}
+use Rattle.gixobj_tag.specs.Readers.{AreTokensOfTag, MayMiss, NameCame, TellsTagger, misses_body, misses_nothing, misses_tagger_and_body, tells_no_tagger, tells_tagger}
 use Rattle.gixobj_tag.specs.TagText.{IsBody, IsTagText, TagLines, newlines_alone}
-use Rattle.gixobj_tag.specs.TagTokens.{TokenView, body_comes, body_token, kind_comes, kind_token, name_comes, name_token, no_tagger_comes, no_tagger_token, tagger_comes, tagger_token, target_comes, target_token}
-use Rattle.gixobj_tag.specs.TokenGiving.{Tells}
+use Rattle.gixobj_tag.specs.TagTokens.{TagTokenView, body_comes, body_token, kind_comes, kind_token, name_comes, name_token, no_tagger_comes, no_tagger_token, tagger_comes, tagger_token, target_comes, target_token}
+use Rattle.gixobj_tag.specs.TokenGiving.{TellsTag}
 use Rattle.gixobj_tag.specs.declared.ref_iter.State.{State}
 use Rattle.gixobj_tag.specs.declared.ref_iter.State.TheVariants as state
 
 -- tokens from the tagger on, told, and those that are missing at the end
-record TailTold (kind : hash.Kind) (before : State) (input : List ℕ) (all : List TokenView) : Type 0 where
-  tokens : List TokenView
-  missing : List TokenView
-  told : Tells kind before input tokens complete
+record TailTold (kind : hash.Kind) (before : State) (input : List ℕ) (all : List TagTokenView) : Type 0 where
+  tokens : List TagTokenView
+  missing : List TagTokenView
+  told : TellsTag kind before input tokens complete
   may : MayMiss missing
   joined : tokens ++ missing ≡ all
 
@@ -38,7 +38,7 @@ empty_body message signature is = let same = one_body [] message [] signature No
 
 body_told : (kind : hash.Kind) (body message : List ℕ) (signature : Option (List ℕ)) → IsBody body message signature → TailTold kind state.Body body (body_token message signature ∷ [])
 body_told kind [] message signature is =
-    record { tokens = []; missing = body_token [] None ∷ []; told = tells_end state.Body; may = misses_body; joined = ap (λ (it : TokenView). it ∷ []) (sym (empty_body message signature is)) }
+    record { tokens = []; missing = body_token [] None ∷ []; told = tells_end state.Body; may = misses_body; joined = ap (λ (it : TagTokenView). it ∷ []) (sym (empty_body message signature is)) }
 body_told kind (byte ∷ body) message signature is =
     record {
       tokens = body_token message signature ∷ [];
@@ -58,7 +58,7 @@ behind_tagger kind input line rest message signature name email time bytes field
       missing = tail.missing;
       told = tells_piece state.Tagger state.Body input rest (tagger_token name email time) tail.tokens complete (tagger_comes input line rest name email time bytes field actor) tail.told;
       may = tail.may;
-      joined = ap (λ (it : List TokenView). tagger_token name email time ∷ it) tail.joined;
+      joined = ap (λ (it : List TagTokenView). tagger_token name email time ∷ it) tail.joined;
     }
 
 untagged_told : (kind : hash.Kind) (body message : List ℕ) (signature : Option (List ℕ)) → HasTagger body None body → IsBody body message signature → TailTold kind state.Tagger body (no_tagger_token ∷ body_token message signature ∷ [])
@@ -68,7 +68,7 @@ untagged_told kind [] message signature has is =
       missing = no_tagger_token ∷ body_token [] None ∷ [];
       told = tells_end state.Tagger;
       may = misses_tagger_and_body;
-      joined = ap (λ (it : TokenView). no_tagger_token ∷ it ∷ []) (sym (empty_body message signature is));
+      joined = ap (λ (it : TagTokenView). no_tagger_token ∷ it ∷ []) (sym (empty_body message signature is));
     }
 untagged_told kind (byte ∷ body) message signature has is =
     let filled : byte ∷ body ≢ [] = λ bare. cc bare in
@@ -83,7 +83,7 @@ untagged_told kind (byte ∷ body) message signature has is =
 
 -- the token of the tagger, and the tokens from there on
 record TaggerTold (kind : hash.Kind) (input : List ℕ) (line : Option (List ℕ)) (message : List ℕ) (signature : Option (List ℕ)) : Type 0 where
-  token : TokenView
+  token : TagTokenView
   tells : TellsTagger line token
   tail : TailTold kind state.Tagger input (token ∷ body_token message signature ∷ [])
 
@@ -101,7 +101,7 @@ tail_told kind input (Some line) body message signature (field, (name, email, ti
 
 -- ---- the law: told
 
-pub told : (kind : hash.Kind) (text : List ℕ) (tag : TagLines) → IsTagText kind text tag → (tokens : List TokenView) × Tells kind state.Target text tokens complete × AreTokensOf tag tokens × NameCame tokens
+pub told : (kind : hash.Kind) (text : List ℕ) (tag : TagLines) → IsTagText kind text tag → (tokens : List TagTokenView) × TellsTag kind state.Target text tokens complete × AreTokensOfTag tag tokens × NameCame tokens
 told kind text tag is =
     let reads = take_apart kind text tag is in
     let spells = spelled tag.target (of_an_id kind tag.target reads.target.1) in
@@ -111,19 +111,19 @@ told kind text tag is =
     let named = tells_piece state.Name state.Tagger reads.after_kind reads.after_name (name_token tag.name) tail.tokens complete (name_comes reads.after_kind tag.name reads.after_name reads.name) tail.told in
     let typed = tells_piece state.TargetKind state.Name reads.after_target reads.after_kind (kind_token tag.target_kind) _ complete (kind_comes reads.after_target reads.after_kind tag.target_kind reads.target_kind) named in
     let all = tells_piece state.Target state.TargetKind text reads.after_target (target_token id) _ complete (target_comes text tag.target reads.after_target id reads.target spells) typed in
-    let joined = ap (λ (it : List TokenView). target_token id ∷ kind_token tag.target_kind ∷ name_token tag.name ∷ it) tail.joined in
+    let joined = ap (λ (it : List TagTokenView). target_token id ∷ kind_token tag.target_kind ∷ name_token tag.name ∷ it) tail.joined in
     (_, all, (tail.missing, tail.may, record { id = id; tagger = it.token; spelled = spells; told = it.tells; joined = joined }), tt)
 
 -- ---- the law: read
 
 -- what a run from the tagger on was told of
-record Tail (input : List ℕ) (tokens : List TokenView) : Type 0 where
+record Tail (input : List ℕ) (tokens : List TagTokenView) : Type 0 where
   line : Option (List ℕ)
   body : List ℕ
   message : List ℕ
   signature : Option (List ℕ)
-  token : TokenView
-  missing : List TokenView
+  token : TagTokenView
+  missing : List TagTokenView
   has : HasTagger input line body
   parted : IsBody body message signature
   tells : TellsTagger line token
@@ -131,11 +131,11 @@ record Tail (input : List ℕ) (tokens : List TokenView) : Type 0 where
   joined : tokens ++ missing ≡ token ∷ body_token message signature ∷ []
 
 -- nothing comes behind the body
-behind_body : (kind : hash.Kind) (tokens : List TokenView) → Tells kind state.End [] tokens complete → tokens ≡ []
+behind_body : (kind : hash.Kind) (tokens : List TagTokenView) → TellsTag kind state.End [] tokens complete → tokens ≡ []
 behind_body kind tokens (tells_end _) = refl
 behind_body kind _ (tells_piece _ behind _ rest piece pieces _ has _) = elim has [ ]
 
-read_body : (kind : hash.Kind) (input : List ℕ) (line : Option (List ℕ)) (body : List ℕ) (token : TokenView) (tokens : List TokenView) → HasTagger input line body → TellsTagger line token → Tells kind state.Body body tokens complete
+read_body : (kind : hash.Kind) (input : List ℕ) (line : Option (List ℕ)) (body : List ℕ) (token : TagTokenView) (tokens : List TagTokenView) → HasTagger input line body → TellsTagger line token → TellsTag kind state.Body body tokens complete
     → Tail input (token ∷ tokens)
 read_body kind input line body token tokens has tells (tells_end _) =
     record { line = line; body = []; message = []; signature = None; token = token; missing = body_token [] None ∷ []; has = has; parted = newlines_alone [] refl; tells = tells; may = misses_body; joined = refl }
@@ -152,13 +152,13 @@ read_body kind input line body token tokens has tells (tells_piece _ _ _ _ _ oth
       parted = is;
       tells = tells;
       may = misses_nothing;
-      joined = ap (λ (it : List TokenView). token ∷ body_token message signature ∷ (it ++ [])) none;
+      joined = ap (λ (it : List TagTokenView). token ∷ body_token message signature ∷ (it ++ [])) none;
     }
 
 no_name_in_nothing : (rest : List ℕ) → [] ≢ codes "tagger" ++ 32 ∷ rest
 no_name_in_nothing rest same = cc same
 
-read_tail : (kind : hash.Kind) (input : List ℕ) (tokens : List TokenView) → Tells kind state.Tagger input tokens complete → Tail input tokens
+read_tail : (kind : hash.Kind) (input : List ℕ) (tokens : List TagTokenView) → TellsTag kind state.Tagger input tokens complete → Tail input tokens
 read_tail kind input tokens (tells_end _) =
     record {
       line = None;
@@ -178,28 +178,28 @@ read_tail kind input tokens (tells_piece _ _ _ rest _ others _ (tagger_comes _ l
 read_tail kind input tokens (tells_piece _ _ _ _ _ others _ (no_tagger_comes _ filled lacks) told) = read_body kind input None input no_tagger_token others (lacks, refl) tells_no_tagger told
 
 -- a tag of this text with these tokens
-abbrev Found : hash.Kind → List ℕ → List TokenView → Type 0
-Found kind text tokens = (tag : TagLines) × IsTagText kind text tag × AreTokensOf tag tokens
+abbrev Found : hash.Kind → List ℕ → List TagTokenView → Type 0
+Found kind text tokens = (tag : TagLines) × IsTagText kind text tag × AreTokensOfTag tag tokens
 
-found : (kind : hash.Kind) (text hex after behind name rest : List ℕ) (id : ObjectId) (of : Kind) (tokens : List TokenView) → HasId (codes "object") kind text hex after → Spells hex id → HasField (codes "type") after (kind_word of) behind
+found : (kind : hash.Kind) (text hex after behind name rest : List ℕ) (id : ObjectId) (of : Kind) (tokens : List TagTokenView) → HasId (codes "object") kind text hex after → Spells hex id → HasField (codes "type") after (kind_word of) behind
     → HasName behind name rest → Tail rest tokens → Found kind text (target_token id ∷ kind_token of ∷ name_token name ∷ tokens)
 found kind text hex after behind name rest id of tokens has spells field named tail =
     let tag : TagLines = record { target = hex; target_kind = of; name = name; tagger = tail.line; message = tail.message; signature = tail.signature } in
     let reads : Reads kind text tag = record { after_target = after; after_kind = behind; after_name = rest; body = tail.body; target = has; target_kind = field; name = named; tagger = tail.has; parted = tail.parted } in
-    let joined = ap (λ (it : List TokenView). target_token id ∷ kind_token of ∷ name_token name ∷ it) tail.joined in
+    let joined = ap (λ (it : List TagTokenView). target_token id ∷ kind_token of ∷ name_token name ∷ it) tail.joined in
     (tag, put_together kind text tag reads, (tail.missing, tail.may, record { id = id; tagger = tail.token; spelled = spells; told = tail.tells; joined = joined }))
 
-read_name : (kind : hash.Kind) (text hex after input : List ℕ) (id : ObjectId) (of : Kind) (tokens : List TokenView) → HasId (codes "object") kind text hex after → Spells hex id → HasField (codes "type") after (kind_word of) input
-    → Tells kind state.Name input tokens complete → NameCame tokens → Found kind text (target_token id ∷ kind_token of ∷ tokens)
+read_name : (kind : hash.Kind) (text hex after input : List ℕ) (id : ObjectId) (of : Kind) (tokens : List TagTokenView) → HasId (codes "object") kind text hex after → Spells hex id → HasField (codes "type") after (kind_word of) input
+    → TellsTag kind state.Name input tokens complete → NameCame tokens → Found kind text (target_token id ∷ kind_token of ∷ tokens)
 read_name kind text hex after input id of tokens has spells field (tells_end _) came = absurd came
 read_name kind text hex after input id of tokens has spells field (tells_piece _ _ _ rest _ others _ (name_comes _ name _ named) told) came =
     found kind text hex after input name rest id of others has spells field named (read_tail kind rest others told)
 
-read_kind : (kind : hash.Kind) (text hex input : List ℕ) (id : ObjectId) (tokens : List TokenView) → HasId (codes "object") kind text hex input → Spells hex id → Tells kind state.TargetKind input tokens complete → NameCame tokens
+read_kind : (kind : hash.Kind) (text hex input : List ℕ) (id : ObjectId) (tokens : List TagTokenView) → HasId (codes "object") kind text hex input → Spells hex id → TellsTag kind state.TargetKind input tokens complete → NameCame tokens
     → Found kind text (target_token id ∷ tokens)
 read_kind kind text hex input id tokens has spells (tells_end _) came = absurd came
 read_kind kind text hex input id tokens has spells (tells_piece _ _ _ rest _ others _ (kind_comes _ _ of field) told) came = read_name kind text hex input rest id of others has spells field told came
 
-pub read : (kind : hash.Kind) (text : List ℕ) (tokens : List TokenView) → Tells kind state.Target text tokens complete → NameCame tokens → (tag : TagLines) × IsTagText kind text tag × AreTokensOf tag tokens
+pub read : (kind : hash.Kind) (text : List ℕ) (tokens : List TagTokenView) → TellsTag kind state.Target text tokens complete → NameCame tokens → (tag : TagLines) × IsTagText kind text tag × AreTokensOfTag tag tokens
 read kind text tokens (tells_end _) came = absurd came
 read kind text tokens (tells_piece _ _ _ rest _ others _ (target_comes _ hex _ id has spells) told) came = read_kind kind text hex rest id others has spells told came

@@ -6,11 +6,11 @@ use Rattle.gixobj_fields.proofs.Puts.{puts_nothing}
 use Rattle.gixobj_fields.proofs.Refusals.{says_why_behind}
 use Rattle.gixobj_fields.specs.HeaderText.{field_text}
 use Rattle.gixobj_fields.specs.Streams.{SinkView}
-use Rattle.gixobj_fields.specs.Writing.{Refused, SaysWhy}
+use Rattle.gixobj_fields.specs.Writing.{Refused, RefusesWriting}
 use Rattle.gixobj_fields.specs.declared.encode.Error.{Error}
 use Rattle.gixobj_tag.specs.NameRule.{IsTagName}
 use Rattle.gixobj_tag.specs.TagText.{TagLines, target_text}
-use Rattle.gixobj_tag.specs.TagWriting.{RefusesLines, RefusesNameLine, RefusesParts}
+use Rattle.gixobj_tag.specs.TagWriting.{RefusesTagLines, RefusesNameLine, RefusesParts}
 
 pub name_refused : (front name : List ℕ) (Refuses : Refused → List ℕ → Type 0) (value : Refused) (parts : List ℕ) → RefusesNameLine name value parts → RefusesParts front name Refuses value (front ++ parts)
 name_refused front name Refuses value parts (refused, none) = inl (refused, ap (λ (it : List ℕ). front ++ it) none ∙ append-nil front)
@@ -19,10 +19,10 @@ pub tagger_refused : (front name : List ℕ) (Refuses : Refused → List ℕ →
 tagger_refused front name Refuses value parts valid refused = inr (valid, (parts, refused, refl))
 
 -- a line of a tagger as it stands is never refused
-lines_refused : (tag : TagLines) (value : Refused) (parts : List ℕ) → RefusesParts (target_text tag) tag.name (λ value line. ⊥) value parts → RefusesLines tag value parts
+lines_refused : (tag : TagLines) (value : Refused) (parts : List ℕ) → RefusesParts (target_text tag) tag.name (λ value line. ⊥) value parts → RefusesTagLines tag value parts
 lines_refused tag value parts (inl refused) = refused
 lines_refused tag value parts (inr (valid, (line, refused, same))) = absurd refused
 
-pub lines_say_why : (tag : TagLines) (before after : SinkView) (text : List ℕ) (error : Error) → SaysWhy (RefusesParts (target_text tag) tag.name (λ value line. ⊥)) before after text error → SaysWhy (RefusesLines tag) before after text error
+pub lines_say_why : (tag : TagLines) (before after : SinkView) (text : List ℕ) (error : Error) → RefusesWriting (RefusesParts (target_text tag) tag.name (λ value line. ⊥)) before after text error → RefusesWriting (RefusesTagLines tag) before after text error
 lines_say_why tag before after text error says =
-    says_why_behind (RefusesParts (target_text tag) tag.name (λ value line. ⊥)) (RefusesLines tag) before before after [] text text (puts_nothing before) (lines_refused tag) (λ front. front) error says
+    says_why_behind (RefusesParts (target_text tag) tag.name (λ value line. ⊥)) (RefusesTagLines tag) before before after [] text text (puts_nothing before) (lines_refused tag) (λ front. front) error says

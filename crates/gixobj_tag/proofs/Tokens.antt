@@ -20,38 +20,38 @@ use Rattle.gixobj_hash.specs.declared.hash.object_id.ObjectId.{ObjectId}
 use Rattle.gixobj_tag.proofs.Bodies.{one_body}
 use Rattle.gixobj_tag.proofs.Lines.{begins_field}
 use Rattle.gixobj_tag.specs.LineReading.{HasNoTagger, HasTagger}
-use Rattle.gixobj_tag.specs.LineViews.{IsParsed, line_if_some}
+use Rattle.gixobj_tag.specs.LineViews.{IsParsedTagger, line_if_some}
 use Rattle.gixobj_tag.specs.Readers.{TellsTagger, tells_no_tagger, tells_tagger}
-use Rattle.gixobj_tag.specs.TagTokens.{HasToken, IsTokenText, TokenView, body_comes, kind_comes, kind_token, name_comes, name_token, no_tagger_comes, tagger_comes, tagger_token, target_comes, target_token}
+use Rattle.gixobj_tag.specs.TagTokens.{HasTagToken, IsTagTokenText, TagTokenView, body_comes, kind_comes, kind_token, name_comes, name_token, no_tagger_comes, tagger_comes, tagger_token, target_comes, target_token}
 use Rattle.gixobj_tag.specs.TokenGiving.{states_left}
 use Rattle.gixobj_tag.specs.declared.ref_iter.State.{State}
 use Rattle.gixobj_tag.specs.declared.ref_iter.State.TheVariants as state
 
 -- ---- the tagger
 
-pub told_actor : (tagger : Option (BStr × SignatureRef)) (line : BStr) (actor : SignatureRef) → IsParsed tagger → tagger ≡ Some (line, actor)
+pub told_actor : (tagger : Option (BStr × SignatureRef)) (line : BStr) (actor : SignatureRef) → IsParsedTagger tagger → tagger ≡ Some (line, actor)
     → TellsTagger (line_if_some tagger) (tagger_token (bstr_bytes actor.name) (bstr_bytes actor.email) (bstr_bytes actor.time))
 told_actor tagger line actor parsed same =
-    let it : IsParsed (Some (line, actor)) = subst IsParsed same parsed in
+    let it : IsParsedTagger (Some (line, actor)) = subst IsParsedTagger same parsed in
     rw same (tells_tagger (bstr_bytes line) (bstr_bytes actor.name) (bstr_bytes actor.email) (bstr_bytes actor.time) it.0 it.1)
 
-told_comes : (kind : hash.Kind) (input rest : List ℕ) (line : Option (List ℕ)) (token : TokenView) → input ≢ [] → HasTagger input line rest → TellsTagger line token → HasToken kind state.Tagger input token state.Body rest
+told_comes : (kind : hash.Kind) (input rest : List ℕ) (line : Option (List ℕ)) (token : TagTokenView) → input ≢ [] → HasTagger input line rest → TellsTagger line token → HasTagToken kind state.Tagger input token state.Body rest
 told_comes kind input rest (Some line) token filled (field, actor) (tells_tagger _ name email time behind is) = tagger_comes input line rest name email time behind field is
 told_comes kind input rest None token filled (lacks, same) tells_no_tagger =
     rw same (no_tagger_comes input filled lacks)
 
-pub tagger_told : (kind : hash.Kind) (before : State) (input rest : List ℕ) (line : Option (List ℕ)) (token : TokenView) → before ≡ state.Tagger → input ≢ [] → HasTagger input line rest → TellsTagger line token
-    → HasToken kind before input token state.Body rest
+pub tagger_told : (kind : hash.Kind) (before : State) (input rest : List ℕ) (line : Option (List ℕ)) (token : TagTokenView) → before ≡ state.Tagger → input ≢ [] → HasTagger input line rest → TellsTagger line token
+    → HasTagToken kind before input token state.Body rest
 tagger_told kind before input rest line token same filled has tells = rw same (told_comes kind input rest line token filled has tells)
 
 -- ---- no token
 
-none_told : (kind : hash.Kind) (input : List ℕ) (token : TokenView) (behind : State) (rest : List ℕ) → HasNoTagger input → HasToken kind state.Tagger input token behind rest → ⊥
+none_told : (kind : hash.Kind) (input : List ℕ) (token : TagTokenView) (behind : State) (rest : List ℕ) → HasNoTagger input → HasTagToken kind state.Tagger input token behind rest → ⊥
 none_told kind input token behind rest none (tagger_comes _ line _ name email time bytes field is) = none (Some line) rest (field, (name, email, time, bytes, is))
 none_told kind input token behind rest none (no_tagger_comes _ filled lacks) = none None input (lacks, refl)
 
-pub no_tagger_token_comes : (kind : hash.Kind) (before : State) (input : List ℕ) → before ≡ state.Tagger → HasNoTagger input → HasNoPiece (HasToken kind) before input
-no_tagger_token_comes kind before input same none token behind rest has = none_told kind input token behind rest none (subst (λ (it : State). HasToken kind it input token behind rest) same has)
+pub no_tagger_token_comes : (kind : hash.Kind) (before : State) (input : List ℕ) → before ≡ state.Tagger → HasNoTagger input → HasNoPiece (HasTagToken kind) before input
+no_tagger_token_comes kind before input same none token behind rest has = none_told kind input token behind rest none (subst (λ (it : State). HasTagToken kind it input token behind rest) same has)
 
 -- ---- a token passes bytes, or at least a state
 
@@ -60,7 +60,7 @@ field_shortens : (name input value rest : List ℕ) → HasField name input valu
 field_shortens name input value rest field =
     omega (arith, ap length field.joined, length-append (field_text name value) rest, length-append name (32 ∷ (value ++ 10 ∷ [])))
 
-pub no_longer : (kind : hash.Kind) (before : State) (input : List ℕ) (token : TokenView) (behind : State) (rest : List ℕ) → HasToken kind before input token behind rest → length rest ≤ length input
+pub no_longer : (kind : hash.Kind) (before : State) (input : List ℕ) (token : TagTokenView) (behind : State) (rest : List ℕ) → HasTagToken kind before input token behind rest → length rest ≤ length input
 no_longer kind before input token behind rest (target_comes _ hex _ id has spells) = let less = field_shortens (codes "object") input hex rest has.0 in omega (arith, less)
 no_longer kind before input token behind rest (kind_comes _ _ of field) = let less = field_shortens (codes "type") input (kind_word of) rest field in omega (arith, less)
 no_longer kind before input token behind rest (name_comes _ name _ has) = let less = field_shortens (codes "tag") input name rest has.0 in omega (arith, less)
@@ -68,7 +68,7 @@ no_longer kind before input token behind rest (tagger_comes _ line _ name email 
 no_longer kind before input token behind rest (no_tagger_comes _ filled lacks) = omega arith
 no_longer kind before input token behind rest (body_comes _ message signature filled is) = omega arith
 
-fewer_states : (kind : hash.Kind) (before : State) (input : List ℕ) (token : TokenView) (behind : State) (rest : List ℕ) → HasToken kind before input token behind rest → states_left behind < states_left before
+fewer_states : (kind : hash.Kind) (before : State) (input : List ℕ) (token : TagTokenView) (behind : State) (rest : List ℕ) → HasTagToken kind before input token behind rest → states_left behind < states_left before
 fewer_states kind before input token behind rest (target_comes _ hex _ id has spells) = omega arith
 fewer_states kind before input token behind rest (kind_comes _ _ of field) = omega arith
 fewer_states kind before input token behind rest (name_comes _ name _ has) = omega arith
@@ -76,13 +76,13 @@ fewer_states kind before input token behind rest (tagger_comes _ line _ name ema
 fewer_states kind before input token behind rest (no_tagger_comes _ filled lacks) = omega arith
 fewer_states kind before input token behind rest (body_comes _ message signature filled is) = omega arith
 
-pub goes_on : (kind : hash.Kind) (before : State) (input : List ℕ) (token : TokenView) (behind : State) (rest : List ℕ) → HasToken kind before input token behind rest
+pub goes_on : (kind : hash.Kind) (before : State) (input : List ℕ) (token : TagTokenView) (behind : State) (rest : List ℕ) → HasTagToken kind before input token behind rest
     → length rest + states_left behind < length input + states_left before
 goes_on kind before input token behind rest has = omega (arith, no_longer kind before input token behind rest has, fewer_states kind before input token behind rest has)
 
 -- ---- one token
 
-pub no_token_of_nothing : (kind : hash.Kind) (before : State) (input : List ℕ) (token : TokenView) (behind : State) (rest : List ℕ) → input ≡ [] → HasToken kind before input token behind rest → ⊥
+pub no_token_of_nothing : (kind : hash.Kind) (before : State) (input : List ℕ) (token : TagTokenView) (behind : State) (rest : List ℕ) → input ≡ [] → HasTagToken kind before input token behind rest → ⊥
 no_token_of_nothing kind before input token behind rest bare (target_comes _ hex _ id has spells) = let less = field_shortens (codes "object") input hex rest has.0 in omega (arith, less, ap length bare)
 no_token_of_nothing kind before input token behind rest bare (kind_comes _ _ of field) = let less = field_shortens (codes "type") input (kind_word of) rest field in omega (arith, less, ap length bare)
 no_token_of_nothing kind before input token behind rest bare (name_comes _ name _ has) = let less = field_shortens (codes "tag") input name rest has.0 in omega (arith, less, ap length bare)
@@ -96,7 +96,7 @@ one_target kind input a x i b y j has spells has' spells' =
     let there : Spells b i = subst (λ (it : List ℕ). Spells it i) same.0 spells in
     (one_id b i there ∙ sym (one_id b j spells'), same.1)
 
-pub one_token : (kind : hash.Kind) (before : State) (input : List ℕ) (a b : TokenView) (s t : State) (x y : List ℕ) → HasToken kind before input a s x → HasToken kind before input b t y → (a ≡ b) × (s ≡ t) × (x ≡ y)
+pub one_token : (kind : hash.Kind) (before : State) (input : List ℕ) (a b : TagTokenView) (s t : State) (x y : List ℕ) → HasTagToken kind before input a s x → HasTagToken kind before input b t y → (a ≡ b) × (s ≡ t) × (x ≡ y)
 one_token kind before input a b s t x y (target_comes _ hex _ id has spells) (target_comes _ hex' _ id' has' spells') =
     let same = one_target kind input hex x id hex' y id' has spells has' spells' in (ap target_token same.0, refl, same.1)
 one_token kind before input a b s t x y (kind_comes _ _ of field) (kind_comes _ _ of' field') =
@@ -116,7 +116,7 @@ one_token kind before input a b s t x y (body_comes _ message signature filled i
 
 -- ---- the text of a token
 
-pub text_of_token : (kind : hash.Kind) (before : State) (input : List ℕ) (token : TokenView) (behind : State) (rest : List ℕ) → HasToken kind before input token behind rest → (text : List ℕ) × (input ≡ text ++ rest) × IsTokenText kind token text
+pub text_of_token : (kind : hash.Kind) (before : State) (input : List ℕ) (token : TagTokenView) (behind : State) (rest : List ℕ) → HasTagToken kind before input token behind rest → (text : List ℕ) × (input ≡ text ++ rest) × IsTagTokenText kind token text
 text_of_token kind before input token behind rest (target_comes _ hex _ id has spells) =
     (field_text (codes "object") hex, has.0.joined, (before, behind, target_comes _ hex [] id (field_alone (codes "object") input hex rest has.0, has.1) spells))
 text_of_token kind before input token behind rest (kind_comes _ _ of field) =

@@ -6,34 +6,34 @@ use Rattle.gixobj_fields.specs.Runs.{HasNoPiece, broken, complete, tells_end, te
 use Rattle.gixobj_hash.specs.declared.decode.Error.{Error}
 use Rattle.gixobj_hash.specs.declared.decode.Error.TheVariants.{Malformed, OutOfMemory}
 use Rattle.gixobj_hash.specs.declared.hash.kind.Kind.{Kind}
-use Rattle.gixobj_tag.specs.TagTokens.{HasToken, TokenView, token_view}
-use Rattle.gixobj_tag.specs.TokenGiving.{GivesToken, HasPassed, IsAtStart, Tells, standing}
+use Rattle.gixobj_tag.specs.TagTokens.{HasTagToken, TagTokenView, tag_token_view}
+use Rattle.gixobj_tag.specs.TokenGiving.{GivesTagToken, HasPassedTagTokens, IsAtStartOfTag, TellsTag, standing_in_tag}
 use Rattle.gixobj_tag.specs.declared.ref_iter.State.{State}
 use Rattle.gixobj_tag.specs.declared.ref_iter.State.TheVariants as state
 use Rattle.gixobj_tag.specs.declared.ref_iter.TagRefIter.{TagRefIter}
 use Rattle.gixobj_tag.specs.declared.ref_iter.Token.{Token}
 
 module _ (kind : Kind) (text : List ℕ) where
-  pub starts : (reader : TagRefIter) → IsAtStart kind text reader → HasPassed kind text [] reader
+  pub starts : (reader : TagRefIter) → IsAtStartOfTag kind text reader → HasPassedTagTokens kind text [] reader
   starts reader start = ((ap (λ (it : Standing Kind State). it.state) (sym start), ap (λ (it : Standing Kind State). it.bytes) (sym start)), ap (λ (it : Standing Kind State). it.kind) start)
 
-  pub goes_on : (tokens : List TokenView) (at after : TagRefIter) (token : Token) → HasPassed kind text tokens at → GivesToken at (Some (Ok token)) after → HasPassed kind text (tokens ++ token_view token ∷ []) after
+  pub goes_on : (tokens : List TagTokenView) (at after : TagRefIter) (token : Token) → HasPassedTagTokens kind text tokens at → GivesTagToken at (Some (Ok token)) after → HasPassedTagTokens kind text (tokens ++ tag_token_view token ∷ []) after
   goes_on tokens at after token (passed, same_kind) (has, kept, such) =
-      let here = subst (λ (it : Kind). HasToken it (standing at).state (standing at).bytes (token_view token) (standing after).state (standing after).bytes) same_kind has in
-      (passes_one (HasToken kind) state.Target (standing at).state (standing after).state text (standing at).bytes (standing after).bytes tokens (token_view token) passed here, kept ∙ same_kind)
+      let here = subst (λ (it : Kind). HasTagToken it (standing_in_tag at).state (standing_in_tag at).bytes (tag_token_view token) (standing_in_tag after).state (standing_in_tag after).bytes) same_kind has in
+      (passes_one (HasTagToken kind) state.Target (standing_in_tag at).state (standing_in_tag after).state text (standing_in_tag at).bytes (standing_in_tag after).bytes tokens (tag_token_view token) passed here, kept ∙ same_kind)
 
-  pub ends : (tokens : List TokenView) (at after : TagRefIter) → HasPassed kind text tokens at → GivesToken at None after → Tells kind state.Target text tokens complete
+  pub ends : (tokens : List TagTokenView) (at after : TagRefIter) → HasPassedTagTokens kind text tokens at → GivesTagToken at None after → TellsTag kind state.Target text tokens complete
   ends tokens at after (passed, same_kind) gives =
-      let end : Tells kind (standing at).state (standing at).bytes [] complete = rw gives.0 (tells_end (standing at).state) in
-      tells_passed (HasToken kind) state.Target (standing at).state text (standing at).bytes tokens complete passed end
+      let end : TellsTag kind (standing_in_tag at).state (standing_in_tag at).bytes [] complete = rw gives.0 (tells_end (standing_in_tag at).state) in
+      tells_passed (HasTagToken kind) state.Target (standing_in_tag at).state text (standing_in_tag at).bytes tokens complete passed end
 
-  malformed_only : (at after : TagRefIter) (error : Error) → GivesToken at (Some (Err error)) after → GivesToken at (Some (Err Malformed)) after
+  malformed_only : (at after : TagRefIter) (error : Error) → GivesTagToken at (Some (Err error)) after → GivesTagToken at (Some (Err Malformed)) after
   malformed_only at after Malformed gives = gives
   malformed_only at after OutOfMemory gives = absurd gives.1
 
-  pub stops : (tokens : List TokenView) (at after : TagRefIter) (error : Error) → HasPassed kind text tokens at → GivesToken at (Some (Err error)) after → Tells kind state.Target text tokens broken
+  pub stops : (tokens : List TagTokenView) (at after : TagRefIter) (error : Error) → HasPassedTagTokens kind text tokens at → GivesTagToken at (Some (Err error)) after → TellsTag kind state.Target text tokens broken
   stops tokens at after error (passed, same_kind) gives =
       let refused = malformed_only at after error gives in
-      let none = subst (λ (it : Kind). HasNoPiece (HasToken it) (standing at).state (standing at).bytes) same_kind refused.1 in
-      let stop : Tells kind (standing at).state (standing at).bytes [] broken = tells_error (standing at).state (standing at).bytes refused.0 none in
-      tells_passed (HasToken kind) state.Target (standing at).state text (standing at).bytes tokens broken passed stop
+      let none = subst (λ (it : Kind). HasNoPiece (HasTagToken it) (standing_in_tag at).state (standing_in_tag at).bytes) same_kind refused.1 in
+      let stop : TellsTag kind (standing_in_tag at).state (standing_in_tag at).bytes [] broken = tells_error (standing_in_tag at).state (standing_in_tag at).bytes refused.0 none in
+      tells_passed (HasTagToken kind) state.Target (standing_in_tag at).state text (standing_in_tag at).bytes tokens broken passed stop

@@ -6,18 +6,18 @@ use Rattle.bstr.specs.Owned.{bstring_bytes}
 use Rattle.gixobj_actor.proofs.OwnedActors.{canonical, unwritable}
 use Rattle.gixobj_actor.specs.declared.actor.Signature.{Signature}
 use Rattle.gixobj_fields.specs.Streams.{SinkView}
-use Rattle.gixobj_fields.specs.Writing.{Refused, RefusesNothing, SaysWhy, bad_name, empty_header, header_with_newline, illegal_actor, name_with_dash, name_with_zero_byte}
+use Rattle.gixobj_fields.specs.Writing.{Refused, RefusesNothing, RefusesWriting, bad_name, empty_header, header_with_newline, illegal_actor, name_with_dash, name_with_zero_byte}
 use Rattle.gixobj_fields.specs.declared.encode.Error.{Error}
 use Rattle.gixobj_fields.specs.declared.encode.Error.TheVariants as encode
 use Rattle.gixobj_fields.specs.declared.encode.RefNameFault.{RefNameFault}
 use Rattle.gixobj_hash.proofs.HexCase.{hex_in_lower_case}
 use Rattle.gixobj_hash.specs.declared.hash.kind.Kind.{Kind}
 use Rattle.gixobj_tag.specs.NameRule.{BeginsWithDash, HasNoFault, IsFirstFault, IsTagName}
-use Rattle.gixobj_tag.specs.Rewriting.{AreOwnParts, HasUnwritableTagger, IsCanonicalTagger, KeepsBody, RefusesOwnForm, canonical_tagger, no_tagger}
-use Rattle.gixobj_tag.specs.TagOwned.{IsOwnedForm, IsOwnedTagger}
+use Rattle.gixobj_tag.specs.Rewriting.{AreOwnPartsOfTag, HasUnwritableTagger, IsCanonicalTagger, KeepsBody, RefusesOwnFormOfTag, canonical_tagger, no_tagger}
+use Rattle.gixobj_tag.specs.TagOwned.{IsOwnedFormOfTag, IsOwnedTagger}
 use Rattle.gixobj_tag.specs.TagText.{IsBody, IsParted, IsTagText, TagLines, are_newlines, behind_newline, lines_text, newlines_alone, signed, signed_at_once, unsigned}
-use Rattle.gixobj_tag.specs.TagViews.{owned_lines, owned_tagger}
-use Rattle.gixobj_tag.specs.TagWriting.{RefusesLines, RefusesOwned, RefusesTagName, RefusesTagger, body_text, message_text, tag_text}
+use Rattle.gixobj_tag.specs.TagViews.{owned_tag_lines, owned_tagger}
+use Rattle.gixobj_tag.specs.TagWriting.{RefusesTagLines, RefusesOwnedTag, RefusesTagName, RefusesTagger, body_text, message_text, tag_text}
 use Rattle.gixobj_tag.specs.declared.tag.Tag.{Tag}
 
 -- ---- bodies
@@ -50,7 +50,7 @@ name_not_refused : (name : List ℕ) (value : Refused) → IsTagName name → Re
 name_not_refused name value (faultless, undashed) (inl (fault, first, is)) = faultless fault first.here
 name_not_refused name value (faultless, undashed) (inr (none, dash, is)) = undashed dash
 
-pub tag_not_refused : (tag : TagLines) → IsTagName tag.name → RefusesNothing (RefusesLines tag)
+pub tag_not_refused : (tag : TagLines) → IsTagName tag.name → RefusesNothing (RefusesTagLines tag)
 tag_not_refused tag valid value parts (refused, before) = name_not_refused tag.name value valid refused
 
 -- ---- the owned form
@@ -61,7 +61,7 @@ tagger_parts None (Some actor) is = absurd is
 tagger_parts (Some line) None is = absurd is
 tagger_parts (Some line) (Some actor) is = canonical_tagger line _ (canonical line actor is)
 
-pub own_parts : (lines : TagLines) (tag : Tag) → IsOwnedForm lines tag → AreOwnParts lines (owned_lines tag)
+pub own_parts : (lines : TagLines) (tag : Tag) → IsOwnedFormOfTag lines tag → AreOwnPartsOfTag lines (owned_tag_lines tag)
 own_parts lines tag is =
     record {
       target = hex_in_lower_case lines.target tag.target is.target;
@@ -84,7 +84,7 @@ tagger_is_refused lines None (Some actor) value parts same is refused = absurd i
 tagger_is_refused lines (Some line) None value parts same is refused = absurd refused
 tagger_is_refused lines (Some line) (Some actor) value parts same is (illegal, it, before) = for_the_tagger value it (line, same, unwritable line actor is illegal)
 
-what_is_refused : (lines : TagLines) (tag : Tag) (value : Refused) (parts : List ℕ) → IsOwnedForm lines tag → RefusesOwned tag value parts → WhatIsRefused lines value
+what_is_refused : (lines : TagLines) (tag : Tag) (value : Refused) (parts : List ℕ) → IsOwnedFormOfTag lines tag → RefusesOwnedTag tag value parts → WhatIsRefused lines value
 what_is_refused lines tag value parts own (inl (inl (fault, first, it), before)) = for_a_fault value fault it (subst (λ (name : List ℕ). IsFirstFault name fault) own.name first)
 what_is_refused lines tag value parts own (inl (inr (none, dash, it), before)) = for_a_dash value it (subst HasNoFault own.name none) (subst BeginsWithDash own.name dash)
 what_is_refused lines tag value parts own (inr (valid, (line, refused, before))) = tagger_is_refused lines lines.tagger tag.tagger value line refl own.tagger refused
@@ -112,8 +112,8 @@ its_tagger lines (for_a_fault _ other it first) = absurd (cc it)
 its_tagger lines (for_a_dash _ it none dash) = absurd (cc it)
 its_tagger lines (for_the_tagger _ it has) = has
 
-pub own_refusal : (lines : TagLines) (tag : Tag) (before after : SinkView) (error : Error) → IsOwnedForm lines tag → SaysWhy (RefusesOwned tag) before after (tag_text (owned_lines tag)) error
-    → RefusesOwnForm lines before after (tag_text (owned_lines tag)) error
+pub own_refusal : (lines : TagLines) (tag : Tag) (before after : SinkView) (error : Error) → IsOwnedFormOfTag lines tag → RefusesWriting (RefusesOwnedTag tag) before after (tag_text (owned_tag_lines tag)) error
+    → RefusesOwnFormOfTag lines before after (tag_text (owned_tag_lines tag)) error
 own_refusal lines tag before after (encode.Writer cause) own says = says
 own_refusal lines tag before after (encode.InvalidRefName fault) own (parts, refused, puts) = its_fault lines fault (what_is_refused lines tag (bad_name fault) parts own refused)
 own_refusal lines tag before after encode.StartsWithDash own (parts, refused, puts) = its_dash lines (what_is_refused lines tag name_with_dash parts own refused)

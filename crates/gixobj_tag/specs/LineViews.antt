@@ -10,6 +10,6 @@ line_if_some None = None
 line_if_some (Some it) = Some (bstr_bytes it.0)
 
 -- the actor beside a line is the one that it begins with
-abbrev pub IsParsed : Option (BStr × SignatureRef) → Type 0
-IsParsed None = ⊤
-IsParsed (Some it) = (rest : List ℕ) × IsActorLine (bstr_bytes it.0) (bstr_bytes it.1.name) (bstr_bytes it.1.email) (bstr_bytes it.1.time) rest
+abbrev pub IsParsedTagger : Option (BStr × SignatureRef) → Type 0
+IsParsedTagger None = ⊤
+IsParsedTagger (Some it) = (rest : List ℕ) × IsActorLine (bstr_bytes it.0) (bstr_bytes it.1.name) (bstr_bytes it.1.email) (bstr_bytes it.1.time) rest

@@ -93,9 +93,9 @@ abbrev pub IsTagName : List ℕ → Type 0
 IsTagName name = HasNoFault name × ¬ BeginsWithDash name
 
 -- why no tag may have it: its first fault, or where it has none the dash
-abbrev pub RefusesName : List ℕ → Error → Type 0
-RefusesName name (InvalidRefName first) = IsFirstFault name first
-RefusesName name StartsWithDash = HasNoFault name × BeginsWithDash name
+abbrev pub RefusesTagName : List ℕ → Error → Type 0
+RefusesTagName name (InvalidRefName first) = IsFirstFault name first
+RefusesTagName name StartsWithDash = HasNoFault name × BeginsWithDash name
 
 -- that refusal as a writer's
 abbrev pub writer_error : Error → WriterError

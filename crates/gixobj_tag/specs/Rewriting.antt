@@ -18,7 +18,7 @@ pub data IsCanonicalTagger : Option (List ℕ) → Option (List ℕ) → Type 0 
   canonical_tagger : (line written : List ℕ) → IsCanonical line written → IsCanonicalTagger (Some line) (Some written)
 
 -- the parts of a tag as its owned form has them: the id in lower case, the tagger as it is written, all else as it is
-pub record AreOwnParts (tag own : TagLines) : Type 0 where
+pub record AreOwnPartsOfTag (tag own : TagLines) : Type 0 where
   pub target : own.target ≡ str_to_ascii_lowercase tag.target
   pub target_kind : own.target_kind ≡ tag.target_kind
   pub name : own.name ≡ tag.name
@@ -31,9 +31,9 @@ abbrev pub HasUnwritableTagger : TagLines → Type 0
 HasUnwritableTagger tag = (line : List ℕ) × (tag.tagger ≡ Some line) × IsUnwritable line
 
 -- why the owned form of a tag is not written: there was no room for the text, the name is none of a tag, or the tagger can't be written
-abbrev pub RefusesOwnForm : TagLines → SinkView → SinkView → List ℕ → Error → Type 0
-RefusesOwnForm tag before after text (error.Writer cause) = PutsFront before after text
-RefusesOwnForm tag before after text (error.InvalidRefName fault) = IsFirstFault tag.name fault
-RefusesOwnForm tag before after text error.StartsWithDash = HasNoFault tag.name × BeginsWithDash tag.name
-RefusesOwnForm tag before after text error.IllegalActor = HasUnwritableTagger tag
-RefusesOwnForm tag before after text _ = ⊥
+abbrev pub RefusesOwnFormOfTag : TagLines → SinkView → SinkView → List ℕ → Error → Type 0
+RefusesOwnFormOfTag tag before after text (error.Writer cause) = PutsFront before after text
+RefusesOwnFormOfTag tag before after text (error.InvalidRefName fault) = IsFirstFault tag.name fault
+RefusesOwnFormOfTag tag before after text error.StartsWithDash = HasNoFault tag.name × BeginsWithDash tag.name
+RefusesOwnFormOfTag tag before after text error.IllegalActor = HasUnwritableTagger tag
+RefusesOwnFormOfTag tag before after text _ = ⊥

@@ -8,12 +8,12 @@ use Rattle.gixobj_signature.specs.SignedBytes.{signed_bytes}
 use Rattle.gixobj_signature.specs.declared.signature.signed_data.SignedData.{SignedData}
 
 -- the text's last marker at the start of a line begins this signature, and all bytes before it are these
-pub record HasSignature (text signature signed : List ℕ) (format : Format) : Type 0 where
+pub record HasTagSignature (text signature signed : List ℕ) (format : Format) : Type 0 where
   pub place : ℕ
   pub is_place : IsMarkerPlace text place format
   pub joined : text ≡ signed ++ signature
   pub as_long : length signed ≡ place
 
 -- a signature with its format, and what it signs, are those of the text
-abbrev pub GivesSignature : List ℕ → SignatureRef × SignedData → Type 0
-GivesSignature text it = HasSignature text (bstr_bytes it.0.bytes) (signed_bytes it.1) it.0.format
+abbrev pub GivesSignatureOfTag : List ℕ → SignatureRef × SignedData → Type 0
+GivesSignatureOfTag text it = HasTagSignature text (bstr_bytes it.0.bytes) (signed_bytes it.1) it.0.format

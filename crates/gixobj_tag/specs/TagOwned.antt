@@ -44,7 +44,7 @@ IsOwnedTagger None (Some actor) = ⊥
 IsOwnedTagger (Some line) None = ⊥
 
 -- the tag with these lines, with parts of its own
-pub record IsOwnedForm (lines : TagLines) (tag : Tag) : Type 0 where
+pub record IsOwnedFormOfTag (lines : TagLines) (tag : Tag) : Type 0 where
   pub target : Spells lines.target tag.target
   pub target_kind : tag.target_kind ≡ lines.target_kind
   pub name : bstring_bytes tag.name ≡ lines.name
@@ -53,6 +53,6 @@ pub record IsOwnedForm (lines : TagLines) (tag : Tag) : Type 0 where
   pub signature : owned_bytes_if_some tag.signature ≡ lines.signature
 
 -- why a tag gets no parts of its own: its tagger's line is no actor to its end, or memory was wanting
-abbrev pub RefusesOwning : TagLines → Error → Type 0
-RefusesOwning lines Malformed = IsBadTagger lines.tagger
-RefusesOwning lines OutOfMemory = IsGoodTagger lines.tagger
+abbrev pub RefusesOwningTag : TagLines → Error → Type 0
+RefusesOwningTag lines Malformed = IsBadTagger lines.tagger
+RefusesOwningTag lines OutOfMemory = IsGoodTagger lines.tagger

@@ -18,33 +18,33 @@ use Rattle.gixobj_tag.specs.declared.ref_iter.Token.TheVariants as token
 use Rattle.gixobj_hash.specs.Optional.{bytes_if_some}
 
 -- a token, wherever it lies
-pub data TokenView : Type 0 where
-  target_token : ObjectId → TokenView
-  kind_token : Kind → TokenView
-  name_token : List ℕ → TokenView
-  tagger_token : List ℕ → List ℕ → List ℕ → TokenView
-  no_tagger_token : TokenView
-  body_token : List ℕ → Option (List ℕ) → TokenView
+pub data TagTokenView : Type 0 where
+  target_token : ObjectId → TagTokenView
+  kind_token : Kind → TagTokenView
+  name_token : List ℕ → TagTokenView
+  tagger_token : List ℕ → List ℕ → List ℕ → TagTokenView
+  no_tagger_token : TagTokenView
+  body_token : List ℕ → Option (List ℕ) → TagTokenView
 
-abbrev pub token_view : Token → TokenView
-token_view (token.Target id) = target_token id
-token_view (token.TargetKind kind) = kind_token kind
-token_view (token.Name name) = name_token (bstr_bytes name)
-token_view (token.Tagger (Some actor)) = tagger_token (bstr_bytes actor.name) (bstr_bytes actor.email) (bstr_bytes actor.time)
-token_view (token.Tagger None) = no_tagger_token
-token_view (token.Body message signature) = body_token (bstr_bytes message) (bytes_if_some signature)
+abbrev pub tag_token_view : Token → TagTokenView
+tag_token_view (token.Target id) = target_token id
+tag_token_view (token.TargetKind kind) = kind_token kind
+tag_token_view (token.Name name) = name_token (bstr_bytes name)
+tag_token_view (token.Tagger (Some actor)) = tagger_token (bstr_bytes actor.name) (bstr_bytes actor.email) (bstr_bytes actor.time)
+tag_token_view (token.Tagger None) = no_tagger_token
+tag_token_view (token.Body message signature) = body_token (bstr_bytes message) (bytes_if_some signature)
 
 -- where a reader stands in this state the input begins with this token, and goes on with the rest in the state behind it
-pub data HasToken (kind : hash.Kind) : State → List ℕ → TokenView → State → List ℕ → Type 0 where
-  target_comes : (input hex rest : List ℕ) (id : ObjectId) → HasId (codes "object") kind input hex rest → Spells hex id → HasToken kind state.Target input (target_token id) state.TargetKind rest
-  kind_comes : (input rest : List ℕ) (of : Kind) → HasField (codes "type") input (kind_word of) rest → HasToken kind state.TargetKind input (kind_token of) state.Name rest
-  name_comes : (input name rest : List ℕ) → HasName input name rest → HasToken kind state.Name input (name_token name) state.Tagger rest
+pub data HasTagToken (kind : hash.Kind) : State → List ℕ → TagTokenView → State → List ℕ → Type 0 where
+  target_comes : (input hex rest : List ℕ) (id : ObjectId) → HasId (codes "object") kind input hex rest → Spells hex id → HasTagToken kind state.Target input (target_token id) state.TargetKind rest
+  kind_comes : (input rest : List ℕ) (of : Kind) → HasField (codes "type") input (kind_word of) rest → HasTagToken kind state.TargetKind input (kind_token of) state.Name rest
+  name_comes : (input name rest : List ℕ) → HasName input name rest → HasTagToken kind state.Name input (name_token name) state.Tagger rest
   tagger_comes : (input line rest name email time behind : List ℕ) → HasField (codes "tagger") input line rest → IsActorLine line name email time behind
-      → HasToken kind state.Tagger input (tagger_token name email time) state.Body rest
-  no_tagger_comes : (input : List ℕ) → input ≢ [] → LacksName (codes "tagger") input → HasToken kind state.Tagger input no_tagger_token state.Body input
-  body_comes : (input message : List ℕ) (signature : Option (List ℕ)) → input ≢ [] → IsBody input message signature → HasToken kind state.Body input (body_token message signature) state.End []
+      → HasTagToken kind state.Tagger input (tagger_token name email time) state.Body rest
+  no_tagger_comes : (input : List ℕ) → input ≢ [] → LacksName (codes "tagger") input → HasTagToken kind state.Tagger input no_tagger_token state.Body input
+  body_comes : (input message : List ℕ) (signature : Option (List ℕ)) → input ≢ [] → IsBody input message signature → HasTagToken kind state.Body input (body_token message signature) state.End []
 
 -- the text is the token: nothing where no tagger comes; else it begins with the token, and ends behind it
-abbrev pub IsTokenText : hash.Kind → TokenView → List ℕ → Type 0
-IsTokenText kind no_tagger_token text = text ≡ []
-IsTokenText kind token text = (before : State) × (behind : State) × HasToken kind before text token behind []
+abbrev pub IsTagTokenText : hash.Kind → TagTokenView → List ℕ → Type 0
+IsTagTokenText kind no_tagger_token text = text ≡ []
+IsTagTokenText kind token text = (before : State) × (behind : State) × HasTagToken kind before text token behind []

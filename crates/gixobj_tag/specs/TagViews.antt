@@ -27,8 +27,8 @@ owned_tagger None = None
 owned_tagger (Some actor) = Some (owned_text actor)
 
 -- what an owned tag holds: its id in lower case, its tagger and the time as they are written
-abbrev pub owned_lines : Tag → TagLines
-owned_lines tag = record {
+abbrev pub owned_tag_lines : Tag → TagLines
+owned_tag_lines tag = record {
   target = hex_text tag.target;
   target_kind = tag.target_kind;
   name = bstring_bytes tag.name;

@@ -1,13 +1,13 @@
 -- Tags as they are written, and what is refused (gitdatamodel, "tag objects"; git-check-ref-format, "DESCRIPTION").
 use Rattle.std.specs.Prelude.{◌≡◌, ◌⊎◌, ℕ, List, [], ◌∷◌, ◌++◌, Option, Some, None, codes, if◌then◌else◌}
-use Rattle.gixobj_actor.specs.ActorWriting.{RefusesSignature}
+use Rattle.gixobj_actor.specs.ActorWriting.{RefusesActorField}
 use Rattle.gixobj_actor.specs.declared.actor.Signature.{Signature}
 use Rattle.gixobj_fields.specs.HeaderText.{field_text}
 use Rattle.gixobj_fields.specs.Writing.{Refused, bad_name, name_with_dash}
 use Rattle.gixobj_fields.specs.declared.encode.RefNameFault.{RefNameFault}
 use Rattle.gixobj_tag.specs.NameRule.{BeginsWithDash, HasNoFault, IsFirstFault, IsTagName}
 use Rattle.gixobj_tag.specs.TagText.{TagLines, are_newlines, lines_text, target_text}
-use Rattle.gixobj_tag.specs.TagViews.{owned_lines}
+use Rattle.gixobj_tag.specs.TagViews.{owned_tag_lines}
 use Rattle.gixobj_tag.specs.declared.tag.Tag.{Tag}
 use Rattle.gixobj_hash.specs.Bytes.{newline}
 
@@ -41,13 +41,13 @@ abbrev pub RefusesNameLine : List ℕ → Refused → List ℕ → Type 0
 RefusesNameLine name value parts = RefusesTagName name value × (parts ≡ [])
 
 -- a borrowed tag is refused for its name alone
-abbrev pub RefusesLines : TagLines → Refused → List ℕ → Type 0
-RefusesLines tag value parts = RefusesTagName tag.name value × (parts ≡ target_text tag)
+abbrev pub RefusesTagLines : TagLines → Refused → List ℕ → Type 0
+RefusesTagLines tag value parts = RefusesTagName tag.name value × (parts ≡ target_text tag)
 
 -- a tagger is refused behind the name of its field and a space
 abbrev pub RefusesTagger : Option Signature → Refused → List ℕ → Type 0
 RefusesTagger None value parts = ⊥
-RefusesTagger (Some actor) value parts = RefusesSignature (codes "tagger") actor value parts
+RefusesTagger (Some actor) value parts = RefusesActorField (codes "tagger") actor value parts
 
 -- a tag with these lines before its name is refused for the name, or else as its tagger is, behind the name's line
 abbrev pub RefusesParts : List ℕ → List ℕ → (Refused → List ℕ → Type 0) → Refused → List ℕ → Type 0
@@ -55,5 +55,5 @@ RefusesParts front name Refuses value parts =
     (RefusesTagName name value × (parts ≡ front)) ⊎ (IsTagName name × ((line : List ℕ) × Refuses value line × (parts ≡ front ++ field_text (codes "tag") name ++ line)))
 
 -- an owned tag is refused for its name, or else for its tagger
-abbrev pub RefusesOwned : Tag → Refused → List ℕ → Type 0
-RefusesOwned tag = RefusesParts (target_text (owned_lines tag)) (owned_lines tag).name (RefusesTagger tag.tagger)
+abbrev pub RefusesOwnedTag : Tag → Refused → List ℕ → Type 0
+RefusesOwnedTag tag = RefusesParts (target_text (owned_tag_lines tag)) (owned_tag_lines tag).name (RefusesTagger tag.tagger)

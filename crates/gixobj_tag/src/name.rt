@@ -1,7 +1,7 @@
 //! The names that tags may have (git-check-ref-format, "DESCRIPTION").
 ghost use Rattle.std.specs.Prelude.{◌≡◌, ◌↔◌, IfErr, IfOk, IsOk};
 ghost use Rattle.bstr.specs.BStr.{bstr_bytes};
-ghost use Rattle.gixobj_tag.specs.NameRule.{IsTagName, RefusesName};
+ghost use Rattle.gixobj_tag.specs.NameRule.{IsTagName, RefusesTagName};
 
 mod faults;
 
@@ -41,7 +41,7 @@ impl From<Error> for encode::Error {
 pub fn validated_name(name: BStr<'_>) -> Result<BStr<'_>, Error>
     ensures accepted { IsOk result ↔ IsTagName (bstr_bytes name.entry) }
     ensures same { IfOk result (λ it. bstr_bytes it ≡ bstr_bytes name.entry) }
-    ensures refusal { IfErr result (RefusesName (bstr_bytes name.entry)) }
+    ensures refusal { IfErr result (RefusesTagName (bstr_bytes name.entry)) }
 {
     let bytes = name.as_bytes();
     if let Some(fault) = first_fault(bytes) {

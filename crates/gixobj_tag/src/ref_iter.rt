@@ -3,10 +3,10 @@ ghost use Rattle.std.specs.Prelude.{◌≡◌, ◌≢◌, [], IfErr, IfNone, IfO
 ghost use Rattle.gixobj_fields.specs.Runs.{Ending, HasNoPiece};
 ghost use Rattle.gixobj_hash.specs.Hash.Borrowed.{borrowed_id};
 ghost use Rattle.gixobj_hash.specs.declared.decode.Error.TheVariants.{Malformed};
-ghost use Rattle.gixobj_tag.specs.LineViews.{IsParsed, line_if_some};
+ghost use Rattle.gixobj_tag.specs.LineViews.{IsParsedTagger, line_if_some};
 ghost use Rattle.gixobj_tag.specs.Readers.{TellsTagger};
-ghost use Rattle.gixobj_tag.specs.TagTokens.{HasToken, token_view};
-ghost use Rattle.gixobj_tag.specs.TokenGiving.{FindsTagger, GivesId, GivesToken, IsAtStart, LacksTagger, token_id, tokens_left};
+ghost use Rattle.gixobj_tag.specs.TagTokens.{HasTagToken, tag_token_view};
+ghost use Rattle.gixobj_tag.specs.TokenGiving.{FindsTagger, GivesIdOfTag, GivesTagToken, IsAtStartOfTag, LacksTagger, tag_token_id, tag_tokens_left};
 
 mod signature;
 
@@ -50,7 +50,7 @@ impl<'a> TagRefIter<'a> {
     /// A reader of the tag with this text, whose target has an id of this kind. It reads nothing yet, and
     /// takes no memory.
     pub fn from_bytes(bytes: &'a [u8], hash_kind: hash::Kind) -> TagRefIter<'a>
-        ensures { IsAtStart hash_kind bytes.now result }
+        ensures { IsAtStartOfTag hash_kind bytes.now result }
     {
         TagRefIter {
             bytes,
@@ -66,7 +66,7 @@ impl<'a> TagRefIter<'a> {
     ///
     /// `Malformed` where no token comes, or it has no id. It takes no memory.
     pub fn target_id(self) -> Result<ObjectId, Error>
-        ensures found { GivesId self.entry result }
+        ensures found { GivesIdOfTag self.entry result }
         ensures refusal { IfErr result (λ e. e ≡ Malformed) }
     {
         let mut tokens = self;
@@ -103,9 +103,9 @@ impl<'a> TagRefIter<'a> {
 impl<'a> Iterator for TagRefIter<'a> {
     type Item = Result<Token<'a>, Error>;
 
-    ghost next_gives = { GivesToken };
+    ghost next_gives = { GivesTagToken };
 
-    ghost remaining = { tokens_left };
+    ghost remaining = { tag_tokens_left };
 
     fn next(&mut self) -> Option<Result<Token<'a>, Error>> {
         if self.bytes.is_empty() {
@@ -134,8 +134,8 @@ fn read_token(
     hash_kind: hash::Kind,
 ) -> Option<(Token<'_>, State, &[u8])>
     requires { input.now ≢ [] }
-    ensures found { IfSome result (λ it. HasToken hash_kind before input.now (token_view it.0) it.1 it.2.now) }
-    ensures none { IfNone result (HasNoPiece (HasToken hash_kind) before input.now) }
+    ensures found { IfSome result (λ it. HasTagToken hash_kind before input.now (tag_token_view it.0) it.1 it.2.now) }
+    ensures none { IfNone result (HasNoPiece (HasTagToken hash_kind) before input.now) }
 {
     match before {
         State::Target => {
@@ -166,8 +166,8 @@ fn read_token(
 /// The token that tells the tagger, or that none comes.
 #[tactic(auto, using(crate::specs::Readers::tells_tagger, crate::specs::Readers::tells_no_tagger))]
 fn tagger_token(tagger: Option<TaggerLine<'_>>) -> Token<'_>
-    requires { IsParsed tagger }
-    ensures { TellsTagger (line_if_some tagger.entry) (token_view result) }
+    requires { IsParsedTagger tagger }
+    ensures { TellsTagger (line_if_some tagger.entry) (tag_token_view result) }
 {
     match tagger {
         Some((_, actor)) => Token::Tagger(Some(actor)),
@@ -202,7 +202,7 @@ pub enum Token<'a> {
 impl Token<'_> {
     /// The id of a target, borrowed.
     pub fn id(&self) -> Option<oid<'_>>
-        ensures { MatchOption result (token_id (token_view self.now) ≡ None) (λ id. token_id (token_view self.now) ≡ Some (borrowed_id id)) }
+        ensures { MatchOption result (tag_token_id (tag_token_view self.now) ≡ None) (λ id. tag_token_id (tag_token_view self.now) ≡ Some (borrowed_id id)) }
     {
         match self {
             Token::Target { id } => Some(id.as_oid()),
@@ -212,7 +212,7 @@ impl Token<'_> {
 
     /// The id of a target.
     pub fn into_id(self) -> Option<ObjectId>
-        ensures { result ≡ token_id (token_view self.entry) }
+        ensures { result ≡ tag_token_id (tag_token_view self.entry) }
     {
         match &self {
             Token::Target { id } => Some(*id),

@@ -4,8 +4,8 @@ ghost use Rattle.bstr.specs.BStr.{bstr_bytes};
 ghost use Rattle.gixobj_hash.specs.Hash.{IsHexOfAnId, Spells};
 ghost use Rattle.gixobj_hash.specs.declared.decode.Error.TheVariants.{Malformed};
 ghost use Rattle.gixobj_tag.specs.Signed.{IsSignature};
-ghost use Rattle.gixobj_tag.specs.TagOwned.{IsBadTagger, IsOwnedForm, IsTrimmedTagger, RefusesOwning};
-ghost use Rattle.gixobj_tag.specs.TagViews.{owned_lines, tag_lines};
+ghost use Rattle.gixobj_tag.specs.TagOwned.{IsBadTagger, IsOwnedFormOfTag, IsTrimmedTagger, RefusesOwningTag};
+ghost use Rattle.gixobj_tag.specs.TagViews.{owned_tag_lines, tag_lines};
 ghost use Rattle.gixobj_hash.specs.Optional.{bytes_if_some};
 
 pub mod decode;
@@ -102,8 +102,8 @@ impl TagRef<'_> {
     /// `OutOfMemory` where memory is wanting.
     pub fn into_owned(self, alloc: Global) -> Result<Tag, Error>
         requires { IsHexOfAnId (tag_lines self).target }
-        ensures owned { IfOk result (IsOwnedForm (tag_lines self.entry)) }
-        ensures refusal { IfErr result (RefusesOwning (tag_lines self.entry)) }
+        ensures owned { IfOk result (IsOwnedFormOfTag (tag_lines self.entry)) }
+        ensures refusal { IfErr result (RefusesOwningTag (tag_lines self.entry)) }
     {
         let tagger = owned::actor(self.tagger)?;
         Ok(owned::copy(alloc, &self, tagger)?)
@@ -115,7 +115,7 @@ impl Tag {
     /// The signature and its format, or none where there is no signature or no marker begins it
     /// (gitformat-signature, "DESCRIPTION"). It takes no memory.
     pub fn signature(&self) -> Option<signature::SignatureRef<'_>>
-        ensures { IsSignature (owned_lines self.now).signature result }
+        ensures { IsSignature (owned_tag_lines self.now).signature result }
     {
         with_format(borrowed(&self.signature))
     }

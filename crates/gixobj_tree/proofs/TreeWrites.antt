@@ -8,7 +8,7 @@ use Rattle.gixobj_tree.specs.Entries.{EntryView, entry_of}
 use Rattle.gixobj_hash.specs.Texts.{IsFree}
 use Rattle.gixobj_tree.specs.TreeText.{RefusesEntry, RefusesTree, before_name, entry_text, tree_text}
 use Rattle.gixobj_fields.specs.Streams.{Puts, PutsFront, SinkView}
-use Rattle.gixobj_fields.specs.Writing.{Refused, SaysWhy}
+use Rattle.gixobj_fields.specs.Writing.{Refused, RefusesWriting}
 use Rattle.gixobj_fields.specs.declared.encode.Error.{Error}
 use Rattle.gixobj_fields.specs.declared.encode.Error.TheVariants.{OutOfMemory}
 use Rattle.gixobj_hash.specs.Hash.{id_bytes}
@@ -46,7 +46,7 @@ nothing_refused items all i same h free value parts r = none_refused items value
 
 -- an entry that is refused behind entries that are not
 pub refused_at : (a b c : SinkView) (items : List EntryView) (i : ℕ) (e : EntryView) → i < length items → e ≡ get_or items i e
-    → Puts a b (tree_text (take i items)) → AreFree (take i items) → (why : Error) → SaysWhy (RefusesEntry e) b c (entry_text e) why → SaysWhy (RefusesTree items) a c (tree_text items) why
+    → Puts a b (tree_text (take i items)) → AreFree (take i items) → (why : Error) → RefusesWriting (RefusesEntry e) b c (entry_text e) why → RefusesWriting (RefusesTree items) a c (tree_text items) why
 refused_at a b c items i e h is put free why says =
     rw (text_at items i e h is) (says_why_within (RefusesEntry e) (RefusesTree items) a b c (tree_text (take i items)) (entry_text e) (tree_text (drop (i + 1) items)) put
     (λ value parts r. record { front = take i items; entry = e; back = drop (i + 1) items; begun = parts; joined = cut_at items i e h is; free = free; refused = r; written = refl })
@@ -80,5 +80,5 @@ name_front a b c mode name bytes id same put part =
     rw (append_assoc (before_name (entry_of mode name id)) name (0 ∷ id_bytes id), ← same, ← append-nil bytes) (front_more a b c (before_name (entry_of mode name id)) (name ++ 0 ∷ (bytes ++ [])) put part)
 
 -- a name with a zero byte is not copied for want of memory
-pub no_copy : (a b : SinkView) (mode : ℕ) (name : List ℕ) (id : ObjectId) → Contains name 0 → Puts a b (before_name (entry_of mode name id)) → SaysWhy (RefusesEntry (entry_of mode name id)) a b (entry_text (entry_of mode name id)) OutOfMemory
+pub no_copy : (a b : SinkView) (mode : ℕ) (name : List ℕ) (id : ObjectId) → Contains name 0 → Puts a b (before_name (entry_of mode name id)) → RefusesWriting (RefusesEntry (entry_of mode name id)) a b (entry_text (entry_of mode name id)) OutOfMemory
 no_copy a b mode name id has put = (name, inr (before_name (entry_of mode name id), (has, refl, refl), put))

@@ -5,7 +5,7 @@ ghost use Rattle.gixobj_commit.specs.CommitWriting.{HasIds};
 ghost use Rattle.gixobj_hash.specs.declared.decode.Error.TheVariants.{OutOfMemory};
 ghost use Rattle.gixobj_commit.specs.Commit.{IsCommitText, RefusesCommit};
 ghost use Rattle.gixobj_commit.specs.Gathering.{TakesMemory, gather, nothing};
-ghost use Rattle.gixobj_commit.specs.Lines.{IsParsed, line_view};
+ghost use Rattle.gixobj_commit.specs.Lines.{IsParsedLine, line_view};
 
 use super::CommitRef;
 use bstr::BStr;
@@ -66,7 +66,7 @@ impl<'a> CommitRef<'a> {
         requires { 1 ≤ self.now.parents.capacity }
         ensures put { OnOk result (commit_lines self.new ≡ gather (commit_lines self.old) (line_view line.entry)) }
         ensures room { OnOk result (1 ≤ self.new.parents.capacity) }
-        ensures borrowed { OnOk result (BorrowsLines self.old → IsParsed line.entry → BorrowsLines self.new) }
+        ensures borrowed { OnOk result (BorrowsLines self.old → IsParsedLine line.entry → BorrowsLines self.new) }
         ensures refusal { IfErr result (λ e. (e ≡ OutOfMemory) × TakesMemory (commit_lines self.old) (line_view line.entry)) }
     {
         match line {

@@ -5,7 +5,7 @@ ghost use Rattle.gixobj_actor.specs.Actor.{IsActor, IsOwnedActor};
 ghost use Rattle.std.specs.List.{AllZip};
 ghost use Rattle.gixobj_hash.specs.Hash.{IsHexOfAnId, Spells};
 ghost use Rattle.gixobj_fields.specs.HeaderReading.{header_of, owned_header_of};
-ghost use Rattle.gixobj_commit.specs.CommitOwned.{IsOwnedForm};
+ghost use Rattle.gixobj_commit.specs.CommitOwned.{IsOwnedFormOfCommit};
 ghost use Rattle.gixobj_commit.specs.CommitViews.{commit_lines};
 ghost use Rattle.gixobj_hash.specs.Optional.{bytes_if_some, owned_bytes_if_some};
 ghost use Rattle.gixobj_commit.specs.CommitWriting.{HasIds};
@@ -33,7 +33,7 @@ pub(super) fn commit(
     requires ids { HasIds (commit_lines commit.now) }
     requires author { IsActor (bstr_bytes commit.now.author) (bstr_bytes author.name) (bstr_bytes author.email) (bstr_bytes author.time) }
     requires committer { IsActor (bstr_bytes commit.now.committer) (bstr_bytes committer.name) (bstr_bytes committer.email) (bstr_bytes committer.time) }
-    ensures { IfOk result (IsOwnedForm (commit_lines commit.now)) }
+    ensures { IfOk result (IsOwnedFormOfCommit (commit_lines commit.now)) }
 {
     Ok(Commit {
         tree: commit.tree(),

@@ -1,9 +1,9 @@
 //! Commits, signed (gitformat-signature, "Commit signatures").
 ghost use Rattle.std.specs.Prelude.{◌≡◌, IfErr, IfOk, OnOk};
 ghost use Rattle.bstr.specs.Owned.{bstring_bytes};
-ghost use Rattle.gixobj_commit.specs.CommitSigning.{GetsSignature, IsSigned, IsSignedCopy, RefusesSigning, RefusesSigningCopy, RefusesWriting, is_named, with_last_header, without_headers};
-ghost use Rattle.gixobj_commit.specs.CommitViews.{commit_lines, owned_lines};
-ghost use Rattle.gixobj_commit.specs.CommitWriting.{HasIds, RefusesOwned, commit_text};
+ghost use Rattle.gixobj_commit.specs.CommitSigning.{GetsCommitSignature, IsSignedCommit, IsSignedCommitCopy, RefusesSigningCommit, RefusesSigningCommitCopy, RefusesWritingCommit, is_header_named, with_last_header, without_headers};
+ghost use Rattle.gixobj_commit.specs.CommitViews.{commit_lines, owned_commit_lines};
+ghost use Rattle.gixobj_commit.specs.CommitWriting.{HasIds, RefusesOwnedCommit, commit_text};
 ghost use Rattle.gixobj_fields.specs.HeaderReading.{owned_header_of};
 ghost use Rattle.gixobj_fields.specs.Writing.{RefusesNothing};
 ghost use Rattle.gixobj_signature.specs.Plans.{Goes};
@@ -30,8 +30,8 @@ impl Commit {
         options: Options,
         runner: &mut R,
     ) -> Result<Commit, Error>
-        ensures signed { IfOk result (IsSigned R.runs options self runner.old runner.new) }
-        ensures refusal { IfErr result (RefusesSigning R.runs options self runner.old runner.new) }
+        ensures signed { IfOk result (IsSignedCommit R.runs options self runner.old runner.new) }
+        ensures refusal { IfErr result (RefusesSigningCommit R.runs options self runner.old runner.new) }
     {
         let field = signature_field_name(self.tree.kind()).as_bytes();
         let unsigned = without_headers_of(self, field);
@@ -55,8 +55,8 @@ impl CommitRef<'_> {
         runner: &mut R,
     ) -> Result<Commit, Error>
         requires { HasIds (commit_lines self) }
-        ensures signed { IfOk result (IsSignedCopy R.runs options (commit_lines self.entry) runner.old runner.new) }
-        ensures refusal { IfErr result (RefusesSigningCopy R.runs options (commit_lines self.entry) runner.old runner.new) }
+        ensures signed { IfOk result (IsSignedCommitCopy R.runs options (commit_lines self.entry) runner.old runner.new) }
+        ensures refusal { IfErr result (RefusesSigningCommitCopy R.runs options (commit_lines self.entry) runner.old runner.new) }
     {
         match self.into_owned(alloc) {
             Ok(commit) => commit.sign(alloc, options, runner),
@@ -67,9 +67,9 @@ impl CommitRef<'_> {
 
 /// The written bytes of a commit.
 fn payload_of(alloc: Global, commit: &Commit) -> Result<Vec<u8>, encode::Error>
-    ensures text { IfOk result (λ text. text.items ≡ commit_text (owned_lines commit.now)) }
-    ensures writable { OnOk result (RefusesNothing (RefusesOwned commit.now)) }
-    ensures refusal { IfErr result (RefusesWriting commit.now (commit_text (owned_lines commit.now))) }
+    ensures text { IfOk result (λ text. text.items ≡ commit_text (owned_commit_lines commit.now)) }
+    ensures writable { OnOk result (RefusesNothing (RefusesOwnedCommit commit.now)) }
+    ensures refusal { IfErr result (RefusesWritingCommit commit.now (commit_text (owned_commit_lines commit.now))) }
 {
     let mut payload = Vec::new(alloc);
     commit.write_to_vec(alloc, &mut payload)?;
@@ -86,7 +86,7 @@ fn sign_written<R: Runner>(
     options: Options,
     runner: &mut R,
 ) -> Result<Commit, Error>
-    ensures signed { IfOk result (GetsSignature R.runs options payload.now field.now unsigned runner.old runner.new) }
+    ensures signed { IfOk result (GetsCommitSignature R.runs options payload.now field.now unsigned runner.old runner.new) }
     ensures refusal { IfErr result (λ error. Goes R.runs (sign_plan (options_view options) payload.now) runner.old (signer_refusal error) runner.new) }
 {
     match sign_payload(alloc, payload, options, runner) {
@@ -100,7 +100,7 @@ fn sign_written<R: Runner>(
 
 /// The commit without the headers of this name.
 fn without_headers_of(commit: Commit, name: &[u8]) -> Commit
-    ensures lines { owned_lines result ≡ without_headers name.now (owned_lines commit) }
+    ensures lines { owned_commit_lines result ≡ without_headers name.now (owned_commit_lines commit) }
     ensures others { result ≡ record commit { extra_headers = result.extra_headers } }
 {
     let mut commit = commit;
@@ -112,7 +112,7 @@ fn without_headers_of(commit: Commit, name: &[u8]) -> Commit
 
 /// Whether the header has this name.
 fn has_name(header: &(BString, BString), name: &[u8]) -> bool
-    ensures { result ≡ is_named name.now (owned_header_of header.now) }
+    ensures { result ≡ is_header_named name.now (owned_header_of header.now) }
 {
     header.0.as_bytes() == name
 }
@@ -124,7 +124,7 @@ fn with_header(
     name: &[u8],
     value: BString,
 ) -> Result<Commit, OutOfMemory>
-    ensures { IfOk result (λ it. owned_lines it ≡ with_last_header name.now (bstring_bytes value) (owned_lines commit)) }
+    ensures { IfOk result (λ it. owned_commit_lines it ≡ with_last_header name.now (bstring_bytes value) (owned_commit_lines commit)) }
 {
     let mut commit = commit;
     let name = BString::from_slice(alloc, name)?;

@@ -6,7 +6,7 @@ ghost use Rattle.bstr.specs.BStr.{bstr_bytes};
 ghost use Rattle.gixobj_hash.specs.Hash.{IsHexOfAnId, hex_text};
 ghost use Rattle.gixobj_fields.specs.HeaderText.{field_text};
 ghost use Rattle.gixobj_fields.specs.Streams.{Puts, PutsOrFails};
-ghost use Rattle.gixobj_fields.specs.Writing.{AddsSize, IsSize, RefusesNothing, SaysWhy};
+ghost use Rattle.gixobj_fields.specs.Writing.{AddsSize, IsSize, RefusesNothing, RefusesWriting};
 ghost use Rattle.gixobj_commit.specs.Commit.{encoding_text};
 ghost use Rattle.gixobj_hash.specs.Optional.{bytes_if_some};
 ghost use Rattle.gixobj_commit.specs.CommitWriting.{RefusesEncodingLine, hex_lines, hex_tree};
@@ -35,7 +35,7 @@ use std::io;
 impl WriteTo for CommitRef<'_> {
     ghost use Rattle.gixobj_hash.specs.declared.kind.Kind.TheVariants as kind;
     ghost use Rattle.gixobj_commit.specs.CommitViews.{commit_lines};
-    ghost use Rattle.gixobj_commit.specs.CommitWriting.{HasIds, RefusesLines, commit_text, in_lower_case};
+    ghost use Rattle.gixobj_commit.specs.CommitWriting.{HasIds, RefusesCommitLines, commit_text, in_lower_case};
 
     ghost can_write = { λ commit. HasIds (commit_lines commit) };
 
@@ -43,7 +43,7 @@ impl WriteTo for CommitRef<'_> {
 
     ghost text = { λ commit. commit_text (in_lower_case (commit_lines commit)) };
 
-    ghost refuses = { λ commit. RefusesLines (in_lower_case (commit_lines commit)) };
+    ghost refuses = { λ commit. RefusesCommitLines (in_lower_case (commit_lines commit)) };
 
     fn write_into<S: Sink>(&self, alloc: Global, sink: &mut S) -> Result<(), Error> {
         let parents = self.parents.as_slice();
@@ -251,7 +251,7 @@ fn put_rest<T: Field, S: Sink>(
     requires { All T.can_put headers.now }
     ensures written { OnOk result (Puts (S.view sink.old) (S.view sink.new) (encoding_text (bytes_if_some encoding.entry) ++ flat_map T.written headers.now ++ newline ∷ message.now)) }
     ensures nothing_refused { OnOk result (RefusesNothing (RefusesEncodingLine (bytes_if_some encoding.entry))) }
-    ensures refusal { IfErr result (SaysWhy (RefusesEncodingLine (bytes_if_some encoding.entry)) (S.view sink.old) (S.view sink.new) (encoding_text (bytes_if_some encoding.entry) ++ flat_map T.written headers.now ++ newline ∷ message.now)) }
+    ensures refusal { IfErr result (RefusesWriting (RefusesEncodingLine (bytes_if_some encoding.entry)) (S.view sink.old) (S.view sink.new) (encoding_text (bytes_if_some encoding.entry) ++ flat_map T.written headers.now ++ newline ∷ message.now)) }
     ensures same_loan { S.loan sink.new ≡ S.loan sink.old }
 {
     put_encoding(alloc, encoding, sink)?;
@@ -268,7 +268,7 @@ fn put_encoding<S: Sink>(
 ) -> Result<(), Error>
     ensures written { OnOk result (Puts (S.view sink.old) (S.view sink.new) (encoding_text (bytes_if_some encoding.entry))) }
     ensures nothing_refused { OnOk result (RefusesNothing (RefusesEncodingLine (bytes_if_some encoding.entry))) }
-    ensures refusal { IfErr result (SaysWhy (RefusesEncodingLine (bytes_if_some encoding.entry)) (S.view sink.old) (S.view sink.new) (encoding_text (bytes_if_some encoding.entry))) }
+    ensures refusal { IfErr result (RefusesWriting (RefusesEncodingLine (bytes_if_some encoding.entry)) (S.view sink.old) (S.view sink.new) (encoding_text (bytes_if_some encoding.entry))) }
     ensures same_loan { S.loan sink.new ≡ S.loan sink.old }
 {
     match encoding {

@@ -4,15 +4,15 @@ ghost use Rattle.std.specs.Prelude.{◌≡◌, ◌≢◌, ◌<◌, ◌+◌, ◌+
 ghost use Rattle.std.specs.List.{AllPass};
 ghost use Rattle.gixobj_hash.specs.Hash.{is_lower_hex_digit};
 ghost use Rattle.gixobj_fields.specs.Streams.{SinkView, list_view};
-ghost use Rattle.gixobj_fields.specs.Writing.{FailsAsSink, RefusesNothing, SaysWhy};
+ghost use Rattle.gixobj_fields.specs.Writing.{FailsAsSink, RefusesNothing, RefusesWriting};
 ghost use Rattle.gixobj_fields.specs.declared.encode.Error.{Error};
 ghost use Rattle.gixobj_hash.specs.declared.decode.Error.TheVariants.{Malformed};
 ghost use Rattle.gixobj_hash.specs.declared.hash.kind.Kind.{Kind};
 ghost use Rattle.gixobj_commit.specs.Commit.{CommitLines, IsCommitText};
-ghost use Rattle.gixobj_commit.specs.CommitOwned.{IsOwnedForm, RefusesOwning};
-ghost use Rattle.gixobj_commit.specs.CommitViews.{commit_lines, owned_lines};
-ghost use Rattle.gixobj_commit.specs.CommitWriting.{HasIds, RefusesLines, RefusesOwned, commit_text, in_lower_case};
-ghost use Rattle.gixobj_commit.specs.Rewriting.{AreOwnParts, RefusesOwnForm};
+ghost use Rattle.gixobj_commit.specs.CommitOwned.{IsOwnedFormOfCommit, RefusesOwningCommit};
+ghost use Rattle.gixobj_commit.specs.CommitViews.{commit_lines, owned_commit_lines};
+ghost use Rattle.gixobj_commit.specs.CommitWriting.{HasIds, RefusesCommitLines, RefusesOwnedCommit, commit_text, in_lower_case};
+ghost use Rattle.gixobj_commit.specs.Rewriting.{AreOwnPartsOfCommit, RefusesOwnFormOfCommit};
 ghost use Rattle.gixobj_commit.specs.declared.commit.Commit.{Commit};
 
 use crate::CommitRef;
@@ -31,7 +31,7 @@ pub fn commit_writes_back()
     ensures same_text { (kind : Kind) (text : List ℕ) (commit : CommitLines) → IsCommitText kind text commit →
         AllPass is_lower_hex_digit commit.tree → All (λ hex. AllPass is_lower_hex_digit hex) commit.parents → commit_text (in_lower_case commit) ≡ text }
     ensures not_refused { (kind : Kind) (text : List ℕ) (commit : CommitLines) → IsCommitText kind text commit →
-        commit.encoding ≢ Some [] → RefusesNothing (RefusesLines (in_lower_case commit)) }
+        commit.encoding ≢ Some [] → RefusesNothing (RefusesCommitLines (in_lower_case commit)) }
 {}
 
 /// The owned form of a commit has its parts: ids in lower case, actors by their parts, their times as
@@ -39,11 +39,11 @@ pub fn commit_writes_back()
 /// memory, and that is written but for want of room, an actor with a byte that no owned one may have,
 /// or an empty encoding.
 pub fn owned_forms_have_the_parts()
-    ensures parts { (lines : CommitLines) (commit : Commit) → IsOwnedForm lines commit → AreOwnParts lines (owned_lines commit) }
-    ensures owned { (kind : Kind) (text : List ℕ) (lines : CommitLines) → IsCommitText kind text lines → ¬ RefusesOwning lines Malformed }
+    ensures parts { (lines : CommitLines) (commit : Commit) → IsOwnedFormOfCommit lines commit → AreOwnPartsOfCommit lines (owned_commit_lines commit) }
+    ensures owned { (kind : Kind) (text : List ℕ) (lines : CommitLines) → IsCommitText kind text lines → ¬ RefusesOwningCommit lines Malformed }
     ensures refusal { (kind : Kind) (text : List ℕ) (lines : CommitLines) (commit : Commit) (before after : SinkView) (error : Error) →
-        IsCommitText kind text lines → IsOwnedForm lines commit →
-        SaysWhy (RefusesOwned commit) before after (commit_text (owned_lines commit)) error → RefusesOwnForm lines before after (commit_text (owned_lines commit)) error }
+        IsCommitText kind text lines → IsOwnedFormOfCommit lines commit →
+        RefusesWriting (RefusesOwnedCommit commit) before after (commit_text (owned_commit_lines commit)) error → RefusesOwnFormOfCommit lines before after (commit_text (owned_commit_lines commit)) error }
 {}
 
 /// A commit is written behind the bytes of a list: where it was read from a text, and its ids were in

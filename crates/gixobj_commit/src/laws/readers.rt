@@ -10,12 +10,12 @@ ghost use Rattle.gixobj_hash.specs.declared.hash.kind.Kind.{Kind};
 ghost use Rattle.gixobj_hash.specs.declared.hash.object_id.ObjectId.{ObjectId};
 ghost use Rattle.gixobj_commit.specs.Commit.{CommitLines, IsCommitText};
 ghost use Rattle.gixobj_fields.specs.Runs.{broken, complete};
-ghost use Rattle.gixobj_commit.specs.CommitRuns.{Tells};
-ghost use Rattle.gixobj_commit.specs.CommitTokens.{TokenView, token_view};
-ghost use Rattle.gixobj_commit.specs.Readers.{AreTokensOf, EndsInMessage};
+ghost use Rattle.gixobj_commit.specs.CommitRuns.{TellsCommit};
+ghost use Rattle.gixobj_commit.specs.CommitTokens.{CommitTokenView, commit_token_view};
+ghost use Rattle.gixobj_commit.specs.Readers.{AreTokensOfCommit, EndsInMessage};
 ghost use Rattle.gixobj_commit.specs.TokenFilters.{GivesParent, parents_reader};
-ghost use Rattle.gixobj_commit.specs.TokenGiving.{GivesId, GivesToken, IsAtStart};
-ghost use Rattle.gixobj_commit.specs.TokenPassing.{FindsAuthor, FindsCommitter, FindsFault, FindsMessage, FindsNone, HasPassed, IsAuthorToken, IsCommitterToken, IsMessageToken};
+ghost use Rattle.gixobj_commit.specs.TokenGiving.{GivesIdOfCommit, GivesCommitToken, IsAtStartOfCommit};
+ghost use Rattle.gixobj_commit.specs.TokenPassing.{FindsAuthor, FindsCommitter, FindsFault, FindsMessage, FindsNone, HasPassedCommitTokens, IsAuthorToken, IsCommitterToken, IsMessageToken};
 ghost use Rattle.gixobj_commit.specs.declared.ref_iter.CommitRefIter.{CommitRefIter};
 ghost use Rattle.gixobj_commit.specs.declared.lines.State.TheVariants as state;
 ghost use Rattle.gixobj_commit.specs.declared.ref_iter.Token.{Token};
@@ -26,31 +26,31 @@ ghost use Rattle.gixobj_commit.specs.declared.ref_iter.filters.ParentIds.{Parent
 /// tokens these are.
 pub fn readers_read_one_language()
     ensures told { (kind : Kind) (text : List ℕ) (commit : CommitLines) → IsCommitText kind text commit →
-        (tokens : List TokenView) × Tells kind state.Tree text tokens complete × AreTokensOf commit tokens × EndsInMessage tokens }
-    ensures read { (kind : Kind) (text : List ℕ) (tokens : List TokenView) → Tells kind state.Tree text tokens complete → EndsInMessage tokens →
-        (commit : CommitLines) × IsCommitText kind text commit × AreTokensOf commit tokens }
+        (tokens : List CommitTokenView) × TellsCommit kind state.Tree text tokens complete × AreTokensOfCommit commit tokens × EndsInMessage tokens }
+    ensures read { (kind : Kind) (text : List ℕ) (tokens : List CommitTokenView) → TellsCommit kind state.Tree text tokens complete → EndsInMessage tokens →
+        (commit : CommitLines) × IsCommitText kind text commit × AreTokensOfCommit commit tokens }
 {}
 
 /// What a walk through the tokens of a text comes to, call by call: a reader at its start has passed none;
 /// each token that it gives is passed too; where it gives nothing more, those that were passed are told to
 /// the end, and where it refuses the bytes that are left, they are told up to there.
 pub fn tokens_are_passed()
-    ensures starts { (kind : Kind) (text : List ℕ) (reader : CommitRefIter) → IsAtStart kind text reader → HasPassed kind text [] reader }
-    ensures goes_on { (kind : Kind) (text : List ℕ) (tokens : List TokenView) (at after : CommitRefIter) (token : Token) →
-        HasPassed kind text tokens at → GivesToken at (Some (Ok token)) after → HasPassed kind text (tokens ++ token_view token ∷ []) after }
-    ensures ends { (kind : Kind) (text : List ℕ) (tokens : List TokenView) (at after : CommitRefIter) →
-        HasPassed kind text tokens at → GivesToken at None after → Tells kind state.Tree text tokens complete }
-    ensures stops { (kind : Kind) (text : List ℕ) (tokens : List TokenView) (at after : CommitRefIter) →
-        HasPassed kind text tokens at → GivesToken at (Some (Err Malformed)) after → Tells kind state.Tree text tokens broken }
+    ensures starts { (kind : Kind) (text : List ℕ) (reader : CommitRefIter) → IsAtStartOfCommit kind text reader → HasPassedCommitTokens kind text [] reader }
+    ensures goes_on { (kind : Kind) (text : List ℕ) (tokens : List CommitTokenView) (at after : CommitRefIter) (token : Token) →
+        HasPassedCommitTokens kind text tokens at → GivesCommitToken at (Some (Ok token)) after → HasPassedCommitTokens kind text (tokens ++ commit_token_view token ∷ []) after }
+    ensures ends { (kind : Kind) (text : List ℕ) (tokens : List CommitTokenView) (at after : CommitRefIter) →
+        HasPassedCommitTokens kind text tokens at → GivesCommitToken at None after → TellsCommit kind state.Tree text tokens complete }
+    ensures stops { (kind : Kind) (text : List ℕ) (tokens : List CommitTokenView) (at after : CommitRefIter) →
+        HasPassedCommitTokens kind text tokens at → GivesCommitToken at (Some (Err Malformed)) after → TellsCommit kind state.Tree text tokens broken }
 {}
 
 /// Of the text of a commit a reader at its start finds the commit's tree and parents.
 pub fn ids_are_found()
     ensures tree { (kind : Kind) (text : List ℕ) (commit : CommitLines) (reader after : CommitRefIter) (result : Result ObjectId Error) →
-        IsCommitText kind text commit → IsAtStart kind text reader → GivesId reader result after →
+        IsCommitText kind text commit → IsAtStartOfCommit kind text reader → GivesIdOfCommit reader result after →
         (id : ObjectId) × (result ≡ Ok id) × Spells commit.tree id }
     ensures parents { (kind : Kind) (text : List ℕ) (commit : CommitLines) (parents : ParentIds) →
-        IsCommitText kind text commit → IsAtStart kind text (parents_reader parents) →
+        IsCommitText kind text commit → IsAtStartOfCommit kind text (parents_reader parents) →
         (ids : List ObjectId) × AllZip Spells commit.parents ids × YieldsList GivesParent (λ id. id) parents ids }
 {}
 
@@ -58,20 +58,20 @@ pub fn ids_are_found()
 /// them but for want of memory.
 pub fn actors_are_found()
     ensures author { (kind : Kind) (text : List ℕ) (commit : CommitLines) (reader : CommitRefIter) (name email time : List ℕ) →
-        IsCommitText kind text commit → IsAtStart kind text reader → FindsAuthor reader name email time → IsActor commit.author name email time }
+        IsCommitText kind text commit → IsAtStartOfCommit kind text reader → FindsAuthor reader name email time → IsActor commit.author name email time }
     ensures has_author { (kind : Kind) (text : List ℕ) (commit : CommitLines) (reader : CommitRefIter) →
-        IsCommitText kind text commit → IsAtStart kind text reader → ¬ FindsNone IsAuthorToken reader Malformed }
+        IsCommitText kind text commit → IsAtStartOfCommit kind text reader → ¬ FindsNone IsAuthorToken reader Malformed }
     ensures committer { (kind : Kind) (text : List ℕ) (commit : CommitLines) (reader : CommitRefIter) (name email time : List ℕ) →
-        IsCommitText kind text commit → IsAtStart kind text reader → FindsCommitter reader name email time → IsActor commit.committer name email time }
+        IsCommitText kind text commit → IsAtStartOfCommit kind text reader → FindsCommitter reader name email time → IsActor commit.committer name email time }
     ensures has_committer { (kind : Kind) (text : List ℕ) (commit : CommitLines) (reader : CommitRefIter) →
-        IsCommitText kind text commit → IsAtStart kind text reader → ¬ FindsNone IsCommitterToken reader Malformed }
+        IsCommitText kind text commit → IsAtStartOfCommit kind text reader → ¬ FindsNone IsCommitterToken reader Malformed }
 {}
 
 /// Of the text of a commit a reader at its start finds the commit's message, and refuses it but for
 /// want of memory.
 pub fn message_is_found()
     ensures message { (kind : Kind) (text : List ℕ) (commit : CommitLines) (reader : CommitRefIter) (message : List ℕ) →
-        IsCommitText kind text commit → IsAtStart kind text reader → FindsMessage reader message → message ≡ commit.message }
+        IsCommitText kind text commit → IsAtStartOfCommit kind text reader → FindsMessage reader message → message ≡ commit.message }
     ensures has_message { (kind : Kind) (text : List ℕ) (commit : CommitLines) (reader : CommitRefIter) →
-        IsCommitText kind text commit → IsAtStart kind text reader → ¬ FindsFault IsMessageToken reader Malformed }
+        IsCommitText kind text commit → IsAtStartOfCommit kind text reader → ¬ FindsFault IsMessageToken reader Malformed }
 {}

@@ -1,7 +1,7 @@
 //! What a reader of tokens is asked for.
 ghost use Rattle.std.specs.Prelude.{IfErr, IfOk};
 ghost use Rattle.bstr.specs.BStr.{bstr_bytes};
-ghost use Rattle.gixobj_commit.specs.TokenGiving.{GivesId};
+ghost use Rattle.gixobj_commit.specs.TokenGiving.{GivesIdOfCommit};
 ghost use Rattle.gixobj_commit.specs.TokenPassing.{FindsAuthor, FindsCommitter, FindsFault, FindsMessage, FindsNone, IsAuthorToken, IsCommitterToken, IsMessageToken};
 
 use super::CommitRefIter;
@@ -16,7 +16,7 @@ impl<'a> CommitRefIter<'a> {
     ///
     /// The error of that token, or `Malformed` where there is none or it has no id.
     pub fn tree_id(&mut self) -> Result<ObjectId, Error>
-        ensures { GivesId self.old result self.new }
+        ensures { GivesIdOfCommit self.old result self.new }
     {
         match self.next() {
             Some(Ok(token)) => match token.try_into_id() {

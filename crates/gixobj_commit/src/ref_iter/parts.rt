@@ -1,7 +1,7 @@
 //! Tokens that are looked for.
 ghost use Rattle.std.specs.Prelude.{◌≡◌, MatchOption};
 ghost use Rattle.bstr.specs.BStr.{bstr_bytes};
-ghost use Rattle.gixobj_commit.specs.CommitTokens.{author_token, committer_token, message_token, parent_token, token_view};
+ghost use Rattle.gixobj_commit.specs.CommitTokens.{author_token, committer_token, message_token, parent_token, commit_token_view};
 ghost use Rattle.gixobj_commit.specs.TokenPassing.{IsActorToken, IsActorTokenOf, IsAuthorToken, IsCommitterToken, IsMessageToken, IsParentToken};
 
 use super::Token;
@@ -12,7 +12,7 @@ use gixobj_hash::hash::ObjectId;
 impl<'a> Token<'a> {
     /// The id of a parent.
     pub(super) fn as_parent(&self) -> Option<ObjectId>
-        ensures { MatchOption result (¬ IsParentToken (token_view self.now)) (λ id. token_view self.now ≡ parent_token id) }
+        ensures { MatchOption result (¬ IsParentToken (commit_token_view self.now)) (λ id. commit_token_view self.now ≡ parent_token id) }
     {
         match self {
             Token::Parent { id } => Some(*id),
@@ -22,7 +22,7 @@ impl<'a> Token<'a> {
 
     /// The actor of an author.
     pub(super) fn as_author(&self) -> Option<SignatureRef<'a>>
-        ensures { MatchOption result (¬ IsAuthorToken (token_view self.now)) (λ it. token_view self.now ≡ author_token (bstr_bytes it.name) (bstr_bytes it.email) (bstr_bytes it.time)) }
+        ensures { MatchOption result (¬ IsAuthorToken (commit_token_view self.now)) (λ it. commit_token_view self.now ≡ author_token (bstr_bytes it.name) (bstr_bytes it.email) (bstr_bytes it.time)) }
     {
         match self {
             Token::Author { signature } => Some(*signature),
@@ -32,7 +32,7 @@ impl<'a> Token<'a> {
 
     /// The actor of a committer.
     pub(super) fn as_committer(&self) -> Option<SignatureRef<'a>>
-        ensures { MatchOption result (¬ IsCommitterToken (token_view self.now)) (λ it. token_view self.now ≡ committer_token (bstr_bytes it.name) (bstr_bytes it.email) (bstr_bytes it.time)) }
+        ensures { MatchOption result (¬ IsCommitterToken (commit_token_view self.now)) (λ it. commit_token_view self.now ≡ committer_token (bstr_bytes it.name) (bstr_bytes it.email) (bstr_bytes it.time)) }
     {
         match self {
             Token::Committer { signature } => Some(*signature),
@@ -42,7 +42,7 @@ impl<'a> Token<'a> {
 
     /// The actor of an author or a committer.
     pub(super) fn as_actor(&self) -> Option<SignatureRef<'a>>
-        ensures { MatchOption result (¬ IsActorToken (token_view self.now)) (λ it. IsActorTokenOf (bstr_bytes it.name) (bstr_bytes it.email) (bstr_bytes it.time) (token_view self.now)) }
+        ensures { MatchOption result (¬ IsActorToken (commit_token_view self.now)) (λ it. IsActorTokenOf (bstr_bytes it.name) (bstr_bytes it.email) (bstr_bytes it.time) (commit_token_view self.now)) }
     {
         match self {
             Token::Author { signature } | Token::Committer { signature } => Some(*signature),
@@ -52,7 +52,7 @@ impl<'a> Token<'a> {
 
     /// The bytes of a message.
     pub(super) fn as_message(&self) -> Option<BStr<'a>>
-        ensures { MatchOption result (¬ IsMessageToken (token_view self.now)) (λ it. token_view self.now ≡ message_token (bstr_bytes it)) }
+        ensures { MatchOption result (¬ IsMessageToken (commit_token_view self.now)) (λ it. commit_token_view self.now ≡ message_token (bstr_bytes it)) }
     {
         match self {
             Token::Message(message) => Some(*message),

@@ -2,7 +2,7 @@
 ghost use Rattle.std.specs.Prelude.{◌≡◌, IfErr, IfOk, MatchOption};
 ghost use Rattle.std.specs.Cow.{cow_slice_items};
 ghost use Rattle.gixobj_commit.specs.Lines.{header_line, line_view};
-ghost use Rattle.gixobj_commit.specs.Extracting.{GivesSignature, HasNoSignature, HasSignature, IsNamedLine, RefusesSignature};
+ghost use Rattle.gixobj_commit.specs.Extracting.{GivesSignatureOfCommit, HasNoSignature, HasCommitSignature, IsNamedLine, RefusesCommitSignature};
 ghost use Rattle.gixobj_signature.specs.SignedBytes.{signed_bytes};
 
 use super::CommitRefIter;
@@ -27,8 +27,8 @@ impl<'a> CommitRefIter<'a> {
         bytes: &'a [u8],
         hash_kind: Kind,
     ) -> Result<Option<(CowSlice<'a, u8>, SignedData<'a>)>, Error>
-        ensures found { IfOk result (GivesSignature hash_kind bytes.now) }
-        ensures refusal { IfErr result (RefusesSignature hash_kind bytes.now) }
+        ensures found { IfOk result (GivesSignatureOfCommit hash_kind bytes.now) }
+        ensures refusal { IfErr result (RefusesCommitSignature hash_kind bytes.now) }
     {
         let field = signature_field_name(hash_kind).as_bytes();
         let mut state = State::Tree;

@@ -4,7 +4,7 @@ ghost use Rattle.bstr.specs.Owned.{bstring_bytes};
 ghost use Rattle.gixobj_tree.specs.Entries.{IsEntryName};
 ghost use Rattle.gixobj_directories.specs.Calls.{AreNames, names_of};
 ghost use Rattle.gixobj_editor.specs.Cursors.{from_root};
-ghost use Rattle.gixobj_editor.specs.Upserts.{IsJudged, RefusesName, RefusesNames, StartsRefused, directory_of};
+ghost use Rattle.gixobj_editor.specs.Upserts.{IsJudged, RefusesEntryName, RefusesNames, StartsRefused, directory_of};
 
 use crate::editor::error::Error;
 use bstr::BString;
@@ -99,7 +99,7 @@ pub(crate) fn check_names(path: &[BString]) -> Result<(), Error>
 /// Refuses a name that no entry may have.
 fn check_name(name: &BString) -> Result<(), Error>
     ensures accepted { OnOk result (IsEntryName (bstring_bytes name.now)) }
-    ensures refusal { IfErr result (RefusesName (bstring_bytes name.now)) }
+    ensures refusal { IfErr result (RefusesEntryName (bstring_bytes name.now)) }
 {
     if name.is_empty() {
         return Err(Error::EmptyPathComponent);

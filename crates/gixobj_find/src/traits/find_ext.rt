@@ -12,10 +12,10 @@ ghost use Rattle.gixobj_commit.specs.Commit.{IsCommitText};
 ghost use Rattle.gixobj_find.specs.declared.find.existing_iter.Error.TheVariants as told;
 ghost use Rattle.gixobj_find.specs.declared.find.existing_object.Error.TheVariants as decoded;
 ghost use Rattle.gixobj_object.specs.BorrowedObjects.{HasObjectIds};
-ghost use Rattle.gixobj_tag.specs.TokenGiving.{IsAtStart as IsAtStartOfTag};
+ghost use Rattle.gixobj_tag.specs.TokenGiving.{IsAtStartOfTag};
 ghost use Rattle.gixobj_tag.specs.TagText.{IsTagText};
 ghost use Rattle.gixobj_tag.specs.TagViews.{tag_lines};
-ghost use Rattle.gixobj_commit.specs.TokenGiving.{IsAtStart};
+ghost use Rattle.gixobj_commit.specs.TokenGiving.{IsAtStartOfCommit};
 ghost use Rattle.gixobj_tree.specs.TreeReading.{IsTreeText};
 ghost use Rattle.gixobj_tree.specs.TreeViews.{tree_entries};
 
@@ -136,7 +136,7 @@ pub trait FindExt: Find {
         id: oid<'_>,
         buffer: &'a mut Vec<u8>,
     ) -> Result<CommitRefIter<'a>, existing_iter::Error>
-        ensures found { IfOk result (λ reader. NamesSuch (Self.objects self.now) (borrowed_id id.entry) object.Commit (λ hash text. IsAtStart hash text reader)) }
+        ensures found { IfOk result (λ reader. NamesSuch (Self.objects self.now) (borrowed_id id.entry) object.Commit (λ hash text. IsAtStartOfCommit hash text reader)) }
         ensures refusal { IfErr result (RefusesReader (Self.objects self.now) (Self.may_fail self.now) object.Commit (borrowed_id id.entry)) }
     {
         let it = undecoded(self, id, buffer)?;

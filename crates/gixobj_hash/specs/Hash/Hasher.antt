@@ -8,7 +8,7 @@ use Rattle.gixobj_hash.specs.declared.hash.hasher.Hasher.{Hasher}
 use Rattle.gixobj_hash.specs.declared.hash.hasher.Hasher.TheVariants as hasher
 
 -- the hasher digests, by this kind of digest, the message
-abbrev pub Holds : Kind → Hasher → List ℕ → Type 0
-Holds hash.Sha1 (hasher.Sha1 state) message = sha1.Holds state message
-Holds hash.Sha256 (hasher.Sha256 state) message = Holds256 state message
-Holds _ _ message = ⊥
+abbrev pub HoldsMessage : Kind → Hasher → List ℕ → Type 0
+HoldsMessage hash.Sha1 (hasher.Sha1 state) message = sha1.Holds state message
+HoldsMessage hash.Sha256 (hasher.Sha256 state) message = Holds256 state message
+HoldsMessage _ _ message = ⊥

@@ -1,7 +1,7 @@
 //! A digest of pieces, of either kind.
 ghost use Rattle.std.specs.Prelude.{◌≡◌, ◌++◌, [], List, ℕ};
 ghost use Rattle.gixobj_hash.specs.Hash.{digest_of, id_from};
-ghost use Rattle.gixobj_hash.specs.Hash.Hasher.{Holds};
+ghost use Rattle.gixobj_hash.specs.Hash.Hasher.{HoldsMessage};
 ghost use Rattle.gixobj_hash.specs.declared.hash.kind.Kind.{Kind};
 
 use super::{Kind, ObjectId};
@@ -18,7 +18,7 @@ pub enum Hasher {
 impl Hasher {
     /// The digest of nothing so far.
     pub fn new(kind: Kind) -> Hasher
-        ensures { Holds kind result [] }
+        ensures { HoldsMessage kind result [] }
     {
         match kind {
             Kind::Sha1 => Hasher::Sha1(Sha1::new()),
@@ -28,7 +28,7 @@ impl Hasher {
 
     /// Adds bytes at the end of the message.
     pub fn update(&mut self, bytes: &[u8])
-        ensures { (kind : Kind) (message : List ℕ) → Holds kind self.old message → Holds kind self.new (message ++ bytes.now) }
+        ensures { (kind : Kind) (message : List ℕ) → HoldsMessage kind self.old message → HoldsMessage kind self.new (message ++ bytes.now) }
     {
         match self {
             Hasher::Sha1(hasher) => hasher.update(bytes),
@@ -38,7 +38,7 @@ impl Hasher {
 
     /// The id that the message's digest is.
     pub fn finalize(self) -> ObjectId
-        ensures { (kind : Kind) (message : List ℕ) → Holds kind self message → result ≡ id_from kind (digest_of kind message) }
+        ensures { (kind : Kind) (message : List ℕ) → HoldsMessage kind self message → result ≡ id_from kind (digest_of kind message) }
     {
         match self {
             Hasher::Sha1(hasher) => ObjectId::Sha1(hasher.finalize()),

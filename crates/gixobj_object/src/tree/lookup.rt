@@ -4,7 +4,7 @@ ghost use Rattle.std.specs.Option.{option_map};
 ghost use Rattle.std.specs.declared.ops.ControlFlow.TheVariants.{Break};
 ghost use Rattle.bstr.specs.Owned.{bstring_bytes};
 ghost use Rattle.gixobj_object.specs.EntryGiving.{bytes_left};
-ghost use Rattle.gixobj_object.specs.Lookups.{AreNamesOf, HasFirst, HasNone, IsAtPath, IsStep, Name, RefusesPath, RefusesPathText, named_parts, tree_left};
+ghost use Rattle.gixobj_object.specs.Lookups.{AreNamesOf, HasFirstNamed, HasNoEntryNamed, IsAtPath, IsStep, Name, RefusesPath, RefusesPathText, named_parts, tree_left};
 ghost use Rattle.gixobj_object.specs.Stores.{stored};
 ghost use Rattle.gixobj_hash.specs.declared.kind.Kind.TheVariants as object;
 ghost use Rattle.gixobj_tree.specs.TreeViews.{entry_view};
@@ -56,8 +56,8 @@ pub fn next_entry<'a>(
 impl<'a> TreeRefIter<'a> {
     /// The first entry of this name that is left, before any damaged one. It takes no memory.
     fn first_named(self, name: &[u8]) -> Option<EntryRef<'a>>
-        ensures found { IfSome result (λ entry. HasFirst self.entry.hash_kind (bytes_left self.entry) name.now (entry_view entry)) }
-        ensures none { IfNone result (HasNone self.entry.hash_kind (bytes_left self.entry) name.now) }
+        ensures found { IfSome result (λ entry. HasFirstNamed self.entry.hash_kind (bytes_left self.entry) name.now (entry_view entry)) }
+        ensures none { IfNone result (HasNoEntryNamed self.entry.hash_kind (bytes_left self.entry) name.now) }
     {
         for item in self {
             match item {

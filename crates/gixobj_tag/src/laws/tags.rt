@@ -2,15 +2,15 @@
 //! call answers; the others do nothing, and their contract is the law.
 ghost use Rattle.std.specs.Prelude.{◌≡◌, ◌<◌, ◌+◌, ◌++◌, ℕ, IfErr, List, OnOk, length, vec_capacity, vec_len};
 ghost use Rattle.gixobj_fields.specs.Streams.{SinkView, list_view};
-ghost use Rattle.gixobj_fields.specs.Writing.{FailsAsSink, RefusesNothing, SaysWhy};
+ghost use Rattle.gixobj_fields.specs.Writing.{FailsAsSink, RefusesNothing, RefusesWriting};
 ghost use Rattle.gixobj_fields.specs.declared.encode.Error as encode;
 ghost use Rattle.gixobj_hash.specs.declared.hash.kind.Kind.{Kind};
 ghost use Rattle.gixobj_tag.specs.NameRule.{IsTagName};
-ghost use Rattle.gixobj_tag.specs.Rewriting.{AreOwnParts, KeepsBody, RefusesOwnForm};
-ghost use Rattle.gixobj_tag.specs.TagOwned.{IsOwnedForm};
+ghost use Rattle.gixobj_tag.specs.Rewriting.{AreOwnPartsOfTag, KeepsBody, RefusesOwnFormOfTag};
+ghost use Rattle.gixobj_tag.specs.TagOwned.{IsOwnedFormOfTag};
 ghost use Rattle.gixobj_tag.specs.TagText.{IsTagText, TagLines};
-ghost use Rattle.gixobj_tag.specs.TagViews.{owned_lines, tag_lines};
-ghost use Rattle.gixobj_tag.specs.TagWriting.{RefusesLines, RefusesOwned, tag_text};
+ghost use Rattle.gixobj_tag.specs.TagViews.{owned_tag_lines, tag_lines};
+ghost use Rattle.gixobj_tag.specs.TagWriting.{RefusesTagLines, RefusesOwnedTag, tag_text};
 ghost use Rattle.gixobj_tag.specs.declared.tag.Tag.{Tag};
 
 use crate::TagRef;
@@ -27,16 +27,16 @@ pub fn tag_has_one_reading()
 /// a tag nothing is refused but a name that no tag may have.
 pub fn tag_writes_back()
     ensures same_text { (kind : Kind) (text : List ℕ) (tag : TagLines) → IsTagText kind text tag → KeepsBody tag → tag_text tag ≡ text }
-    ensures not_refused { (tag : TagLines) → IsTagName tag.name → RefusesNothing (RefusesLines tag) }
+    ensures not_refused { (tag : TagLines) → IsTagName tag.name → RefusesNothing (RefusesTagLines tag) }
 {}
 
 /// The owned form of a tag has its parts: the id in lower case, the tagger by its parts, its time as it is
 /// written, all else as it is. It is written but for want of room, a name that no tag may have, or a tagger
 /// with a byte that no owned one may have.
 pub fn owned_tags_have_the_parts()
-    ensures parts { (lines : TagLines) (tag : Tag) → IsOwnedForm lines tag → AreOwnParts lines (owned_lines tag) }
-    ensures refusal { (lines : TagLines) (tag : Tag) (before after : SinkView) (error : encode.Error) → IsOwnedForm lines tag →
-        SaysWhy (RefusesOwned tag) before after (tag_text (owned_lines tag)) error → RefusesOwnForm lines before after (tag_text (owned_lines tag)) error }
+    ensures parts { (lines : TagLines) (tag : Tag) → IsOwnedFormOfTag lines tag → AreOwnPartsOfTag lines (owned_tag_lines tag) }
+    ensures refusal { (lines : TagLines) (tag : Tag) (before after : SinkView) (error : encode.Error) → IsOwnedFormOfTag lines tag →
+        RefusesWriting (RefusesOwnedTag tag) before after (tag_text (owned_tag_lines tag)) error → RefusesOwnFormOfTag lines before after (tag_text (owned_tag_lines tag)) error }
 {}
 
 /// A tag is written behind the bytes of a list: where it was read from a text, and is unsigned or has a

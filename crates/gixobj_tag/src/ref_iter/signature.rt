@@ -1,7 +1,7 @@
 //! The signature of a tag, found in its text, and what it signs (gitformat-signature, "Tag signatures").
 ghost use Rattle.std.specs.Prelude.{IfNone, IfSome};
 ghost use Rattle.gixobj_text.specs.Markers.{HasNoMarker};
-ghost use Rattle.gixobj_tag.specs.TagExtracting.{GivesSignature};
+ghost use Rattle.gixobj_tag.specs.TagExtracting.{GivesSignatureOfTag};
 
 use super::TagRefIter;
 use bstr::BStr;
@@ -15,7 +15,7 @@ impl<'a> TagRefIter<'a> {
     ///
     /// It takes no memory.
     pub fn signature(bytes: &'a [u8]) -> Option<(SignatureRef<'a>, SignedData<'a>)>
-        ensures found { IfSome result (GivesSignature bytes.now) }
+        ensures found { IfSome result (GivesSignatureOfTag bytes.now) }
         ensures none { IfNone result (HasNoMarker bytes.now) }
     {
         let (place, format) = find(bytes)?;

@@ -4,7 +4,7 @@ ghost use Rattle.bstr.specs.BStr.{bstr_bytes};
 ghost use Rattle.gixobj_hash.specs.Hash.{IsHexOfAnId};
 ghost use Rattle.gixobj_hash.specs.declared.decode.Error.TheVariants.{Malformed};
 ghost use Rattle.gixobj_tag.specs.LineReading.{HasName, HasNoName, HasNoTagger, HasTagger};
-ghost use Rattle.gixobj_tag.specs.LineViews.{IsParsed, line_if_some};
+ghost use Rattle.gixobj_tag.specs.LineViews.{IsParsedTagger, line_if_some};
 ghost use Rattle.gixobj_tag.specs.TagText.{HasNoBody, IsBody, IsNoTagText, IsParted, IsTagText, are_newlines as are_newlines_of};
 ghost use Rattle.gixobj_tag.specs.TagViews.{tag_lines};
 ghost use Rattle.gixobj_hash.specs.Bytes.{newline};
@@ -84,7 +84,7 @@ pub type TaggerLine<'a> = (BStr<'a>, SignatureRef<'a>);
 #[tactic(auto, using(crate::proofs::Lines::no_tagger_line))]
 pub fn tagger(input: &[u8]) -> Option<(Option<TaggerLine<'_>>, &[u8])>
     ensures found { IfSome result (λ it. HasTagger input.now (line_if_some it.0) it.1.now) }
-    ensures parsed { IfSome result (λ it. IsParsed it.0) }
+    ensures parsed { IfSome result (λ it. IsParsedTagger it.0) }
     ensures none { IfNone result (HasNoTagger input.now) }
 {
     let Some(_) = after_name(input, b"tagger") else {

@@ -2,7 +2,7 @@
 ghost use Rattle.std.specs.Prelude.{◌≡◌, ℕ, List, Option, IfErr, IfOk};
 ghost use Rattle.gixobj_hash.specs.Hash.{IsHexOfAnId};
 ghost use Rattle.gixobj_hash.specs.declared.decode.Error.TheVariants.{Malformed};
-ghost use Rattle.gixobj_tag.specs.TagOwned.{IsBadTagger, IsOwnedForm, IsOwnedTagger, IsTagger};
+ghost use Rattle.gixobj_tag.specs.TagOwned.{IsBadTagger, IsOwnedFormOfTag, IsOwnedTagger, IsTagger};
 ghost use Rattle.gixobj_tag.specs.TagViews.{tag_lines};
 ghost use Rattle.gixobj_hash.specs.Optional.{bytes_if_some};
 
@@ -37,7 +37,7 @@ pub(super) fn copy(
 ) -> Result<Tag, OutOfMemory>
     requires id { IsHexOfAnId (tag_lines tag.now).target }
     requires tagger { IsTagger (tag_lines tag.now).tagger tagger }
-    ensures { IfOk result (IsOwnedForm (tag_lines tag.now)) }
+    ensures { IfOk result (IsOwnedFormOfTag (tag_lines tag.now)) }
 {
     Ok(Tag {
         target: tag.target(),

@@ -5,9 +5,9 @@ ghost use Rattle.gixobj_fields.specs.Writing.{RefusesNothing};
 ghost use Rattle.gixobj_hash.specs.Hash.{IsHexOfAnId};
 ghost use Rattle.gixobj_signature.specs.Signing.{options_view, sign_plan, signer_refusal};
 ghost use Rattle.gixobj_signature.specs.Plans.{Goes};
-ghost use Rattle.gixobj_tag.specs.TagSigning.{GetsSignature, HasNoPayload, IsSigned, IsSignedCopy, RefusesSigning, RefusesSigningCopy, RefusesWriting, signed_as, unsigned};
-ghost use Rattle.gixobj_tag.specs.TagViews.{owned_lines, tag_lines};
-ghost use Rattle.gixobj_tag.specs.TagWriting.{RefusesOwned, tag_text};
+ghost use Rattle.gixobj_tag.specs.TagSigning.{GetsTagSignature, HasNoPayload, IsSignedTag, IsSignedTagCopy, RefusesSigningTag, RefusesSigningTagCopy, RefusesWritingTag, signed_as, unsigned};
+ghost use Rattle.gixobj_tag.specs.TagViews.{owned_tag_lines, tag_lines};
+ghost use Rattle.gixobj_tag.specs.TagWriting.{RefusesOwnedTag, tag_text};
 ghost use Rattle.gixobj_hash.specs.Bytes.{newline};
 
 use super::{Tag, TagRef};
@@ -31,8 +31,8 @@ impl Tag {
         options: Options,
         runner: &mut R,
     ) -> Result<Tag, Error>
-        ensures signed { IfOk result (IsSigned R.runs options self runner.old runner.new) }
-        ensures refusal { IfErr result (RefusesSigning R.runs options self runner.old runner.new) }
+        ensures signed { IfOk result (IsSignedTag R.runs options self runner.old runner.new) }
+        ensures refusal { IfErr result (RefusesSigningTag R.runs options self runner.old runner.new) }
     {
         let unsigned = without_signature(self);
         match payload_of(alloc, &unsigned) {
@@ -55,8 +55,8 @@ impl TagRef<'_> {
         runner: &mut R,
     ) -> Result<Tag, Error>
         requires { IsHexOfAnId (tag_lines self).target }
-        ensures signed { IfOk result (IsSignedCopy R.runs options (tag_lines self.entry) runner.old runner.new) }
-        ensures refusal { IfErr result (RefusesSigningCopy R.runs options (tag_lines self.entry) runner.old runner.new) }
+        ensures signed { IfOk result (IsSignedTagCopy R.runs options (tag_lines self.entry) runner.old runner.new) }
+        ensures refusal { IfErr result (RefusesSigningTagCopy R.runs options (tag_lines self.entry) runner.old runner.new) }
     {
         match self.into_owned(alloc) {
             Ok(tag) => tag.sign(alloc, options, runner),
@@ -76,7 +76,7 @@ fn without_signature(tag: Tag) -> Tag
 
 /// The tag with this signature.
 fn with_signature(tag: Tag, signature: BString) -> Tag
-    ensures { owned_lines result ≡ signed_as (Some (bstring_bytes signature)) (owned_lines tag) }
+    ensures { owned_tag_lines result ≡ signed_as (Some (bstring_bytes signature)) (owned_tag_lines tag) }
 {
     let mut tag = tag;
     tag.signature = Some(signature);
@@ -85,8 +85,8 @@ fn with_signature(tag: Tag, signature: BString) -> Tag
 
 /// What is signed of a tag that has no signature.
 fn payload_of(alloc: Global, tag: &Tag) -> Result<Vec<u8>, Error>
-    ensures text { IfOk result (λ text. text.items ≡ tag_text (owned_lines tag.now) ++ newline ∷ []) }
-    ensures writable { OnOk result (RefusesNothing (RefusesOwned tag.now)) }
+    ensures text { IfOk result (λ text. text.items ≡ tag_text (owned_tag_lines tag.now) ++ newline ∷ []) }
+    ensures writable { OnOk result (RefusesNothing (RefusesOwnedTag tag.now)) }
     ensures refusal { IfErr result (HasNoPayload tag.now) }
 {
     match tag_written(alloc, tag) {
@@ -97,9 +97,9 @@ fn payload_of(alloc: Global, tag: &Tag) -> Result<Vec<u8>, Error>
 
 /// The written bytes of a tag.
 fn tag_written(alloc: Global, tag: &Tag) -> Result<Vec<u8>, encode::Error>
-    ensures text { IfOk result (λ text. text.items ≡ tag_text (owned_lines tag.now)) }
-    ensures writable { OnOk result (RefusesNothing (RefusesOwned tag.now)) }
-    ensures refusal { IfErr result (RefusesWriting tag.now) }
+    ensures text { IfOk result (λ text. text.items ≡ tag_text (owned_tag_lines tag.now)) }
+    ensures writable { OnOk result (RefusesNothing (RefusesOwnedTag tag.now)) }
+    ensures refusal { IfErr result (RefusesWritingTag tag.now) }
 {
     let mut text = Vec::new(alloc);
     tag.write_to_vec(alloc, &mut text)?;
@@ -123,7 +123,7 @@ fn sign_written<R: Runner>(
     options: Options,
     runner: &mut R,
 ) -> Result<Tag, Error>
-    ensures signed { IfOk result (GetsSignature R.runs options payload.now unsigned runner.old runner.new) }
+    ensures signed { IfOk result (GetsTagSignature R.runs options payload.now unsigned runner.old runner.new) }
     ensures refusal { IfErr result (λ error. Goes R.runs (sign_plan (options_view options) payload.now) runner.old (signer_refusal error) runner.new) }
 {
     match sign_payload(alloc, payload, options, runner) {

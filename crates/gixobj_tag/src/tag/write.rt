@@ -4,9 +4,9 @@ ghost use Rattle.std.specs.Option.{SomeIff};
 ghost use Rattle.bstr.specs.BStr.{bstr_bytes};
 ghost use Rattle.gixobj_fields.specs.HeaderText.{field_text};
 ghost use Rattle.gixobj_fields.specs.Streams.{Puts, PutsOrFails};
-ghost use Rattle.gixobj_fields.specs.Writing.{AddsSize, IsSize, RefusesNothing, SaysWhy};
+ghost use Rattle.gixobj_fields.specs.Writing.{AddsSize, IsSize, RefusesNothing, RefusesWriting};
 ghost use Rattle.gixobj_hash.specs.Kind.{kind_word};
-ghost use Rattle.gixobj_tag.specs.NameRule.{IsTagName, RefusesName};
+ghost use Rattle.gixobj_tag.specs.NameRule.{IsTagName, RefusesTagName};
 ghost use Rattle.gixobj_tag.specs.TagWriting.{RefusesNameLine, RefusesParts, body_text, message_text, signature_text};
 ghost use Rattle.gixobj_hash.specs.Optional.{bytes_if_some};
 
@@ -35,13 +35,13 @@ use std::io;
 impl WriteTo for TagRef<'_> {
     ghost use Rattle.gixobj_hash.specs.declared.kind.Kind.TheVariants as kind;
     ghost use Rattle.gixobj_tag.specs.TagViews.{tag_lines};
-    ghost use Rattle.gixobj_tag.specs.TagWriting.{RefusesLines, tag_text};
+    ghost use Rattle.gixobj_tag.specs.TagWriting.{RefusesTagLines, tag_text};
 
     ghost object_kind = { λ _. kind.Tag };
 
     ghost text = { λ tag. tag_text (tag_lines tag) };
 
-    ghost refuses = { λ tag. RefusesLines (tag_lines tag) };
+    ghost refuses = { λ tag. RefusesTagLines (tag_lines tag) };
 
     fn write_into<S: Sink>(&self, _alloc: Global, sink: &mut S) -> Result<(), encode::Error> {
         match put_tag(
@@ -86,7 +86,7 @@ fn put_tag<'a, T: Target, A: Tagger, S: Sink>(
 ) -> Result<(), encode::Error>
     ensures written { OnOk result (Puts (S.view sink.old) (S.view sink.new) (T.target_line target.now ++ field_text (codes "type") (kind_word target_kind) ++ field_text (codes "tag") (bstr_bytes name.entry) ++ A.tagger_line tagger.now ++ body_text (bstr_bytes message.entry) (bytes_if_some signature.entry))) }
     ensures nothing_refused { OnOk result (RefusesNothing (RefusesParts (T.target_line target.now ++ field_text (codes "type") (kind_word target_kind)) (bstr_bytes name.entry) (A.refuses tagger.now))) }
-    ensures refusal { IfErr result (SaysWhy (RefusesParts (T.target_line target.now ++ field_text (codes "type") (kind_word target_kind)) (bstr_bytes name.entry) (A.refuses tagger.now)) (S.view sink.old) (S.view sink.new) (T.target_line target.now ++ field_text (codes "type") (kind_word target_kind) ++ field_text (codes "tag") (bstr_bytes name.entry) ++ A.tagger_line tagger.now ++ body_text (bstr_bytes message.entry) (bytes_if_some signature.entry))) }
+    ensures refusal { IfErr result (RefusesWriting (RefusesParts (T.target_line target.now ++ field_text (codes "type") (kind_word target_kind)) (bstr_bytes name.entry) (A.refuses tagger.now)) (S.view sink.old) (S.view sink.new) (T.target_line target.now ++ field_text (codes "type") (kind_word target_kind) ++ field_text (codes "tag") (bstr_bytes name.entry) ++ A.tagger_line tagger.now ++ body_text (bstr_bytes message.entry) (bytes_if_some signature.entry))) }
     ensures same_loan { S.loan sink.new ≡ S.loan sink.old }
 {
     put_target(target, target_kind, sink)?;
@@ -178,7 +178,7 @@ trait Tagger {
     fn put_tagger<S: Sink>(&self, sink: &mut S) -> Result<(), encode::Error>
         ensures written { OnOk result (Puts (S.view sink.old) (S.view sink.new) (tagger_line self.now)) }
         ensures nothing_refused { OnOk result (RefusesNothing (refuses self.now)) }
-        ensures refusal { IfErr result (SaysWhy (refuses self.now) (S.view sink.old) (S.view sink.new) (tagger_line self.now)) }
+        ensures refusal { IfErr result (RefusesWriting (refuses self.now) (S.view sink.old) (S.view sink.new) (tagger_line self.now)) }
         ensures same_loan { S.loan sink.new ≡ S.loan sink.old };
 
     /// The size with that of its line, or none past 64 bits.
@@ -252,7 +252,7 @@ fn put_target<T: Target, S: Sink>(target: &T, kind: Kind, sink: &mut S) -> io::R
 fn put_name<S: Sink>(name: BStr<'_>, sink: &mut S) -> Result<(), encode::Error>
     ensures written { OnOk result (Puts (S.view sink.old) (S.view sink.new) (field_text (codes "tag") (bstr_bytes name.entry))) }
     ensures valid { OnOk result (IsTagName (bstr_bytes name.entry)) }
-    ensures refusal { IfErr result (SaysWhy (RefusesNameLine (bstr_bytes name.entry)) (S.view sink.old) (S.view sink.new) (field_text (codes "tag") (bstr_bytes name.entry))) }
+    ensures refusal { IfErr result (RefusesWriting (RefusesNameLine (bstr_bytes name.entry)) (S.view sink.old) (S.view sink.new) (field_text (codes "tag") (bstr_bytes name.entry))) }
     ensures same_loan { S.loan sink.new ≡ S.loan sink.old }
 {
     let name = validated_name(name)?;

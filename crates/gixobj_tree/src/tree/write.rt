@@ -7,7 +7,7 @@ ghost use Rattle.gixobj_tree.specs.Entries.{entry_of};
 ghost use Rattle.gixobj_tree.specs.Mode.{mode_bits};
 ghost use Rattle.gixobj_tree.specs.TreeText.{RefusesEntry, entry_text};
 ghost use Rattle.gixobj_fields.specs.Streams.{Puts};
-ghost use Rattle.gixobj_fields.specs.Writing.{AddsSize, SaysWhy};
+ghost use Rattle.gixobj_fields.specs.Writing.{AddsSize, RefusesWriting};
 
 use super::{Entry, EntryMode, Tree};
 use bstr::BString;
@@ -56,7 +56,7 @@ impl WriteTo for Tree {
 fn put_owned<S: Sink>(alloc: Global, entry: &Entry, sink: &mut S) -> Result<(), Error>
     ensures written { OnOk result (Puts (S.view sink.old) (S.view sink.new) (entry_text entry.now)) }
     ensures free { OnOk result (IsFree 0 entry.now.name) }
-    ensures refusal { IfErr result (SaysWhy (RefusesEntry entry.now) (S.view sink.old) (S.view sink.new) (entry_text entry.now)) }
+    ensures refusal { IfErr result (RefusesWriting (RefusesEntry entry.now) (S.view sink.old) (S.view sink.new) (entry_text entry.now)) }
     ensures same_loan { S.loan sink.new ≡ S.loan sink.old }
 {
     let name = entry.filename.as_bytes();
@@ -77,7 +77,7 @@ pub fn put_entry<S: Sink>(
 ) -> Result<(), Error>
     ensures written { OnOk result (Puts (S.view sink.old) (S.view sink.new) (entry_text (entry_of (mode_bits mode) name.now (borrowed_id id.entry)))) }
     ensures free { OnOk result (IsFree 0 name.now) }
-    ensures refusal { IfErr result (SaysWhy (RefusesEntry (entry_of (mode_bits mode) name.now (borrowed_id id.entry))) (S.view sink.old) (S.view sink.new) (entry_text (entry_of (mode_bits mode) name.now (borrowed_id id.entry)))) }
+    ensures refusal { IfErr result (RefusesWriting (RefusesEntry (entry_of (mode_bits mode) name.now (borrowed_id id.entry))) (S.view sink.old) (S.view sink.new) (entry_text (entry_of (mode_bits mode) name.now (borrowed_id id.entry)))) }
     ensures same_loan { S.loan sink.new ≡ S.loan sink.old }
 {
     let mut backing = [0; 6];

@@ -3,18 +3,18 @@ use Rattle.gixobj_base.specs.hash.hash.object_id.ObjectId.{ObjectId}
 use Rattle.gixobj_codec.specs.CommitViews.{commit_lines}
 use Rattle.gixobj_codec.specs.ParentsLeft.{parents_left}
 use Rattle.gixobj_callers.proofs.Commits.{first_spelled, none_spelled}
-use Rattle.gixobj_callers.specs.Ancestors.{NamesCommit}
+use Rattle.gixobj_callers.specs.Ancestors.{NamesCommitText}
 use Rattle.gixobj_callers.proofs.history.first_parent.Goals as goal
 
 pub returns-in-Some-clause-found : goal.returns-in-Some-clause-found
 returns-in-Some-clause-found g c =
     let commit = commit_lines c.in_ok-commit.commit in
-    let is : NamesCommit (g.S.Store.objects c.args.store.now) c.args.id commit = subst (λ (it : ObjectId). NamesCommit (g.S.Store.objects c.args.store.now) it commit) c.as_oid.ensures c.in_ok-commit.ensures.found in
+    let is : NamesCommitText (g.S.Store.objects c.args.store.now) c.args.id commit = subst (λ (it : ObjectId). NamesCommitText (g.S.Store.objects c.args.store.now) it commit) c.as_oid.ensures c.in_ok-commit.ensures.found in
     let first = first_spelled commit.parents (parents_left c.parents.result) c.in-Some.parent (parents_left c.next.new.self) c.parents.ensures c.in-Some.ensures.steps in
     (commit, is, first)
 
 pub returns-clause-refusal : goal.returns-clause-refusal
 returns-clause-refusal g c =
     let commit = commit_lines c.in_ok-commit.commit in
-    let is : NamesCommit (g.S.Store.objects c.args.store.now) c.args.id commit = subst (λ (it : ObjectId). NamesCommit (g.S.Store.objects c.args.store.now) it commit) c.as_oid.ensures c.in_ok-commit.ensures.found in
+    let is : NamesCommitText (g.S.Store.objects c.args.store.now) c.args.id commit = subst (λ (it : ObjectId). NamesCommitText (g.S.Store.objects c.args.store.now) it commit) c.as_oid.ensures c.in_ok-commit.ensures.found in
     (refl, (commit, is, none_spelled commit.parents (parents_left c.parents.result) c.parents.ensures c.in-None.ensures.steps.0))

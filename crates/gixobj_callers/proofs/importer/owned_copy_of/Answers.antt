@@ -1,7 +1,7 @@
 use Rattle.std.proofs.Common.{ℕ, List, ◌++◌, ap, subst, ◌∙◌}
 use Rattle.gixobj_base.specs.Streams.{list_view}
 use Rattle.gixobj_codec.specs.Commit.{CommitLines}
-use Rattle.gixobj_codec.specs.CommitViews.{commit_lines, owned_lines}
+use Rattle.gixobj_codec.specs.CommitViews.{commit_lines, owned_commit_lines}
 use Rattle.gixobj_codec.specs.CommitWriting.{commit_text}
 use Rattle.gixobj_callers.specs.Copies.{FailsForPart}
 use Rattle.gixobj_callers.specs.declared.store.CopyError.TheVariants.{Write}
@@ -13,7 +13,7 @@ returns-in-Err-clause-refusal c = λ commit is. unread_part c.args.kind c.args.t
 
 pub returns-in-Ok-write_to_vec-clause-parts : goal.returns-in-Ok-write_to_vec-clause-parts
 returns-in-Ok-write_to_vec-clause-parts c =
-    let own = owned_lines c.in-Ok-into_owned.owned in (
+    let own = owned_commit_lines c.in-Ok-into_owned.owned in (
       commit_lines c.in-Ok.commit,
       own,
       c.in-Ok.ensures.found,
@@ -29,4 +29,4 @@ returns-clause-refusal c = λ commit is.
     let after = list_view c.write_to_vec.new.out in
     let same = c.commit_has_one_reading.ensures c.args.kind c.args.text.now lines commit c.in-Ok.ensures.found is in
     let refused = c.owned_forms_have_the_parts.ensures.refusal c.args.kind c.args.text.now lines own before after c.in-Err-write_to_vec.error c.in-Ok.ensures.found c.in-Ok-into_owned.ensures.owned c.in-Err-write_to_vec.ensures.refusal in
-    subst (λ (it : CommitLines). FailsForPart it (Write c.in-Err-write_to_vec.error)) same (part_refused lines before after (commit_text (owned_lines own)) c.in-Err-write_to_vec.error refused)
+    subst (λ (it : CommitLines). FailsForPart it (Write c.in-Err-write_to_vec.error)) same (part_refused lines before after (commit_text (owned_commit_lines own)) c.in-Err-write_to_vec.error refused)

@@ -1,8 +1,8 @@
 use Rattle.std.proofs.Common.{List}
 use Rattle.gixobj_base.specs.Entries.{EntryView}
 use Rattle.gixobj_callers.proofs.planner.is_tree.Given as goal
-use Rattle.gixobj_codec.specs.EntryGiving.{HasPassed}
+use Rattle.gixobj_codec.specs.EntryGiving.{HasPassedEntries}
 
 -- the reader has gone past entries of the text
 abbrev pub invariant-loop-item : goal.invariant-loop-item
-invariant-loop-item l = (entries : List EntryView) × HasPassed l.fn.kind l.fn.text entries l.item-iterator
+invariant-loop-item l = (entries : List EntryView) × HasPassedEntries l.fn.kind l.fn.text entries l.item-iterator

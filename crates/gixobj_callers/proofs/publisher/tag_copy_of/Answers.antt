@@ -3,7 +3,7 @@ use Rattle.gixobj_base.specs.Streams.{list_view}
 use Rattle.gixobj_base.specs.Writing.{RefusesNothing}
 use Rattle.gixobj_codec.specs.TagText.{TagLines}
 use Rattle.gixobj_codec.specs.TagViews.{tag_lines}
-use Rattle.gixobj_codec.specs.TagWriting.{RefusesLines, tag_text}
+use Rattle.gixobj_codec.specs.TagWriting.{RefusesTagLines, tag_text}
 use Rattle.gixobj_callers.proofs.Refusals.{unwritten}
 use Rattle.gixobj_callers.proofs.publisher.tag_copy_of.Goals as goal
 
@@ -20,6 +20,6 @@ returns-in-Ok-write_to_vec-clause-same c = λ tag is keeps.
 pub returns-in-Err-write_to_vec-clause-room : goal.returns-in-Err-write_to_vec-clause-room
 returns-in-Err-write_to_vec-clause-room c = λ tag is valid.
     let same = c.tag_has_one_reading.ensures c.args.kind c.args.text.now tag (tag_lines c.in-Ok.tag) is c.in-Ok.ensures.found in
-    let nothing = subst (λ (it : TagLines). RefusesNothing (RefusesLines it)) same (c.tag_writes_back.ensures.not_refused tag valid) in
+    let nothing = subst (λ (it : TagLines). RefusesNothing (RefusesTagLines it)) same (c.tag_writes_back.ensures.not_refused tag valid) in
     let fails = c.writers_fail_as_their_sinks.ensures (list_view c.new-copy.result) (list_view c.write_to_vec.new.out) c.in-Err-write_to_vec.error nothing c.in-Err-write_to_vec.ensures.refusal in
     unwritten (list_view c.new-copy.result) (list_view c.write_to_vec.new.out) (tag_text (tag_lines c.in-Ok.tag)) c.in-Err-write_to_vec.error fails

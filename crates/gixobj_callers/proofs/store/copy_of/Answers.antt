@@ -3,7 +3,7 @@ use Rattle.gixobj_base.specs.Streams.{list_view}
 use Rattle.gixobj_base.specs.Writing.{RefusesNothing}
 use Rattle.gixobj_codec.specs.Commit.{CommitLines}
 use Rattle.gixobj_codec.specs.CommitViews.{commit_lines}
-use Rattle.gixobj_codec.specs.CommitWriting.{RefusesLines, commit_text, in_lower_case}
+use Rattle.gixobj_codec.specs.CommitWriting.{RefusesCommitLines, commit_text, in_lower_case}
 use Rattle.gixobj_callers.proofs.Refusals.{unread, unwritten}
 use Rattle.gixobj_callers.proofs.store.copy_of.Goals as goal
 
@@ -20,6 +20,6 @@ returns-in-Ok-write_to_vec-clause-same c = λ commit is tree parents.
 pub returns-clause-room : goal.returns-clause-room
 returns-clause-room c = λ commit is some.
     let same = c.commit_has_one_reading.ensures c.args.kind c.args.text.now commit (commit_lines c.in-Ok.commit) is c.in-Ok.ensures.found in
-    let nothing = subst (λ (it : CommitLines). RefusesNothing (RefusesLines (in_lower_case it))) same (c.commit_writes_back.ensures.not_refused c.args.kind c.args.text.now commit is some) in
+    let nothing = subst (λ (it : CommitLines). RefusesNothing (RefusesCommitLines (in_lower_case it))) same (c.commit_writes_back.ensures.not_refused c.args.kind c.args.text.now commit is some) in
     let fails = c.writers_fail_as_their_sinks.ensures (list_view c.new-copy.result) (list_view c.write_to_vec.new.out) c.in-Err-write_to_vec.error nothing c.in-Err-write_to_vec.ensures.refusal in
     unwritten (list_view c.new-copy.result) (list_view c.write_to_vec.new.out) (commit_text (in_lower_case (commit_lines c.in-Ok.commit))) c.in-Err-write_to_vec.error fails

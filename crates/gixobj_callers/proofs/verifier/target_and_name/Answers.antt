@@ -1,7 +1,7 @@
 use Rattle.std.proofs.Common.{subst, sym}
 use Rattle.gixobj_base.specs.Hash.{Spells}
 use Rattle.gixobj_callers.proofs.Told.{no_id, same_id, same_name, starts}
-use Rattle.gixobj_codec.specs.TagTokens.{token_view}
+use Rattle.gixobj_codec.specs.TagTokens.{tag_token_view}
 use Rattle.gixobj_callers.proofs.verifier.target_and_name.Goals as goal
 
 pub returns-in_err-first-clause-none : goal.returns-in_err-first-clause-none
@@ -13,7 +13,7 @@ pub returns-in_err-target-clause-none : goal.returns-in_err-target-clause-none
 returns-in_err-target-clause-none c = rw c.from_residual-in_err-target.ensures (λ tag is.
     let start = starts c.tag_readers_read_one_language.ensures.told c.args.kind c.args.text.now tag c.from_bytes-reader.result is c.from_bytes-reader.ensures in
     let first = c.in_ok-first.ensures.found _ _ start.to_tell in
-    no_id (token_view c.in_ok-first.first) start.id first.0 c.in_err-target.ensures)
+    no_id (tag_token_view c.in_ok-first.first) start.id first.0 c.in_err-target.ensures)
 
 pub returns-in_err-_kind-clause-none : goal.returns-in_err-_kind-clause-none
 returns-in_err-_kind-clause-none c = rw c.from_residual-in_err-_kind.ensures (λ tag is.
@@ -42,5 +42,5 @@ returns-clause-found c = λ tag is.
     let first = c.in_ok-first.ensures.found _ _ start.to_tell in
     let second = c.in_ok-_kind.ensures.found _ _ first.1 in
     let third = c.in_ok-third.ensures.found _ _ second.1 in
-    let same = same_id (token_view c.in_ok-first.first) c.in_ok-target.target start.id first.0 c.in_ok-target.ensures in
-    (subst (Spells tag.target) (sym same) start.spelled, same_name (token_view c.in_ok-third.third) _ tag.name c.in_ok-name.ensures.found third.0)
+    let same = same_id (tag_token_view c.in_ok-first.first) c.in_ok-target.target start.id first.0 c.in_ok-target.ensures in
+    (subst (Spells tag.target) (sym same) start.spelled, same_name (tag_token_view c.in_ok-third.third) _ tag.name c.in_ok-name.ensures.found third.0)

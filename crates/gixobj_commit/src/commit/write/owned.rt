@@ -17,14 +17,14 @@ use std::alloc::Global;
 /// refused as `EmptyValue`, and one with a newline as `NewlineInHeaderValue`, before any byte of its line.
 impl WriteTo for Commit {
     ghost use Rattle.gixobj_hash.specs.declared.kind.Kind.TheVariants as kind;
-    ghost use Rattle.gixobj_commit.specs.CommitViews.{owned_lines};
-    ghost use Rattle.gixobj_commit.specs.CommitWriting.{RefusesOwned, commit_text};
+    ghost use Rattle.gixobj_commit.specs.CommitViews.{owned_commit_lines};
+    ghost use Rattle.gixobj_commit.specs.CommitWriting.{RefusesOwnedCommit, commit_text};
 
     ghost object_kind = { λ _. kind.Commit };
 
-    ghost text = { λ commit. commit_text (owned_lines commit) };
+    ghost text = { λ commit. commit_text (owned_commit_lines commit) };
 
-    ghost refuses = { RefusesOwned };
+    ghost refuses = { RefusesOwnedCommit };
 
     fn write_into<S: Sink>(&self, alloc: Global, sink: &mut S) -> Result<(), Error> {
         let (parents, encoding) = (self.parents.as_slice(), borrowed(&self.encoding));

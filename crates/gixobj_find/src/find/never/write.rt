@@ -4,7 +4,7 @@ ghost use Rattle.gixobj_fields.specs.StreamHash.{ReadsObject, SkipsExactly};
 ghost use Rattle.gixobj_hash.specs.Hash.{id_of};
 ghost use Rattle.gixobj_hash.specs.declared.hash.kind.Kind.TheVariants.{Sha1};
 ghost use Rattle.gixobj_find.specs.Nothing.{AnswersId, AnswersKnownId, RefusesRead};
-ghost use Rattle.gixobj_find.specs.Writers.{CannotEncode, IsWritten};
+ghost use Rattle.gixobj_find.specs.Writers.{CannotEncode, IsWrittenObject};
 
 use super::Never;
 use crate::traits::Write;
@@ -25,7 +25,7 @@ impl Write for Never {
     /// `Encode` where the object can't be written, and nothing else.
     fn write<T: WriteTo>(&self, alloc: Global, object: &T) -> Result<ObjectId, Error>
         requires { T.can_write object.now }
-        ensures written { IsWritten AnswersId (T.object_kind object.now) (T.refuses object.now) (T.text object.now) result }
+        ensures written { IsWrittenObject AnswersId (T.object_kind object.now) (T.refuses object.now) (T.text object.now) result }
         ensures id { IfOk result (λ id. id ≡ id_of Sha1 (T.object_kind object.now) (T.text object.now)) }
         ensures refusal { IfErr result (λ _. CannotEncode (T.refuses object.now) (T.text object.now) result) }
     {

@@ -1,7 +1,7 @@
 //! Objects of any kind, read by their kind, or as loose objects (gitformat-loose, "Loose object format").
 ghost use Rattle.std.specs.Prelude.{◌≡◌, ◌≤◌, IfErr, IfOk, length, take};
 ghost use Rattle.gixobj_object.specs.BorrowedObjects.{HasObjectIds, IsReadyToWrite};
-ghost use Rattle.gixobj_object.specs.LooseObjects.{IsLooseObject, RefusesLooseObject, RefusesSize};
+ghost use Rattle.gixobj_object.specs.LooseObjects.{IsLooseObject, RefusesLooseObject, RefusesContentSize};
 ghost use Rattle.gixobj_object.specs.ObjectReading.{IsObjectText, RefusesObjectText};
 
 use super::ObjectRef;
@@ -99,7 +99,7 @@ impl<'a> ObjectRef<'a> {
 /// the size passes every address.
 fn content_of(behind: &[u8], size: u64) -> Result<&[u8], LooseDecodeError>
     ensures found { IfOk result (λ content. (size ≤ length behind.now) × (content.now ≡ take size behind.now)) }
-    ensures refusal { IfErr result (RefusesSize behind.now size) }
+    ensures refusal { IfErr result (RefusesContentSize behind.now size) }
 {
     let Ok(len) = usize::try_from(size) else {
         return Err(LooseDecodeError::OutOfMemory { size });

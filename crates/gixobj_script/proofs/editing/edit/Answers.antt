@@ -3,13 +3,13 @@ use Rattle.gixobj_files.specs.State.{root_alone}
 use Rattle.gixobj_find.specs.Memory.{memory_objects}
 use Rattle.gixobj_tree.specs.Entries.{EntryView}
 use Rattle.gixobj_script.specs.Digests.{IsAnsweredDigest}
-use Rattle.gixobj_script.specs.Edits.{IsNew}
+use Rattle.gixobj_script.specs.Edits.{IsNewEditor}
 use Rattle.gixobj_script.proofs.Told.{is_edit}
 use Rattle.gixobj_script.proofs.editing.edit.Goals as goal
 
 pub returns-clause-told : goal.returns-clause-told
 returns-clause-told c =
-    let begun : IsNew c.args.hash c.new-editor.result = record {
+    let begun : IsNewEditor c.args.hash c.new-editor.result = record {
       root = c.new-editor.ensures.dirs ∙ ap root_alone c.empty.ensures;
       bases = c.new-editor.ensures.bases;
       nothing = ap memory_objects c.new-editor.ensures.store ∙ c.new.ensures;

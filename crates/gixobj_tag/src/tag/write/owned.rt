@@ -15,14 +15,14 @@ use std::alloc::Global;
 /// `IllegalActor` behind `tagger` and a space. It takes no memory.
 impl WriteTo for Tag {
     ghost use Rattle.gixobj_hash.specs.declared.kind.Kind.TheVariants as kind;
-    ghost use Rattle.gixobj_tag.specs.TagViews.{owned_lines};
-    ghost use Rattle.gixobj_tag.specs.TagWriting.{RefusesOwned, tag_text};
+    ghost use Rattle.gixobj_tag.specs.TagViews.{owned_tag_lines};
+    ghost use Rattle.gixobj_tag.specs.TagWriting.{RefusesOwnedTag, tag_text};
 
     ghost object_kind = { λ _. kind.Tag };
 
-    ghost text = { λ tag. tag_text (owned_lines tag) };
+    ghost text = { λ tag. tag_text (owned_tag_lines tag) };
 
-    ghost refuses = { RefusesOwned };
+    ghost refuses = { RefusesOwnedTag };
 
     fn write_into<S: Sink>(&self, _alloc: Global, sink: &mut S) -> Result<(), encode::Error> {
         put_tag(

@@ -1,7 +1,7 @@
 //! Borrowed trees, written (gitdatamodel, "trees").
 ghost use Rattle.std.specs.Prelude.{◌≡◌, IfErr, OnOk};
 ghost use Rattle.gixobj_fields.specs.Streams.{Puts};
-ghost use Rattle.gixobj_fields.specs.Writing.{AddsSize, SaysWhy};
+ghost use Rattle.gixobj_fields.specs.Writing.{AddsSize, RefusesWriting};
 ghost use Rattle.gixobj_hash.specs.Texts.{IsFree};
 ghost use Rattle.gixobj_tree.specs.TreeText.{RefusesEntry, entry_text};
 ghost use Rattle.gixobj_tree.specs.TreeViews.{entry_view, tree_entries};
@@ -51,7 +51,7 @@ impl WriteTo for TreeRef<'_> {
 fn put_borrowed<S: Sink>(alloc: Global, entry: &EntryRef<'_>, sink: &mut S) -> Result<(), Error>
     ensures written { OnOk result (Puts (S.view sink.old) (S.view sink.new) (entry_text (entry_view entry.now))) }
     ensures free { OnOk result (IsFree 0 (entry_view entry.now).name) }
-    ensures refusal { IfErr result (SaysWhy (RefusesEntry (entry_view entry.now)) (S.view sink.old) (S.view sink.new) (entry_text (entry_view entry.now))) }
+    ensures refusal { IfErr result (RefusesWriting (RefusesEntry (entry_view entry.now)) (S.view sink.old) (S.view sink.new) (entry_text (entry_view entry.now))) }
     ensures same_loan { S.loan sink.new ≡ S.loan sink.old }
 {
     let name = entry.filename.as_bytes();

@@ -6,7 +6,7 @@ use Rattle.gixobj_hash.specs.declared.hash.object_id.ObjectId.{ObjectId}
 use Rattle.gixobj_files.specs.Edits.{Finds, Opens, arrived, counted}
 use Rattle.gixobj_files.specs.Halting.{Halts}
 use Rattle.gixobj_files.specs.Opening.{IsOpened}
-use Rattle.gixobj_files.specs.Tables.{IsEmptyId}
+use Rattle.gixobj_files.specs.Tables.{IsUnaskedId}
 use Rattle.gixobj_directories.specs.Calls.{names_of}
 use Rattle.gixobj_directories.specs.Nested.{Opened, bases_of, dirs_of, opened, parts, with_part}
 use Rattle.gixobj_directories.specs.Openings.{EndsBefore, RefusesDirectory}
@@ -86,7 +86,7 @@ returns-in_err-tree-clause-halted g t c = err_weaker c.from_residual-in_err-tree
       subst (λ (id : ObjectId). Halts Ends trees (names_of c.args.path.now) (dirs_of c.args.self.now) (dirs_of (opened c.self.inside.tree c.self.inside.base (parts c.room_for.new.children.items))) (id ∷ []) (Some id)) there.4
           (halted_here Ends trees (names_of c.args.path.now) name (names_of c.in-Some.rest.now) c.self.inside.tree c.args.self.now cs c.room_for.new.children.items (ap names_of c.in-Some.ensures.cases.0) c.self.view_is c.room_for.ensures.items (there.0.id ∷ []) (Some there.0.id)
           (none_found Ends trees name (names_of c.in-Some.rest.now) c.self.inside.tree cs c.self.invariant (not_found name cs c.deref.result.now c.deref.ensures.value (c.in_default-child_at.ensures {u = tt})) there.0 there.1 there.2 there.3
-          (subst (λ (id : ObjectId). IsEmptyId id → ⊥) (sym there.4) asked.0))),
+          (subst (λ (id : ObjectId). IsUnaskedId id → ⊥) (sym there.4) asked.0))),
       asked.1,
       subst (RefusesDirectory (g.S.Store.objects c.args.store.now) (g.S.Store.may_fail c.args.store.now) c.in-Some-next_id.id) (sym is) (c.in_err-tree.ensures {u = tt}).refusal,
     ))

@@ -2,7 +2,7 @@ use Rattle.std.proofs.Common.{◌++◌, ◌∙◌, List, ℕ, ap}
 use Rattle.gixobj_fields.proofs.Refusals.{fails_as_sink}
 use Rattle.gixobj_tag.proofs.WrittenBack.{tag_not_refused, tag_writes_back}
 use Rattle.gixobj_tag.specs.TagViews.{tag_lines}
-use Rattle.gixobj_tag.specs.TagWriting.{RefusesLines, tag_text}
+use Rattle.gixobj_tag.specs.TagWriting.{RefusesTagLines, tag_text}
 use Rattle.gixobj_tag.proofs.laws.tags.tag_reads_and_writes.Goals as goal
 
 pub returns-in-Ok-clause-same_text : goal.returns-in-Ok-clause-same_text
@@ -10,4 +10,4 @@ returns-in-Ok-clause-same_text c = λ kind text is keeps. c.in-Ok.ensures.writte
 
 pub returns-in-Err-clause-refusal : goal.returns-in-Err-clause-refusal
 returns-in-Err-clause-refusal c = λ valid.
-    fails_as_sink (RefusesLines (tag_lines c.args.tag.now)) _ _ (tag_text (tag_lines c.args.tag.now)) c.in-Err.error (tag_not_refused (tag_lines c.args.tag.now) valid) c.in-Err.ensures.refusal
+    fails_as_sink (RefusesTagLines (tag_lines c.args.tag.now)) _ _ (tag_text (tag_lines c.args.tag.now)) c.in-Err.error (tag_not_refused (tag_lines c.args.tag.now) valid) c.in-Err.ensures.refusal

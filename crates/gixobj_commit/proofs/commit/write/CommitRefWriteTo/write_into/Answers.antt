@@ -9,7 +9,7 @@ use Rattle.gixobj_commit.proofs.CommitWrites.{borrowed_as_put, borrowed_refused,
 use Rattle.gixobj_fields.proofs.Steps.{all_put, first_front, fourth_front, second_front, third_front, three_put}
 use Rattle.gixobj_commit.specs.CommitViews.{commit_lines}
 use Rattle.gixobj_hash.specs.Optional.{bytes_if_some}
-use Rattle.gixobj_commit.specs.CommitWriting.{RefusesLines, in_lower_case, RefusesEncodingLine}
+use Rattle.gixobj_commit.specs.CommitWriting.{RefusesCommitLines, in_lower_case, RefusesEncodingLine}
 use Rattle.gixobj_commit.proofs.commit.write.CommitRefWriteTo.write_into.Goals as goal
 
 pub put_hex_ids-requires : goal.put_hex_ids-requires
@@ -44,7 +44,7 @@ returns-in_err-put_rest-clause-refusal g c =
     let whole = borrowed_as_put c.args.self.now (spelled_id (bstr_bytes c.args.self.now.tree)) c.as_slice-parents.result.now c.as_bytes-author.result.now c.as_bytes-committer.result.now c.as_slice-headers.result.now c.as_bytes-message.result.now
     (spelled (bstr_bytes c.args.self.now.tree) c.requires.tree) c.as_slice-parents.ensures c.as_bytes-author.ensures c.as_bytes-committer.ensures c.as_slice-headers.ensures.value c.as_bytes-message.ensures in
     let from = err_from_is_err_and c.from_residual-in_err-put_rest.result c.from_residual-in_err-put_rest.ensures.1 in
-    rw (from.1, from.2) (says_why_behind (RefusesEncodingLine (bytes_if_some c.args.self.now.encoding)) (RefusesLines (in_lower_case (commit_lines c.args.self.now))) (g.S.Sink.view c.args.sink.now) (g.S.Sink.view c.trusted_header_field-2.new.sink) (g.S.Sink.view c.put_rest.new.sink) _ _ _
+    rw (from.1, from.2) (says_why_behind (RefusesEncodingLine (bytes_if_some c.args.self.now.encoding)) (RefusesCommitLines (in_lower_case (commit_lines c.args.self.now))) (g.S.Sink.view c.args.sink.now) (g.S.Sink.view c.trusted_header_field-2.new.sink) (g.S.Sink.view c.put_rest.new.sink) _ _ _
     (three_put _ _ _ _ _ _ _ c.in_ok-put_hex_ids.ensures.put c.in_ok-trusted_header_field.ensures.put c.in_ok-trusted_header_field-2.ensures.put)
     (λ value parts. borrowed_refused c.args.self.now (spelled_id (bstr_bytes c.args.self.now.tree)) c.as_slice-parents.result.now c.as_bytes-author.result.now c.as_bytes-committer.result.now value parts (spelled (bstr_bytes c.args.self.now.tree) c.requires.tree) c.as_slice-parents.ensures c.as_bytes-author.ensures c.as_bytes-committer.ensures)
     (fourth_front _ _ _ _ _ _ _ _ _ _ whole c.in_ok-put_hex_ids.ensures.put c.in_ok-trusted_header_field.ensures.put c.in_ok-trusted_header_field-2.ensures.put)
