@@ -29,7 +29,7 @@ use Rattle.gixobj_callers.specs.declared.planner.RootError.TheVariants as root
 pub record IsRoot (objects : Objects) (id : ObjectId) (entries : List EntryView) : Type 0 where
   pub well_formed : IsWellFormed entries
   pub empty : IsEmptyId Tree id → entries ≡ []
-  pub stored : (IsEmptyId Tree id → ⊥) → NamesTree objects id entries
+  pub stored : (¬ IsEmptyId Tree id) → NamesTree objects id entries
 
 -- the id names a tree that has entries
 abbrev pub NamesFilled : Objects → ObjectId → Type 0
@@ -43,7 +43,7 @@ RefusesStored objects may_fail id root.OutOfMemory = NamesFilled objects id
 
 -- why there is no root; there always is one for the empty tree's id
 abbrev pub RefusesRoot : Objects → (ObjectId → Bool) → ObjectId → RootError → Type 0
-RefusesRoot objects may_fail id error = (IsEmptyId Tree id → ⊥) × RefusesStored objects may_fail id error
+RefusesRoot objects may_fail id error = (¬ IsEmptyId Tree id) × RefusesStored objects may_fail id error
 
 -- a new editor of this root
 abbrev pub started : {S : Type 0} → S → hash.Kind → List EntryView → State S

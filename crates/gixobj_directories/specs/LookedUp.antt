@@ -13,7 +13,7 @@ use Rattle.gixobj_directories.specs.Openings.{NamesTree}
 -- the entry is a directory's: a tree's, by an id that names a well-formed one, and is neither null nor the empty tree's
 pub record IsDirectoryIn (objects : Objects) (e : EntryView) : Type 0 where
   pub tree : is_tree_mode e.mode ≡ true
-  pub sought : IsUnaskedId e.id → ⊥
+  pub sought : ¬ IsUnaskedId e.id
   pub entries : List EntryView
   pub named : NamesTree objects e.id entries
 

@@ -32,7 +32,7 @@ AreTreesOf objects trees = (id : ObjectId) (entries : List EntryView) → (trees
 
 -- the id names a tree that isn't well-formed
 abbrev pub NamesMalformed : Objects → ObjectId → Type 0
-NamesMalformed objects id = (entries : List EntryView) × NamesSuch objects id Tree (λ hash text. IsTreeText hash text entries) × (IsWellFormed entries → ⊥)
+NamesMalformed objects id = (entries : List EntryView) × NamesSuch objects id Tree (λ hash text. IsTreeText hash text entries) × (¬ IsWellFormed entries)
 
 -- a refused lookup, where want of memory stands apart
 abbrev pub refusal_of : found.Error → Error

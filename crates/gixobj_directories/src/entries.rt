@@ -41,7 +41,7 @@ pub fn put(entries: &mut Vec<Entry>, entry: Entry)
 fn place_among_others(entries: &mut Vec<Entry>, entry: &Entry, place: usize) -> usize
     requires well_formed { IsWellFormed entries.old.items }
     requires name { IsFree slash entry.now.name }
-    requires none { HasKey entries.old.items (entry_key entry.now) → ⊥ }
+    requires none { ¬ HasKey entries.old.items (entry_key entry.now) }
     requires place { place ≡ prefix_len (λ e. comes_before e entry.now) entries.old.items }
     ensures items { entries.new.items ≡ without entry.now.name entries.old.items }
     ensures place { result ≡ prefix_len (λ e. comes_before e entry.now) entries.new.items }
@@ -63,7 +63,7 @@ fn place_among_others(entries: &mut Vec<Entry>, entry: &Entry, place: usize) -> 
 fn place_of_other(entries: &[Entry], entry: &Entry, place: usize) -> Option<usize>
     requires well_formed { IsWellFormed entries.now }
     requires name { IsFree slash entry.now.name }
-    requires none { HasKey entries.now (entry_key entry.now) → ⊥ }
+    requires none { ¬ HasKey entries.now (entry_key entry.now) }
     requires place { place ≡ prefix_len (λ e. comes_before e entry.now) entries.now }
     ensures { result ≡ position (λ e. same_name e.name entry.now.name) entries.now }
 {

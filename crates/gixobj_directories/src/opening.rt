@@ -108,7 +108,7 @@ fn is_unasked(id: ObjectId) -> bool
 /// The id of the directory of a name, where there is one and an opening goes into it.
 fn next_id(tree: &Tree, name: &BString, unasked: Unasked) -> Option<ObjectId>
     requires { IsWellFormed tree.now }
-    ensures some { IfSome result (λ id. (e : EntryView) × IsEntryOf (bstring_bytes name.now) (Some tree.now) e × (is_tree_mode e.mode ≡ true) × (EndsBefore unasked e → ⊥) × (e.id ≡ id)) }
+    ensures some { IfSome result (λ id. (e : EntryView) × IsEntryOf (bstring_bytes name.now) (Some tree.now) e × (is_tree_mode e.mode ≡ true) × (¬ EndsBefore unasked e) × (e.id ≡ id)) }
     ensures none { IfNone result ((e : EntryView) → Has tree.now e → e.name ≡ bstring_bytes name.now → EndsBefore unasked e) }
 {
     let id = tree_id(tree, name)?;
@@ -120,7 +120,7 @@ fn next_id(tree: &Tree, name: &BString, unasked: Unasked) -> Option<ObjectId>
 
 /// The tree that a store has by an id.
 fn find_directory<S: Find>(alloc: Global, store: &S, id: ObjectId) -> Result<Tree, Error>
-    requires { IsUnaskedId id → ⊥ }
+    requires { ¬ IsUnaskedId id }
     ensures found { IfOk result (λ tree. NamesTree (S.objects store.now) id tree) }
     ensures refusal { IfErr result (RefusesDirectory (S.objects store.now) (S.may_fail store.now) id) }
 {
@@ -135,7 +135,7 @@ fn find_directory<S: Find>(alloc: Global, store: &S, id: ObjectId) -> Result<Tre
 
 /// The tree that a store has by an id, and a copy of it.
 fn find_copied<S: Find>(alloc: Global, store: &S, id: ObjectId) -> Result<(Tree, Tree), Error>
-    requires { IsUnaskedId id → ⊥ }
+    requires { ¬ IsUnaskedId id }
     ensures found { IfOk result (λ it. NamesTree (S.objects store.now) id it.0) }
     ensures copied { IfOk result (λ it. it.1 ≡ it.0) }
     ensures refusal { IfErr result (RefusesDirectory (S.objects store.now) (S.may_fail store.now) id) }
@@ -156,7 +156,7 @@ fn load<S: Find>(
     ensures well_formed { IfOk result (λ it. IsWellFormed it.0) }
     ensures copied { IfOk result (λ it. it.1 ≡ it.0) }
     ensures found { IfOk result (λ it. (trees : Trees) → AreTreesOf (S.objects store.now) trees → (asked : List ObjectId) × Finds trees id it.0 asked × (lookups.new ≡ counted lookups.old asked)) }
-    ensures asked { OnErr result ((IsUnaskedId id → ⊥) × (lookups.new ≡ counted lookups.old (id ∷ []))) }
+    ensures asked { OnErr result ((¬ IsUnaskedId id) × (lookups.new ≡ counted lookups.old (id ∷ []))) }
     ensures refusal { IfErr result (RefusesDirectory (S.objects store.now) (S.may_fail store.now) id) }
 {
     if is_unasked(id) {

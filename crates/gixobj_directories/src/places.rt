@@ -34,7 +34,7 @@ pub(crate) fn place_of(entries: &[Entry], name: &[u8]) -> Option<usize>
 pub(crate) fn directory_behind(entries: &[Entry], name: &[u8], place: usize) -> Option<usize>
     requires well_formed { IsWellFormed entries.now }
     requires name { IsFree slash name.now }
-    requires no_file { HasKey entries.now (key_of name.now false) → ⊥ }
+    requires no_file { ¬ HasKey entries.now (key_of name.now false) }
     requires place { place ≡ prefix_len (has_key_before (key_of name.now false)) entries.now }
     ensures { result ≡ position (λ e. same_name e.name name.now) entries.now }
 {
@@ -54,7 +54,7 @@ pub(crate) fn directory_behind(entries: &[Entry], name: &[u8], place: usize) -> 
 pub(crate) fn file_in_front(entries: &[Entry], name: &[u8], place: usize) -> Option<usize>
     requires well_formed { IsWellFormed entries.now }
     requires name { IsFree slash name.now }
-    requires no_directory { HasKey entries.now (key_of name.now true) → ⊥ }
+    requires no_directory { ¬ HasKey entries.now (key_of name.now true) }
     requires place { place ≡ prefix_len (has_key_before (key_of name.now true)) entries.now }
     ensures { result ≡ position (λ e. same_name e.name name.now) entries.now }
 {
@@ -75,7 +75,7 @@ pub(crate) fn place_by_key(entries: &[Entry], name: &[u8], is_tree: bool) -> Res
     requires name { IsFree slash name.now }
     ensures found { IfOk result (λ i. position (λ e. same_name e.name name.now) entries.now ≡ Some i) }
     ensures kind { IfOk result (HoldsAt (λ e. is_tree_mode e.mode ≡ is_tree) entries.now) }
-    ensures none { IfErr result (λ _. HasKey entries.now (key_of name.now is_tree) → ⊥) }
+    ensures none { IfErr result (λ _. ¬ HasKey entries.now (key_of name.now is_tree)) }
     ensures place { MatchResult result
         (λ i. i ≡ prefix_len (has_key_before (key_of name.now is_tree)) entries.now)
         (λ i. i ≡ prefix_len (has_key_before (key_of name.now is_tree)) entries.now) }

@@ -146,7 +146,7 @@ module _ {S E : Type 0} (means : Meaning S) (answers : Answers E) where
   IsReply old (command.Edit it) (reply.Edit its_reply) new = IsEditReply at_root old it its_reply new
   IsReply old (command.At prefix edits) its_reply new = IsReplyAt (prefix_of (names_of prefix.items)) old edits.items its_reply new
   IsReply old (command.SetRoot entries) reply.RootSet new = IsRootSet old entries new
-  IsReply old (command.SetRoot entries) reply.RootRefused new = (IsWellFormed entries → ⊥) × (new ≡ old)
+  IsReply old (command.SetRoot entries) reply.RootRefused new = (¬ IsWellFormed entries) × (new ≡ old)
   -- no other reply is given
   IsReply old it its_reply new = ⊥
 

@@ -19,7 +19,7 @@ OfTrees objects P = (trees : Trees) → AreTreesOf objects trees → P trees
 
 -- the table has the well-formed trees that ids name as objects, but for the ids that are never asked for
 abbrev pub AgreesWithObjects : Table → Objects → Type 0
-AgreesWithObjects T objects = (id : ObjectId) (entries : List EntryView) → (IsUnaskedId id → ⊥) → NamesTree objects id entries → T.tree_at id ≡ Some entries
+AgreesWithObjects T objects = (id : ObjectId) (entries : List EntryView) → (¬ IsUnaskedId id) → NamesTree objects id entries → T.tree_at id ≡ Some entries
 
 -- the table has what a run's writes handed out, and agrees with the store that the run found, and with each that keeping one more
 -- tree made of it

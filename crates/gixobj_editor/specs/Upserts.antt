@@ -44,12 +44,12 @@ RefusesNames (name ∷ path) refusal = RefusesEntryName name refusal ⊎ (IsEntr
 -- if there is a first name, no entry may have it
 abbrev pub StartsRefused : Path → Type 0
 StartsRefused [] = ⊤
-StartsRefused (name ∷ path) = IsEntryName name → ⊥
+StartsRefused (name ∷ path) = ¬ IsEntryName name
 
 -- a path as names that entries may have, and the names from the first other one on: where there is none, the path without its last name
 abbrev pub IsJudged : Path → Path → Path → Type 0
 IsJudged path names [] = AreNames path × (names ≡ directory_of path)
-IsJudged path names (name ∷ rest) = AreNames names × (IsEntryName name → ⊥) × (path ≡ names ++ name ∷ rest)
+IsJudged path names (name ∷ rest) = AreNames names × (¬ IsEntryName name) × (path ≡ names ++ name ∷ rest)
 
 -- a directory above the path isn't opened
 abbrev pub RefusesUnopened : Objects → (ObjectId → Bool) → Trees → Dirs → Path → directory.Error → Type 0

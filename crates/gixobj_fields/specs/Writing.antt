@@ -26,7 +26,7 @@ AddsSize result size text = SomeIff result (size + length text < 2 ^ 64) (size +
 
 -- nothing is refused
 abbrev pub RefusesNothing : (Refused → List ℕ → Type 0) → Type 0
-RefusesNothing Refuses = (value : Refused) (parts : List ℕ) → Refuses value parts → ⊥
+RefusesNothing Refuses = (value : Refused) (parts : List ℕ) → ¬ Refuses value parts
 
 -- this value is refused, and exactly the parts before it were put
 abbrev pub StopsAt : (Refused → List ℕ → Type 0) → SinkView → SinkView → Refused → Type 0

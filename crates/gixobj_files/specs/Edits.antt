@@ -82,7 +82,7 @@ IsEntryOf name here e = HasAt here e × (e.name ≡ name) × ((other : EntryView
 -- what an id is opened as, a well-formed list, and the ids asked for: none for an id that stands for no files
 abbrev pub Finds : Trees → ObjectId → List EntryView → List ObjectId → Type 0
 Finds trees id entries asked =
-    IsWellFormed entries × ((IsUnaskedId id × (entries ≡ []) × (asked ≡ [])) ⊎ ((IsUnaskedId id → ⊥) × (trees id ≡ Some entries) × (asked ≡ id ∷ [])))
+    IsWellFormed entries × ((IsUnaskedId id × (entries ≡ []) × (asked ≡ [])) ⊎ ((¬ IsUnaskedId id) × (trees id ≡ Some entries) × (asked ≡ id ∷ [])))
 
 -- a count that stays at the greatest u64
 abbrev pub counted : ℕ → List ObjectId → ℕ
@@ -109,5 +109,5 @@ pub data Opens (Ends : EntryView → Type 0) (trees : Trees) : Path → Dirs →
   stops : (name : List ℕ) (rest : Path) (dirs : Dirs) → ((e : EntryView) → HasAt (dirs []) e → e.name ≡ name → Ends e) → ((path : Path) → dirs (name ∷ path) ≡ None) → Opens Ends trees (name ∷ rest) dirs dirs []
   down : (name : List ℕ) (rest : Path) (dirs inner : Dirs) (e : EntryView) (entries : List EntryView) (asked : List ObjectId) → HasAt (dirs []) e → e.name ≡ name → dirs (name ∷ []) ≡ Some entries
       → Opens Ends trees rest (in_dir name dirs) inner asked → Opens Ends trees (name ∷ rest) dirs (with_dir name inner dirs) asked
-  found : (name : List ℕ) (rest : Path) (dirs inner : Dirs) (e : EntryView) (entries : List EntryView) (first asked : List ObjectId) → IsEntryOf name (dirs []) e → is_tree_mode e.mode ≡ true → (Ends e → ⊥) → ((path : Path) → dirs (name ∷ path) ≡ None)
+  found : (name : List ℕ) (rest : Path) (dirs inner : Dirs) (e : EntryView) (entries : List EntryView) (first asked : List ObjectId) → IsEntryOf name (dirs []) e → is_tree_mode e.mode ≡ true → (¬ Ends e) → ((path : Path) → dirs (name ∷ path) ≡ None)
       → Finds trees e.id entries first → Opens Ends trees rest (only entries) inner asked → Opens Ends trees (name ∷ rest) dirs (with_dir name inner dirs) (first ++ asked)

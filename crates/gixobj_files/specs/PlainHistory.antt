@@ -21,7 +21,7 @@ NoFiles path mode id = ⊥
 abbrev pub FilePut : Path → ℕ → ObjectId → FileSet → FileSet
 FilePut [] mode id files = files
 FilePut (name ∷ p) mode id files = λ path mode' id'.
-    (files path mode' id' × (Begins (name ∷ p) path → ⊥) × (Begins path (name ∷ p) → ⊥)) ⊎ (IsFalse (is_null id) × (path ≡ name ∷ p) × (mode' ≡ mode) × (id' ≡ id))
+    (files path mode' id' × (¬ Begins (name ∷ p) path) × (¬ Begins path (name ∷ p))) ⊎ (IsFalse (is_null id) × (path ≡ name ∷ p) × (mode' ≡ mode) × (id' ≡ id))
 
 abbrev pub after_plain_step : Step → FileSet → FileSet
 after_plain_step (upsert path mode id) files = FilePut path mode id files

@@ -17,7 +17,7 @@ IsUnaskedId id = (is_null id ≡ true) ⊎ (id ≡ id_of (id_kind id) Tree [])
 
 -- the table has the trees that a store names, but for the ids that are never asked for
 abbrev pub AgreesWithStore : Table → Trees → Type 0
-AgreesWithStore T trees = (id : ObjectId) (entries : List EntryView) → (IsUnaskedId id → ⊥) → trees id ≡ Some entries → T.tree_at id ≡ Some entries
+AgreesWithStore T trees = (id : ObjectId) (entries : List EntryView) → (¬ IsUnaskedId id) → trees id ≡ Some entries → T.tree_at id ≡ Some entries
 
 -- the table has these trees by these ids
 abbrev pub AgreesWithPairs : Table → List Pair → Type 0
@@ -29,7 +29,7 @@ HasOneId pairs = (tree : List EntryView) (x y : ObjectId) → Contains pairs (x,
 
 -- a store's own table: the trees that it names, and no other
 abbrev pub IsOwnTable : Table → Trees → Type 0
-IsOwnTable T trees = (id : ObjectId) → (IsUnaskedId id → ⊥) → T.tree_at id ≡ trees id
+IsOwnTable T trees = (id : ObjectId) → (¬ IsUnaskedId id) → T.tree_at id ≡ trees id
 
 -- the pairs name no tree by a null id, only the empty tree by an empty tree's id, no two trees by one id, and no tree other than
 -- the store's by an id that it names

@@ -1,6 +1,6 @@
 -- The kinds of objects (gitformat-loose, "Loose object format").
 pub mod Refusal
-use Rattle.std.specs.Prelude.{◌≡◌, ℕ, List, codes}
+use Rattle.std.specs.Prelude.{◌≡◌, ◌≢◌, ℕ, List, codes}
 use Rattle.gixobj_hash.specs.declared.kind.Kind.{Kind}
 use Rattle.gixobj_hash.specs.declared.kind.Kind.TheVariants.{Tree, Blob, Commit, Tag}
 
@@ -13,4 +13,4 @@ kind_word Tag = codes "tag"
 
 -- no kind of object has this name
 abbrev pub IsNoKindWord : List ℕ → Type 0
-IsNoKindWord word = (kind : Kind) → word ≡ kind_word kind → ⊥
+IsNoKindWord word = (kind : Kind) → word ≢ kind_word kind

@@ -54,11 +54,11 @@ abbrev pub HasEdit : hash.Kind → List ℕ → Type 0
 HasEdit hash text = (edit : EditView) × IsEditText hash text edit
 
 abbrev pub HasNoEdit : hash.Kind → List ℕ → Type 0
-HasNoEdit hash text = (edit : EditView) → IsEditText hash text edit → ⊥
+HasNoEdit hash text = (edit : EditView) → ¬ IsEditText hash text edit
 
 -- the text of some command, and of none
 abbrev pub HasCommand : hash.Kind → List ℕ → Type 0
 HasCommand hash text = (command : CommandView) × IsCommandText hash text command
 
 abbrev pub HasNoCommand : hash.Kind → List ℕ → Type 0
-HasNoCommand hash text = (command : CommandView) → IsCommandText hash text command → ⊥
+HasNoCommand hash text = (command : CommandView) → ¬ IsCommandText hash text command

@@ -13,4 +13,4 @@ AsksToEdit words = (hash : Kind) × AsksForEdit words hash
 
 -- anything else
 abbrev pub AsksForNoEdit : List (List ℕ) → Type 0
-AsksForNoEdit words = (hash : Kind) → AsksForEdit words hash → ⊥
+AsksForNoEdit words = (hash : Kind) → ¬ AsksForEdit words hash

@@ -1,5 +1,5 @@
 //! The command of a line.
-ghost use Rattle.std.specs.Prelude.{◌≡◌, ℕ, List, codes, IfOk, IfNone, IfSome, MatchOption, OnErr};
+ghost use Rattle.std.specs.Prelude.{◌≡◌, ◌≢◌, ℕ, List, codes, IfOk, IfNone, IfSome, MatchOption, OnErr};
 ghost use Rattle.gixobj_editor.specs.Views.{command_view, edit_view};
 ghost use Rattle.gixobj_hash.specs.declared.hash.object_id.ObjectId.{ObjectId};
 ghost use Rattle.gixobj_script.specs.Lines.{HasCommand, HasEdit, HasNoCommand, HasNoEdit, IsCommandText, IsEditText, IsEntryAt, IsHexOfId, word_and};
@@ -93,7 +93,7 @@ fn read_upsert(alloc: Global, entry: &[u8], hash: Kind) -> Result<Option<Edit>, 
 /// The kind, the id and the path of `KIND HEX PATH`, or none. It takes no memory.
 fn entry_parts(entry: &[u8], hash: Kind) -> Option<(EntryKind, ObjectId, &[u8])>
     ensures found { IfSome result (λ it. IsEntryAt hash entry.now it.0 it.1 it.2.now) }
-    ensures none { IfNone result ((kind : EntryKind) (id : ObjectId) (path : List ℕ) → IsEntryAt hash entry.now kind id path → ⊥) }
+    ensures none { IfNone result ((kind : EntryKind) (id : ObjectId) (path : List ℕ) → ¬ IsEntryAt hash entry.now kind id path) }
 {
     let Some((word, behind)) = split_at_byte(entry, b' ') else {
         return None;
@@ -112,7 +112,7 @@ fn entry_parts(entry: &[u8], hash: Kind) -> Option<(EntryKind, ObjectId, &[u8])>
 
 /// The kind of entries that the word names, or none.
 fn kind_of_word(word: &[u8]) -> Option<EntryKind>
-    ensures { MatchOption result ((kind : EntryKind) → word.now ≡ entry_word kind → ⊥) (λ kind. word.now ≡ entry_word kind) }
+    ensures { MatchOption result ((kind : EntryKind) → word.now ≢ entry_word kind) (λ kind. word.now ≡ entry_word kind) }
 {
     match word {
         b"tree" => Some(EntryKind::Tree),
@@ -126,7 +126,7 @@ fn kind_of_word(word: &[u8]) -> Option<EntryKind>
 
 /// The id of this kind whose hex text this is, in either case, or none.
 fn id_of_kind(hex: &[u8], hash: Kind) -> Option<ObjectId>
-    ensures { MatchOption result ((id : ObjectId) → IsHexOfId hash hex.now id → ⊥) (λ id. IsHexOfId hash hex.now id) }
+    ensures { MatchOption result ((id : ObjectId) → ¬ IsHexOfId hash hex.now id) (λ id. IsHexOfId hash hex.now id) }
 {
     let hex = hex_hash(hex, hash)?;
     Some(id_of_hex(hex))

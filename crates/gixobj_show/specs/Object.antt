@@ -17,7 +17,7 @@ pub record BeginsWithObject (input : List ℕ) (kind : Kind) (content : List ℕ
 
 -- the input begins with no loose header
 abbrev pub HasNoLooseHeader : List ℕ → Type 0
-HasNoLooseHeader input = (kind : Kind) (size used : ℕ) → HasLooseHeader input kind size used → ⊥
+HasNoLooseHeader input = (kind : Kind) (size used : ℕ) → ¬ HasLooseHeader input kind size used
 
 -- the input ends before as many bytes as its header says
 abbrev pub IsShort : List ℕ → Type 0

@@ -21,4 +21,4 @@ AsksFor words command hash = words ≡ command_word command ∷ hash_words hash
 
 -- nothing that the program does
 abbrev pub AsksForNothing : List (List ℕ) → Type 0
-AsksForNothing words = (command : Command) (hash : Kind) → AsksFor words command hash → ⊥
+AsksForNothing words = (command : Command) (hash : Kind) → ¬ AsksFor words command hash

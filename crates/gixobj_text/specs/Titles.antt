@@ -1,5 +1,5 @@
 -- The title, the body and the summary of a message.
-use Rattle.std.specs.Prelude.{◌≡◌, ◌⊎◌, ◌≤◌, ◌==◌, ◌||◌, ℕ, Bool, true, false, cond, List, [], ◌∷◌, ◌++◌, Option, Some, None, drop, length, map, reverse}
+use Rattle.std.specs.Prelude.{◌≡◌, ◌≢◌, ◌⊎◌, ◌≤◌, ◌==◌, ◌||◌, ℕ, Bool, true, false, cond, List, [], ◌∷◌, ◌++◌, Option, Some, None, drop, length, map, reverse}
 use Rattle.std.specs.Char.{is_whitespace}
 use Rattle.std.specs.List.{prefix_len}
 use Rattle.bstr.specs.Owned.{joined}
@@ -30,7 +30,7 @@ pub record IsCut (message title body : List ℕ) : Type 0 where
 -- without such a place all is title
 abbrev pub SplitsTitle : List ℕ → List ℕ → Option (List ℕ) → Type 0
 SplitsTitle message title None = IsCut message title [] ⊎ ((title ≡ message) × ((front rest : List ℕ) → ¬ HasBreaks message front rest))
-SplitsTitle message title (Some body) = IsCut message title body × (body ≡ [] → ⊥)
+SplitsTitle message title (Some body) = IsCut message title body × (body ≢ [])
 
 -- ---- summaries
 

@@ -12,4 +12,4 @@ FromNumber number (Err back) = ¬ (IsModeNumber number) × (back ≡ number)
 -- the mode in front of the bytes, or the bytes themselves where they begin with none
 abbrev pub FromBytes : Bor (List ℕ) → Result EntryMode (Bor (List ℕ)) → Type 0
 FromBytes bytes (Ok mode) = (rest : List ℕ) × BeginsWithMode bytes.now (mode_bits mode) rest
-FromBytes bytes (Err back) = ((mode : ℕ) (rest : List ℕ) → BeginsWithMode bytes.now mode rest → ⊥) × (back.now ≡ bytes.now)
+FromBytes bytes (Err back) = ((mode : ℕ) (rest : List ℕ) → ¬ BeginsWithMode bytes.now mode rest) × (back.now ≡ bytes.now)

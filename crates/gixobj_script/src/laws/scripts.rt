@@ -16,7 +16,7 @@ pub fn script_has_one_reading()
 /// script, and refuses no line but the first bad one.
 pub fn script_has_no_bad_line()
     ensures one_bad { (hash : Kind) (text : List ℕ) (number number' : ℕ) → IsFirstBad hash text number → IsFirstBad hash text number' → number ≡ number' }
-    ensures no_bad { (hash : Kind) (text : List ℕ) (commands : List CommandView) (number : ℕ) → IsScript hash text commands → IsFirstBad hash text number → ⊥ }
+    ensures no_bad { (hash : Kind) (text : List ℕ) (commands : List CommandView) (number : ℕ) → IsScript hash text commands → ¬ IsFirstBad hash text number }
 {}
 
 /// The last line of a script may lack its newline.

@@ -144,7 +144,7 @@ impl EntryMode {
     /// a space and byte 5 isn't, there are exactly six digits. None for no bytes.
     pub fn from_bytes(i: &[u8]) -> Option<EntryMode>
         ensures found { IfSome result (λ mode. (rest : List ℕ) × BeginsWithMode i.now (mode_bits mode) rest) }
-        ensures none { IfNone result ((mode : ℕ) (rest : List ℕ) → BeginsWithMode i.now mode rest → ⊥) }
+        ensures none { IfNone result ((mode : ℕ) (rest : List ℕ) → ¬ BeginsWithMode i.now mode rest) }
     {
         match EntryMode::extract_from_bytes(i) {
             Some((mode, _)) => Some(mode),
@@ -156,7 +156,7 @@ impl EntryMode {
     /// its digits.
     pub fn extract_from_bytes(i: &[u8]) -> Option<(EntryMode, &[u8])>
         ensures found { IfSome result (λ parts. BeginsWithMode i.now (mode_bits parts.0) parts.1.now) }
-        ensures none { IfNone result ((mode : ℕ) (rest : List ℕ) → BeginsWithMode i.now mode rest → ⊥) }
+        ensures none { IfNone result ((mode : ℕ) (rest : List ℕ) → ¬ BeginsWithMode i.now mode rest) }
     {
         if i.is_empty() {
             return None;
