@@ -111,8 +111,13 @@ fn edited_and_written<S: Find, E: Drop, F: FnMut(&Tree) -> Result<ObjectId, E> +
     out: F,
 ) -> Result<Option<Written>, Error>
     requires callable { IsCallableOnTrees F.pre (λ f p g. CalledAt F.FnMut f p.1 (Ok p.0) g) out }
-    ensures { IfOk result (λ it. IfSome it (λ written. (trees : Trees) → AreTreesOf (S.objects editor.old.store) trees → (T : Table) (n : ℕ) → AgreesWithStore T trees → AgreesWithPairs T written.trees.items → HasBases T (open_dirs editor.old) (open_bases editor.old)
-        → SameFiles (NamedFiles T n written.id) (History T n (upsert (names_of first.now) (mode_of_kind Blob) id ∷ remove (names_of second.now) ∷ []) (EditorFiles T n editor.old)))) }
+    ensures { IfOk result (λ it. IfSome it (λ written. (trees : Trees)
+        → AreTreesOf (S.objects editor.old.store) trees → (T : Table) (n : ℕ)
+        → AgreesWithStore T trees → AgreesWithPairs T written.trees.items
+        → HasBases T (open_dirs editor.old) (open_bases editor.old)
+        → SameFiles (NamedFiles T n written.id) (History T n
+        (upsert (names_of first.now) (mode_of_kind Blob) id ∷ remove (names_of second.now) ∷ [])
+        (EditorFiles T n editor.old)))) }
 {
     editor.try_upsert(first, EntryKind::Blob, id)?;
     editor.try_remove(second)?;

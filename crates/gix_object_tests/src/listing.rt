@@ -46,7 +46,8 @@ pub(crate) fn files_of(
     depth: usize,
     tree: &Tree,
 ) -> Result<Vec<Listed>, AllocError>
-    ensures { IfOk result (λ files. (T : Table) → IsTableOf T table.now → SameFiles (Lists files.items) (Files T depth tree.now)) }
+    ensures { IfOk result (λ files. (T : Table) → IsTableOf T table.now
+        → SameFiles (Lists files.items) (Files T depth tree.now)) }
 {
     let mut files = Vec::new(alloc);
     if depth == 0 {
@@ -67,7 +68,8 @@ fn files_below(
     depth: usize,
     entry: &Entry,
 ) -> Result<Vec<Listed>, AllocError>
-    ensures { IfOk result (λ files. (T : Table) → IsTableOf T table.now → SameFiles (Lists files.items) (Below T (Files T depth) entry.now.mode entry.now.id)) }
+    ensures { IfOk result (λ files. (T : Table) → IsTableOf T table.now
+        → SameFiles (Lists files.items) (Below T (Files T depth) entry.now.mode entry.now.id)) }
 {
     if entry.oid.is_null() {
         return Ok(Vec::new(alloc));
@@ -86,7 +88,9 @@ fn files_below(
 
 /// The entry as a file, without its name.
 fn one_file(alloc: Global, entry: &Entry) -> Result<Vec<Listed>, AllocError>
-    ensures { IfOk result (λ files. files.items ≡ record { path = []; mode = entry.now.mode; id = entry.now.id } ∷ []) }
+    ensures { IfOk result
+        (λ files.
+        files.items ≡ record { path = []; mode = entry.now.mode; id = entry.now.id } ∷ []) }
 {
     let file = Listed {
         path: Vec::new(alloc),
@@ -117,7 +121,8 @@ fn add_in_front(
     name: &BString,
     below: Vec<Listed>,
 ) -> Result<(), AllocError>
-    ensures { OnOk result (files.new.items ≡ files.old.items ++ map (in_front (bstring_bytes name.now)) below.items) }
+    ensures { OnOk result (files.new.items ≡ files.old.items ++ map
+        (in_front (bstring_bytes name.now)) below.items) }
 {
     for file in below {
         files.push(with_name(alloc, name, file)?)?;

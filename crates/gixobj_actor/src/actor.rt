@@ -19,8 +19,8 @@ use crate::date::{Time, TimeBuf, parse_header};
 use bstr::{BStr, BString, ByteSlice};
 use gixobj_fields::encode::Error;
 use gixobj_fields::streams::{Sink, ToWrite, put_parts};
-use gixobj_hash::{OutOfMemory, decode};
 use gixobj_hash::texts::{has_byte, split_at_byte, split_at_last_byte};
+use gixobj_hash::{OutOfMemory, decode};
 use std::alloc::Global;
 use std::io;
 use std::io::Write;
@@ -56,7 +56,8 @@ impl<'a> SignatureRef<'a> {
     /// `-`, spaces and tabs. `Malformed` where there is no `<` with a `>` after it, or where a newline
     /// stands in the line, which then stays as it was. It takes no memory.
     pub fn from_bytes_consuming(input: &mut &'a [u8]) -> Result<SignatureRef<'a>, decode::Error>
-        ensures found { IfOk result (λ it. IsActorLine input.old.now (bstr_bytes it.name) (bstr_bytes it.email) (bstr_bytes it.time) input.new.now) }
+        ensures found { IfOk result (λ it. IsActorLine input.old.now (bstr_bytes it.name)
+            (bstr_bytes it.email) (bstr_bytes it.time) input.new.now) }
         ensures refusal { IfErr result (λ e. (e ≡ Malformed) × IsNoActorLine input.old.now) }
         ensures unchanged { OnErr result (input.new ≡ input.old) }
     {
@@ -90,7 +91,8 @@ impl<'a> SignatureRef<'a> {
 
     /// The time, or none where the text is that of no time.
     pub fn time(&self) -> Option<Time>
-        ensures found { IfSome result (λ it. IsTimeText (bstr_bytes self.now.time) it.seconds it.offset) }
+        ensures found { IfSome result (λ it. IsTimeText (bstr_bytes self.now.time) it.seconds
+            it.offset) }
         ensures none { IfNone result (IsNoTimeText (bstr_bytes self.now.time)) }
     {
         parse_header(self.time.as_bytes())
@@ -129,7 +131,8 @@ impl Signature {
     pub fn to_ref<'a>(&'a self, time_buf: &'a mut TimeBuf) -> SignatureRef<'a>
         ensures name { bstr_bytes result.name ≡ bstring_bytes self.now.name }
         ensures email { bstr_bytes result.email ≡ bstring_bytes self.now.email }
-        ensures time { bstr_bytes result.time ≡ time_text self.now.time.seconds self.now.time.offset }
+        ensures time { bstr_bytes result.time ≡ time_text self.now.time.seconds
+            self.now.time.offset }
     {
         SignatureRef {
             name: self.name.as_bstr(),
@@ -146,19 +149,24 @@ impl SignatureRef<'_> {
     /// `IllegalActor` before any byte is written, where the name or the email has a `<`, a `>` or a
     /// newline; `Writer` where the writer failed. It takes no memory.
     pub fn write_to<W: Write>(&self, out: &mut W) -> Result<(), Error>
-        ensures ok { OnOk result (IsLegalActor (bstr_bytes self.now.name) (bstr_bytes self.now.email)
+        ensures ok { OnOk result (IsLegalActor (bstr_bytes self.now.name)
+            (bstr_bytes self.now.email)
             × Appends (W.contents out.old) (W.contents out.new) (borrowed_text self.now)) }
-        ensures refusal { IfErr result (RefusesActor (bstr_bytes self.now.name) (bstr_bytes self.now.email) (out.new ≡ out.old)
-            (PutsFront (writer_view (W.contents out.old)) (writer_view (W.contents out.new)) (borrowed_text self.now))) }
+        ensures refusal { IfErr result (RefusesActor (bstr_bytes self.now.name)
+            (bstr_bytes self.now.email) (out.new ≡ out.old)
+            (PutsFront (writer_view (W.contents out.old)) (writer_view (W.contents out.new))
+            (borrowed_text self.now))) }
     {
         self.write_into(&mut ToWrite(out))
     }
 
     /// Puts what [`SignatureRef::write_to`] writes into a sink, and refuses it as that does.
     pub fn write_into<S: Sink>(&self, sink: &mut S) -> Result<(), Error>
-        ensures ok { OnOk result (IsLegalActor (bstr_bytes self.now.name) (bstr_bytes self.now.email)
+        ensures ok { OnOk result (IsLegalActor (bstr_bytes self.now.name)
+            (bstr_bytes self.now.email)
             × Puts (S.view sink.old) (S.view sink.new) (borrowed_text self.now)) }
-        ensures refusal { IfErr result (RefusesActor (bstr_bytes self.now.name) (bstr_bytes self.now.email) (sink.new ≡ sink.old)
+        ensures refusal { IfErr result (RefusesActor (bstr_bytes self.now.name)
+            (bstr_bytes self.now.email) (sink.new ≡ sink.old)
             (PutsFront (S.view sink.old) (S.view sink.new) (borrowed_text self.now))) }
         ensures same_loan { S.loan sink.new ≡ S.loan sink.old }
     {
@@ -172,7 +180,8 @@ impl SignatureRef<'_> {
 
     /// Whether it can be written.
     fn is_legal(&self) -> bool
-        ensures { IsTrue result ↔ IsLegalActor (bstr_bytes self.now.name) (bstr_bytes self.now.email) }
+        ensures { IsTrue result ↔ IsLegalActor (bstr_bytes self.now.name)
+            (bstr_bytes self.now.email) }
     {
         is_writable(self.name.as_bytes()) && is_writable(self.email.as_bytes())
     }
@@ -196,10 +205,13 @@ impl Signature {
     /// `IllegalActor` before any byte is written, where the name or the email has a `<`, a `>` or a
     /// newline; `Writer` where the writer failed. It takes no memory.
     pub fn write_to<W: Write>(&self, out: &mut W) -> Result<(), Error>
-        ensures ok { OnOk result (IsLegalActor (bstring_bytes self.now.name) (bstring_bytes self.now.email)
+        ensures ok { OnOk result (IsLegalActor (bstring_bytes self.now.name)
+            (bstring_bytes self.now.email)
             × Appends (W.contents out.old) (W.contents out.new) (owned_text self.now)) }
-        ensures refusal { IfErr result (RefusesActor (bstring_bytes self.now.name) (bstring_bytes self.now.email) (out.new ≡ out.old)
-            (PutsFront (writer_view (W.contents out.old)) (writer_view (W.contents out.new)) (owned_text self.now))) }
+        ensures refusal { IfErr result (RefusesActor (bstring_bytes self.now.name)
+            (bstring_bytes self.now.email) (out.new ≡ out.old)
+            (PutsFront (writer_view (W.contents out.old)) (writer_view (W.contents out.new))
+            (owned_text self.now))) }
     {
         let mut time_buf = TimeBuf::new();
         self.to_ref(&mut time_buf).write_to(out)
@@ -207,9 +219,11 @@ impl Signature {
 
     /// Puts what [`Signature::write_to`] writes into a sink, and refuses it as that does.
     pub fn write_into<S: Sink>(&self, sink: &mut S) -> Result<(), Error>
-        ensures ok { OnOk result (IsLegalActor (bstring_bytes self.now.name) (bstring_bytes self.now.email)
+        ensures ok { OnOk result (IsLegalActor (bstring_bytes self.now.name)
+            (bstring_bytes self.now.email)
             × Puts (S.view sink.old) (S.view sink.new) (owned_text self.now)) }
-        ensures refusal { IfErr result (RefusesActor (bstring_bytes self.now.name) (bstring_bytes self.now.email) (sink.new ≡ sink.old)
+        ensures refusal { IfErr result (RefusesActor (bstring_bytes self.now.name)
+            (bstring_bytes self.now.email) (sink.new ≡ sink.old)
             (PutsFront (S.view sink.old) (S.view sink.new) (owned_text self.now))) }
         ensures same_loan { S.loan sink.new ≡ S.loan sink.old }
     {
@@ -235,7 +249,8 @@ fn is_writable(text: &[u8]) -> bool
 
 /// Writes an actor, whatever its bytes are.
 fn put_actor<S: Sink>(name: &[u8], email: &[u8], time: &[u8], sink: &mut S) -> io::Result<()>
-    ensures put { PutsOrFails result (S.view sink.old) (S.view sink.new) (actor_text name.now email.now time.now) }
+    ensures put { PutsOrFails result (S.view sink.old) (S.view sink.new)
+        (actor_text name.now email.now time.now) }
     ensures same_loan { S.loan sink.new ≡ S.loan sink.old }
 {
     put_parts(&[name, b" <", email, b"> ", time], sink)
@@ -252,7 +267,8 @@ fn actor_size(name: &[u8], email: &[u8], time: &[u8]) -> Option<u64>
 /// The actor of a line and what follows its time, or none.
 pub(crate) fn split_line(line: &[u8]) -> Option<(SignatureRef<'_>, &[u8])>
     requires one_line { IsFree newline line.now }
-    ensures found { IfSome result (λ it. IsActorLine line.now (bstr_bytes it.0.name) (bstr_bytes it.0.email) (bstr_bytes it.0.time) it.1.now) }
+    ensures found { IfSome result (λ it. IsActorLine line.now (bstr_bytes it.0.name)
+        (bstr_bytes it.0.email) (bstr_bytes it.0.time) it.1.now) }
     ensures none { IfNone result (IsNoActorLine line.now) }
 {
     let (text, behind) = split_at_byte(line, b'<')?;

@@ -143,8 +143,10 @@ fn offset_of(is_minus: bool, hours: u8, minutes: u8) -> i32
 
 /// The number that two digits spell.
 fn number_from_two_digits(tens: u8, ones: u8) -> Option<u8>
-    ensures found { IfSome result (λ number. (number < 100) × (two_digits number ≡ tens ∷ ones ∷ [])) }
-    ensures none { IfNone result ((number : ℕ) → number < 100 → ¬ (two_digits number ≡ tens ∷ ones ∷ [])) }
+    ensures found { IfSome result (λ number. (number < 100)
+        × (two_digits number ≡ tens ∷ ones ∷ [])) }
+    ensures none { IfNone result ((number : ℕ) → number < 100
+        → ¬ (two_digits number ≡ tens ∷ ones ∷ [])) }
 {
     if tens.is_ascii_digit() && ones.is_ascii_digit() {
         Some(10 * (tens - b'0') + (ones - b'0'))

@@ -21,9 +21,11 @@ pub fn trusted_header_signature<S: Sink>(
     actor: &Signature,
     sink: &mut S,
 ) -> Result<(), Error>
-    ensures written { OnOk result (Puts (S.view sink.old) (S.view sink.new) (field_text name.now (owned_text actor.now))) }
+    ensures written { OnOk result (Puts (S.view sink.old) (S.view sink.new)
+        (field_text name.now (owned_text actor.now))) }
     ensures legal { OnOk result (IsLegal actor.now) }
-    ensures refusal { IfErr result (RefusesWriting (RefusesActorField name.now actor.now) (S.view sink.old) (S.view sink.new) (field_text name.now (owned_text actor.now))) }
+    ensures refusal { IfErr result (RefusesWriting (RefusesActorField name.now actor.now)
+        (S.view sink.old) (S.view sink.new) (field_text name.now (owned_text actor.now))) }
     ensures same_loan { S.loan sink.new ≡ S.loan sink.old }
 {
     put_parts(&[name, b" "], sink)?;

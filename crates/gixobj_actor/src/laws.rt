@@ -8,9 +8,11 @@ ghost use Rattle.gixobj_hash.specs.Bytes.{newline};
 
 /// The text of a time that is written reads back as that time. A text says one time at most.
 pub fn time_reads_back()
-    ensures same_time { (seconds offset : ℤ) → FitsSigned w64 seconds → IsOffset offset → IsTimeText (time_text seconds offset) seconds offset }
+    ensures same_time { (seconds offset : ℤ) → FitsSigned w64 seconds → IsOffset offset
+        → IsTimeText (time_text seconds offset) seconds offset }
     ensures one_time { (text : List ℕ) (seconds offset seconds' offset' : ℤ) →
-        IsTimeText text seconds offset → IsTimeText text seconds' offset' → (seconds ≡ seconds') × (offset ≡ offset') }
+        IsTimeText text seconds offset → IsTimeText text seconds' offset' → (seconds ≡ seconds')
+        × (offset ≡ offset') }
 {}
 
 /// A line names one actor at most, and one with a newline names none.
@@ -23,6 +25,8 @@ pub fn actor_line_has_one_reading()
 
 /// What is written of an owned actor is a line that names it, with nothing behind its time.
 pub fn actor_reads_back()
-    ensures { (name email : List ℕ) (seconds offset : ℤ) → IsLegalActor name email → FitsSigned w64 seconds → IsOffset offset →
-        IsActorLine (actor_text name email (time_text seconds offset)) name email (time_text seconds offset) [] }
+    ensures { (name email : List ℕ) (seconds offset : ℤ) → IsLegalActor name email
+        → FitsSigned w64 seconds → IsOffset offset →
+        IsActorLine (actor_text name email (time_text seconds offset)) name email
+        (time_text seconds offset) [] }
 {}

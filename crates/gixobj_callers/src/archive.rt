@@ -3,8 +3,8 @@ ghost use Rattle.std.specs.Prelude.{◌≡◌, ◌↔◌, [], IfOk, IfSome, IsNo
 ghost use Rattle.gixobj_callers.specs.Archives.{IsTip};
 
 use gixobj_base::hash::Kind;
-use gixobj_import::{ImportError, Imported, Importer, Step, import_all};
 use gixobj_find::{Keep, KeepCommit};
+use gixobj_import::{ImportError, Imported, Importer, Step, import_all};
 use std::alloc::Global;
 
 /// Imports the steps of a history into a store, and answers what was imported last: its commit, and the root that was written

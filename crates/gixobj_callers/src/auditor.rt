@@ -42,7 +42,8 @@ pub fn values_of<'a>(
     name: &'a str,
 ) -> Result<Vec<BStr<'a>>, OutOfMemory>
     requires { IsHexOfAnId (commit_lines commit.now).tree }
-    ensures { IfOk result (λ it. map bstr_bytes it.items ≡ values_named name.now (commit_lines commit.now).extra_headers) }
+    ensures { IfOk result (λ it. map bstr_bytes it.items ≡ values_named name.now
+        (commit_lines commit.now).extra_headers) }
 {
     borrowed_headers_are_found();
     let values = commit.extra_headers().find_all(name).collect(alloc)?;
@@ -56,7 +57,9 @@ pub fn merged_tags_of<'a>(
     commit: &'a CommitRef<'_>,
 ) -> Result<Vec<Result<TagRef<'a>, Error>>, OutOfMemory>
     requires { IsHexOfAnId (commit_lines commit.now).tree }
-    ensures { IfOk result (λ it. (kind : Kind) × IsHexOf kind (commit_lines commit.now).tree × AllZip (IsTagOf kind) (values_named (codes "mergetag") (commit_lines commit.now).extra_headers) it.items) }
+    ensures { IfOk result (λ it. (kind : Kind) × IsHexOf kind (commit_lines commit.now).tree
+        × AllZip (IsTagOf kind) (values_named (codes "mergetag")
+        (commit_lines commit.now).extra_headers) it.items) }
 {
     borrowed_mergetags_are_found();
     let tags = commit.extra_headers().mergetags().collect(alloc)?;

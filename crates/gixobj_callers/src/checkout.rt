@@ -15,8 +15,8 @@ use bstr::BString;
 use gixobj_base::Tree;
 use gixobj_base::hash::{Kind, ObjectId};
 use gixobj_base::tree::EntryKind;
-use gixobj_object::Find;
 use gixobj_editor::editor::{Cursor, Editor, Error, WriteError, Written};
+use gixobj_object::Find;
 use std::fmt::Display;
 
 /// An entry that is to be put in, at a path from the directory of the checkout.
@@ -55,11 +55,18 @@ pub fn with_entries_at<S: Find + Drop, E: Drop, F: FnMut(&Tree) -> Result<Object
 ) -> Result<Written, CheckoutError<E>>
     requires well_formed { IsWellFormed root }
     requires callable { IsCallableOnTrees F.pre (λ f p g. CalledAt F.FnMut f p.1 (Ok p.0) g) out }
-    ensures files { IfOk result (λ written. (trees : Trees) → AreTreesOf (S.objects store) trees → (T : Table) (n : ℕ) → AgreesWithStore T trees → AgreesWithPairs T written.trees.items
-        → SameFiles (NamedFiles T n written.id) (History T n (steps_of_checkout (prefix_of (names_of prefix.now)) entries.now) (Files T n root))) }
+    ensures files { IfOk result (λ written. (trees : Trees) → AreTreesOf (S.objects store) trees
+        → (T : Table) (n : ℕ) → AgreesWithStore T trees → AgreesWithPairs T written.trees.items
+        → SameFiles (NamedFiles T n written.id) (History T n
+        (steps_of_checkout (prefix_of (names_of prefix.now)) entries.now) (Files T n root))) }
     // The directory was filled, and then the write came through; or else it is told which of them didn't, and why.
-    ensures done { IfOk result (IsCheckedOut (record { objects = S.objects; may_fail = S.may_fail }) (started store object_hash root) (prefix_of (names_of prefix.now)) entries.now (λ f p g. CalledAt F.FnMut f p.1 (Ok p.0) g) out) }
-    ensures refusal { IfErr result (RefusesCheckout (record { objects = S.objects; may_fail = S.may_fail }) (started store object_hash root) (prefix_of (names_of prefix.now)) entries.now (λ f p g. CalledAt F.FnMut f p.1 (Ok p.0) g) (λ f t e g. CalledAt F.FnMut f t (Err e) g) out) }
+    ensures done { IfOk result (IsCheckedOut (record { objects = S.objects; may_fail = S.may_fail })
+        (started store object_hash root) (prefix_of (names_of prefix.now)) entries.now
+        (λ f p g. CalledAt F.FnMut f p.1 (Ok p.0) g) out) }
+    ensures refusal { IfErr result (RefusesCheckout
+        (record { objects = S.objects; may_fail = S.may_fail }) (started store object_hash root)
+        (prefix_of (names_of prefix.now)) entries.now (λ f p g. CalledAt F.FnMut f p.1 (Ok p.0) g)
+        (λ f t e g. CalledAt F.FnMut f t (Err e) g) out) }
 {
     let mut editor = Editor::new(root, store, object_hash);
     if let Err(error) = put_entries_at(&mut editor, prefix, entries) {
@@ -77,8 +84,11 @@ fn put_entries_at<S: Find>(
     prefix: &[BString],
     entries: &[Planned],
 ) -> Result<(), Error>
-    ensures filled { OnOk result (IsFilled (record { objects = S.objects; may_fail = S.may_fail }) editor.old (prefix_of (names_of prefix.now)) entries.now editor.new) }
-    ensures refusal { IfErr result (IsNotFilled (record { objects = S.objects; may_fail = S.may_fail }) editor.old (prefix_of (names_of prefix.now)) entries.now) }
+    ensures filled { OnOk result (IsFilled (record { objects = S.objects; may_fail = S.may_fail })
+        editor.old (prefix_of (names_of prefix.now)) entries.now editor.new) }
+    ensures refusal { IfErr result
+        (IsNotFilled (record { objects = S.objects; may_fail = S.may_fail }) editor.old
+        (prefix_of (names_of prefix.now)) entries.now) }
 {
     let mut cursor = editor.cursor_at(prefix)?;
     put_entries(&mut cursor, entries)
@@ -87,8 +97,11 @@ fn put_entries_at<S: Find>(
 /// Puts entries into the directory of a cursor.
 fn put_entries<S: Find>(cursor: &mut Cursor<'_, S>, entries: &[Planned]) -> Result<(), Error>
     ensures same_reference { cursor.new.editor.ghost_name ≡ cursor.old.editor.ghost_name }
-    ensures put_in { OnOk result (ArePutIn (record { objects = S.objects; may_fail = S.may_fail }) cursor.old.editor.now.prefix cursor.old.editor.now entries.now cursor.new.editor.now) }
-    ensures refusal { IfErr result (AreNotPutIn (record { objects = S.objects; may_fail = S.may_fail }) cursor.old.editor.now.prefix cursor.old.editor.now entries.now) }
+    ensures put_in { OnOk result (ArePutIn (record { objects = S.objects; may_fail = S.may_fail })
+        cursor.old.editor.now.prefix cursor.old.editor.now entries.now cursor.new.editor.now) }
+    ensures refusal { IfErr result
+        (AreNotPutIn (record { objects = S.objects; may_fail = S.may_fail })
+        cursor.old.editor.now.prefix cursor.old.editor.now entries.now) }
 {
     for entry in entries {
         cursor.try_upsert(&entry.path, entry.kind, entry.id)?;

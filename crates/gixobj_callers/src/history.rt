@@ -73,7 +73,8 @@ pub fn ancestor<S: Find>(
     generations: u32,
 ) -> Result<ObjectId, Error>
     ensures found { IfOk result (IsAncestor (S.objects store.now) generations start) }
-    ensures refusal { IfErr result (RefusesWalk (S.objects store.now) (S.may_fail store.now) generations start) }
+    ensures refusal { IfErr result (RefusesWalk (S.objects store.now) (S.may_fail store.now)
+        generations start) }
 {
     let mut buffer = Vec::new(alloc);
     let mut id = start;
@@ -107,8 +108,11 @@ pub fn entry_of<S: Find>(
     commit: ObjectId,
     path: &[BString],
 ) -> Result<Option<Entry>, Error>
-    ensures found { IfOk result (λ found. (tree : StoredObject) × HasTree (S.objects store.now) commit tree × IsAtPath (S.objects store.now) (Some tree) (map bstring_bytes path.now) found) }
-    ensures refusal { IfErr result (RefusesEntryOfCommit (S.objects store.now) (S.may_fail store.now) commit (map bstring_bytes path.now)) }
+    ensures found { IfOk result (λ found. (tree : StoredObject)
+        × HasTree (S.objects store.now) commit tree
+        × IsAtPath (S.objects store.now) (Some tree) (map bstring_bytes path.now) found) }
+    ensures refusal { IfErr result (RefusesEntryOfCommit (S.objects store.now)
+        (S.may_fail store.now) commit (map bstring_bytes path.now)) }
 {
     let mut buffer = Vec::new(alloc);
     let tree = store

@@ -22,8 +22,8 @@ use gixobj_codec::CommitRef;
 use gixobj_codec::laws::{commit_has_one_reading, owned_forms_have_the_parts};
 use gixobj_directories::laws::every_store_names_trees;
 use gixobj_editor::editor::{Editor, Error, WriteError, Written};
-use gixobj_find::{Keep, KeepError};
 use gixobj_editor::{Command, Edit, EditReply, Reply, run};
+use gixobj_find::{Keep, KeepError};
 use std::alloc::Global;
 use std::fmt::Display;
 
@@ -84,14 +84,26 @@ pub fn import_files<S: Keep, E: Drop, F: Fn(&Tree) -> Result<ObjectId, E> + Drop
     out: F,
 ) -> Result<Written, ImportError<E>>
     requires callable { IsCallable F.pre out }
-    ensures root { IfOk result (λ written. (T : Table) (n : ℕ) → AgreesWithObjects T (S.objects editor.old.store) → AgreesWithPairs T written.trees.items → HasBases T (open_dirs editor.old) (open_bases editor.old)
-        → SameFiles (NamedFiles T n written.id) (History T n (import_steps edits.items) (EditorFiles T n editor.old))) }
-    ensures goes_on { IfOk result (λ written. (T : Table) (n : ℕ) → AgreesWithPairs T written.trees.items → SameFiles (EditorFiles T n editor.new) (NamedFiles T n written.id)) }
-    ensures has_bases { IfOk result (λ written. (T : Table) → HasBases T (open_dirs editor.new) (open_bases editor.new)) }
-    ensures kept { IfOk result (λ written. S.objects editor.new.store ≡ with_trees written.trees.items (S.objects editor.old.store)) }
+    ensures root { IfOk result (λ written. (T : Table) (n : ℕ)
+        → AgreesWithObjects T (S.objects editor.old.store) → AgreesWithPairs T written.trees.items
+        → HasBases T (open_dirs editor.old) (open_bases editor.old)
+        → SameFiles (NamedFiles T n written.id) (History T n (import_steps edits.items)
+        (EditorFiles T n editor.old))) }
+    ensures goes_on { IfOk result (λ written. (T : Table) (n : ℕ)
+        → AgreesWithPairs T written.trees.items → SameFiles (EditorFiles T n editor.new)
+        (NamedFiles T n written.id)) }
+    ensures has_bases { IfOk result (λ written. (T : Table)
+        → HasBases T (open_dirs editor.new) (open_bases editor.new)) }
+    ensures kept { IfOk result (λ written. S.objects editor.new.store ≡ with_trees
+        written.trees.items (S.objects editor.old.store)) }
     // Each edit came through, and then the write; or else it is told which call didn't, and why.
-    ensures done { IfOk result (λ written. IsWriteBehind (record { objects = S.objects; may_fail = S.may_fail }) (λ tree answer. FnReturnsAt F.Fn out tree answer) editor.old edits.items (EditReply.Written written) editor.new) }
-    ensures fails { IfErr result (λ error. FailsImport (record { objects = S.objects; may_fail = S.may_fail }) (λ tree answer. FnReturnsAt F.Fn out tree answer) editor.old edits.items error editor.new) }
+    ensures done { IfOk result (λ written. IsWriteBehind
+        (record { objects = S.objects; may_fail = S.may_fail })
+        (λ tree answer. FnReturnsAt F.Fn out tree answer) editor.old edits.items
+        (EditReply.Written written) editor.new) }
+    ensures fails { IfErr result (λ error. FailsImport
+        (record { objects = S.objects; may_fail = S.may_fail })
+        (λ tree answer. FnReturnsAt F.Fn out tree answer) editor.old edits.items error editor.new) }
     ensures holds_write { (result ≡ Err ImportError.HoldsWrite) ↔ Contains edits.items Edit.Write }
 {
     every_store_names_trees();
@@ -122,7 +134,10 @@ fn deciding_reply<S: Keep, E: Drop, F: Fn(&Tree) -> Result<ObjectId, E> + Drop>(
 ) -> Result<(usize, EditReply<E>), OutOfMemory>
     requires callable { IsCallable F.pre out }
     requires no_write { ¬ Contains edits.items Edit.Write }
-    ensures decides { IfOk result (λ it. Decides (record { objects = S.objects; may_fail = S.may_fail }) (λ tree answer. FnReturnsAt F.Fn out tree answer) editor.old edits.items it.0 it.1 editor.new) }
+    ensures decides { IfOk result
+        (λ it. Decides (record { objects = S.objects; may_fail = S.may_fail })
+        (λ tree answer. FnReturnsAt F.Fn out tree answer) editor.old edits.items it.0 it.1
+        editor.new) }
     ensures nothing_done { OnErr result (editor.new ≡ editor.old) }
 {
     let commands = commands_of(alloc, edits)?;
@@ -165,8 +180,11 @@ fn place_of_answer<E>(replies: &[Reply<E>]) -> Option<usize>
 /// actors by their parts, and times as they are written. Of a commit's text it is refused only for want
 /// of memory or room, for an actor with a byte that no owned one may have, or for an empty encoding.
 pub fn owned_copy_of(alloc: Global, text: &[u8], kind: Kind) -> Result<Vec<u8>, CopyError>
-    ensures parts { IfOk result (λ copy. (commit own : CommitLines) × IsCommitText kind text.now commit × AreOwnPartsOfCommit commit own × (copy.items ≡ commit_text own)) }
-    ensures refusal { IfErr result (λ error. (commit : CommitLines) → IsCommitText kind text.now commit → FailsForPart commit error) }
+    ensures parts { IfOk result (λ copy. (commit own : CommitLines)
+        × IsCommitText kind text.now commit × AreOwnPartsOfCommit commit own
+        × (copy.items ≡ commit_text own)) }
+    ensures refusal { IfErr result (λ error. (commit : CommitLines)
+        → IsCommitText kind text.now commit → FailsForPart commit error) }
 {
     owned_forms_have_the_parts();
     commit_has_one_reading();

@@ -23,16 +23,17 @@ use gixobj_codec::laws::{
     tree_readers_read_one_language, tree_reads_back, tree_writes_back,
 };
 use gixobj_codec::{TreeRef, TreeRefIter};
-use gixobj_object::Find;
 use gixobj_editor::editor::{Editor, Error, WriteError, Written};
 use gixobj_find::FindExt;
 use gixobj_find::find::existing_object;
+use gixobj_object::Find;
 use std::alloc::Global;
 use std::fmt::Display;
 
 /// Whether the bytes are the text of a tree: goes through its entries to their end, and takes no memory.
 pub fn is_tree(text: &[u8], kind: Kind) -> bool
-    ensures { MatchBool result ((entries : List EntryView) × IsTreeText kind text.now entries) (IsNoTreeText kind text.now) }
+    ensures { MatchBool result ((entries : List EntryView) × IsTreeText kind text.now entries)
+        (IsNoTreeText kind text.now) }
 {
     tree_readers_read_one_language();
     entries_are_passed();
@@ -134,11 +135,19 @@ pub fn with_entry_in_stored<S: Find + Drop, E: Drop, F: FnMut(&Tree) -> Result<O
     out: F,
 ) -> Result<Written, PlanError<E>>
     requires callable { IsCallableOnTrees F.pre (λ f p g. CalledAt F.FnMut f p.1 (Ok p.0) g) out }
-    ensures files { IfOk result (λ written. IsFalse (is_null root) → (trees : Trees) → AreTreesOf (S.objects store) trees → (T : Table) (n : ℕ) → AgreesWithStore T trees → AgreesWithPairs T written.trees.items
-        → SameFiles (NamedFiles T n written.id) (Upserted T n (names_of path.now) (mode_of_kind kind) id (NamedFiles T n root))) }
+    ensures files { IfOk result (λ written. IsFalse (is_null root) → (trees : Trees)
+        → AreTreesOf (S.objects store) trees → (T : Table) (n : ℕ) → AgreesWithStore T trees
+        → AgreesWithPairs T written.trees.items
+        → SameFiles (NamedFiles T n written.id) (Upserted T n (names_of path.now)
+        (mode_of_kind kind) id (NamedFiles T n root))) }
     // The root was found, the edit came through, and then the write; or else it is told which of them didn't, and why.
-    ensures done { IfOk result (IsPlanned (record { objects = S.objects; may_fail = S.may_fail }) store root (names_of path.now) (mode_of_kind kind) id (λ f p g. CalledAt F.FnMut f p.1 (Ok p.0) g) out) }
-    ensures refusal { IfErr result (RefusesPlan (record { objects = S.objects; may_fail = S.may_fail }) store root (names_of path.now) (mode_of_kind kind) id (λ f p g. CalledAt F.FnMut f p.1 (Ok p.0) g) (λ f t e g. CalledAt F.FnMut f t (Err e) g) out) }
+    ensures done { IfOk result (IsPlanned (record { objects = S.objects; may_fail = S.may_fail })
+        store root (names_of path.now) (mode_of_kind kind) id
+        (λ f p g. CalledAt F.FnMut f p.1 (Ok p.0) g) out) }
+    ensures refusal { IfErr result
+        (RefusesPlan (record { objects = S.objects; may_fail = S.may_fail }) store root
+        (names_of path.now) (mode_of_kind kind) id (λ f p g. CalledAt F.FnMut f p.1 (Ok p.0) g)
+        (λ f t e g. CalledAt F.FnMut f t (Err e) g) out) }
 {
     ids_are_the_same_or_not();
     let tree = match root_in(alloc, &store, root) {

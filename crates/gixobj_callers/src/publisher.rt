@@ -22,8 +22,10 @@ use std::alloc::Global;
 /// Reads a tag and writes it: a text comes back as it was where it is unsigned or its message is more than
 /// newlines. Of the text of a tag whose name may be a tag's it is refused only for want of room.
 pub fn tag_copy_of(alloc: Global, text: &[u8], kind: Kind) -> Result<Vec<u8>, CopyError>
-    ensures same { IfOk result (λ copy. (tag : TagLines) → IsTagText kind text.now tag → KeepsBody tag → copy.items ≡ text.now) }
-    ensures room { IfErr result (λ error. (tag : TagLines) → IsTagText kind text.now tag → IsTagName tag.name → FailsForRoom error) }
+    ensures same { IfOk result (λ copy. (tag : TagLines) → IsTagText kind text.now tag
+        → KeepsBody tag → copy.items ≡ text.now) }
+    ensures room { IfErr result (λ error. (tag : TagLines) → IsTagText kind text.now tag
+        → IsTagName tag.name → FailsForRoom error) }
 {
     tag_has_one_reading();
     tag_writes_back();
@@ -41,7 +43,8 @@ pub fn tag_copy_of(alloc: Global, text: &[u8], kind: Kind) -> Result<Vec<u8>, Co
 
 /// The id of the object that is tagged, told without reading the rest: of a tag's text it is always found.
 pub fn target_of(text: &[u8], kind: Kind) -> Option<ObjectId>
-    ensures { (tag : TagLines) → IsTagText kind text.now tag → (id : ObjectId) × (result ≡ Some id) × Spells tag.target id }
+    ensures { (tag : TagLines) → IsTagText kind text.now tag → (id : ObjectId) × (result ≡ Some id)
+        × Spells tag.target id }
 {
     parts_of_tags_are_found();
     match TagRefIter::from_bytes(text, kind).target_id() {
@@ -52,7 +55,9 @@ pub fn target_of(text: &[u8], kind: Kind) -> Option<ObjectId>
 
 /// The name of the tag, where it may be that of a reference.
 pub fn checked_name<'a>(tag: &TagRef<'a>) -> Option<BStr<'a>>
-    ensures { MatchOption result (¬ IsTagName (tag_lines tag.now).name) (λ name. (bstr_bytes name ≡ (tag_lines tag.now).name) × IsTagName (tag_lines tag.now).name) }
+    ensures { MatchOption result (¬ IsTagName (tag_lines tag.now).name)
+        (λ name. (bstr_bytes name ≡ (tag_lines tag.now).name)
+        × IsTagName (tag_lines tag.now).name) }
 {
     match validated_name(tag.name) {
         Ok(name) => Some(name),

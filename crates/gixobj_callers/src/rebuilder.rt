@@ -8,8 +8,8 @@ ghost use Rattle.gixobj_callers.specs.Rebuilds.{IsCompared, NamesWritten, Refuse
 use gixobj_base::hash::{Kind, ObjectId};
 use gixobj_base::{OutOfMemory, Tree};
 use gixobj_editor::editor::Editor;
-use gixobj_find::Keep;
 use gixobj_editor::{Command, EditReply, Reply, run};
+use gixobj_find::Keep;
 use std::alloc::Global;
 
 /// Why two writes of a script aren't compared.

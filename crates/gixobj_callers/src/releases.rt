@@ -15,9 +15,9 @@ use bstr::BStr;
 use gixobj_commit::{Commit, CommitRefIter};
 use gixobj_fields::{WriteTo, encode};
 use gixobj_hash::{Kind, decode, hash};
+use gixobj_signature::signature::verify::{self, Options, Outcome};
 use gixobj_signature::signature::{Runner, SignedData, sign};
 use gixobj_tag::TagRefIter;
-use gixobj_signature::signature::verify::{self, Options, Outcome};
 use std::alloc::Global;
 use std::borrow::CowSlice;
 
@@ -28,7 +28,8 @@ pub fn signed_text<R: Runner>(
     options: sign::Options,
     runner: &mut R,
 ) -> Result<Vec<u8>, sign::Error>
-    ensures signed { IfOk result (λ text. IsSignedText R.runs (signing.options_view options) commit runner.old text.items runner.new) }
+    ensures signed { IfOk result (λ text. IsSignedText R.runs (signing.options_view options) commit
+        runner.old text.items runner.new) }
     ensures refusal { IfErr result (RefusesSignedText R.runs options commit runner.old runner.new) }
 {
     match commit.sign(alloc, options, runner) {
@@ -43,7 +44,8 @@ pub fn signed_text<R: Runner>(
 /// The text of a commit.
 fn written(alloc: Global, commit: &Commit) -> Result<Vec<u8>, encode::Error>
     ensures text { IfOk result (λ text. text.items ≡ commit_text (owned_commit_lines commit.now)) }
-    ensures refusal { IfErr result (RefusesWritingCommit commit.now (commit_text (owned_commit_lines commit.now))) }
+    ensures refusal { IfErr result (RefusesWritingCommit commit.now
+        (commit_text (owned_commit_lines commit.now))) }
 {
     let mut text = Vec::new(alloc);
     commit.write_to_vec(alloc, &mut text)?;
@@ -78,9 +80,14 @@ pub fn audit<R: Runner>(
     options: Options,
     runner: &mut R,
 ) -> Result<Option<Outcome>, AuditError>
-    ensures audited { IfOk result (IsAudit R.runs (options_view options) kind hash_kind bytes.now runner.old runner.new) }
-    ensures accepted { IfOk result (λ it. IfSome it (λ outcome. (outcome_view outcome).valid ≡ true → IsAccepted R.runs (options_view options) kind hash_kind bytes.now runner.old (outcome_view outcome) runner.new)) }
-    ensures refusal { IfErr result (RefusesAudit R.runs (options_view options) kind hash_kind bytes.now runner.old runner.new) }
+    ensures audited { IfOk result (IsAudit R.runs (options_view options) kind hash_kind bytes.now
+        runner.old runner.new) }
+    ensures accepted { IfOk result (λ it. IfSome it
+        (λ outcome. (outcome_view outcome).valid ≡ true
+        → IsAccepted R.runs (options_view options) kind hash_kind bytes.now runner.old
+        (outcome_view outcome) runner.new)) }
+    ensures refusal { IfErr result (RefusesAudit R.runs (options_view options) kind hash_kind
+        bytes.now runner.old runner.new) }
 {
     match signature_of(alloc, kind, hash_kind, bytes) {
         Ok(Some((signature, signed))) => {
@@ -128,8 +135,11 @@ fn verified<R: Runner>(
     options: Options,
     runner: &mut R,
 ) -> Result<Outcome, verify::Error>
-    ensures came { ComesOfVerifying R.runs (options_view options) signature.now (signed_bytes signed.now) runner.old result runner.new }
-    ensures accepted { IfOk result (λ outcome. (outcome_view outcome).valid ≡ true → Vouches R.runs (options_view options) signature.now (signed_bytes signed.now) runner.old (outcome_view outcome) runner.new) }
+    ensures came { ComesOfVerifying R.runs (options_view options) signature.now
+        (signed_bytes signed.now) runner.old result runner.new }
+    ensures accepted { IfOk result (λ outcome. (outcome_view outcome).valid ≡ true
+        → Vouches R.runs (options_view options) signature.now (signed_bytes signed.now) runner.old
+        (outcome_view outcome) runner.new) }
 {
     signed.verify(alloc, BStr::new(signature), options, runner)
 }

@@ -40,7 +40,8 @@ pub fn sign_offs_of<'a>(
     alloc: Global,
     commit: &CommitRef<'a>,
 ) -> Result<Vec<TrailerRef<'a>>, OutOfMemory>
-    ensures { IfOk result (λ it. AreSignOffs (commit_lines commit.now).message (map trailer_view it.items)) }
+    ensures { IfOk result (λ it. AreSignOffs (commit_lines commit.now).message
+        (map trailer_view it.items)) }
 {
     readers_give_all();
     let mut found = Vec::new(alloc);

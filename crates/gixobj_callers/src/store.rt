@@ -38,8 +38,10 @@ pub enum CopyError {
 /// commit whose encoding isn't empty it is refused only for want of memory or room.
 pub fn copy_of(alloc: Global, text: &[u8], kind: Kind) -> Result<Vec<u8>, CopyError>
     ensures same { IfOk result (λ copy. (commit : CommitLines) → IsCommitText kind text.now commit →
-        AllPass is_lower_hex_digit commit.tree → All (λ hex. AllPass is_lower_hex_digit hex) commit.parents → copy.items ≡ text.now) }
-    ensures room { IfErr result (λ error. (commit : CommitLines) → IsCommitText kind text.now commit → commit.encoding ≢ Some [] → FailsForRoom error) }
+        AllPass is_lower_hex_digit commit.tree → All (λ hex. AllPass is_lower_hex_digit hex)
+        commit.parents → copy.items ≡ text.now) }
+    ensures room { IfErr result (λ error. (commit : CommitLines) → IsCommitText kind text.now commit
+        → commit.encoding ≢ Some [] → FailsForRoom error) }
 {
     commit_has_one_reading();
     commit_writes_back();
@@ -58,8 +60,10 @@ pub fn copy_of(alloc: Global, text: &[u8], kind: Kind) -> Result<Vec<u8>, CopyEr
 /// Reads a tree and writes it: a text in which each mode stands as it is written comes back as it was. Of
 /// the text of a tree it is refused only for want of memory or room.
 pub fn tree_copy_of(alloc: Global, text: &[u8], kind: Kind) -> Result<Vec<u8>, CopyError>
-    ensures same { IfOk result (λ copy. (entries : List EntryView) → HasOwnModes kind text.now entries → copy.items ≡ text.now) }
-    ensures room { IfErr result (λ error. (entries : List EntryView) → IsTreeText kind text.now entries → FailsForRoom error) }
+    ensures same { IfOk result (λ copy. (entries : List EntryView)
+        → HasOwnModes kind text.now entries → copy.items ≡ text.now) }
+    ensures room { IfErr result (λ error. (entries : List EntryView)
+        → IsTreeText kind text.now entries → FailsForRoom error) }
 {
     tree_has_one_reading();
     tree_writes_back();
@@ -93,8 +97,11 @@ pub enum TakeError {
 ///
 /// `Read` where it isn't a loose object, `Write` where its text isn't written, `Verify` where that has another id.
 pub fn taken_over(alloc: Global, loose: &[u8], id: oid<'_>) -> Result<Vec<u8>, TakeError>
-    ensures object { IfOk result (λ copy. (object : ObjectRef) × IsLooseObject (id_kind (borrowed_id id.entry)) loose.now object × (copy.items ≡ borrowed_object_text object)
-        × (id_of (id_kind (borrowed_id id.entry)) (borrowed_kind object) copy.items ≡ borrowed_id id.entry)) }
+    ensures object { IfOk result (λ copy. (object : ObjectRef)
+        × IsLooseObject (id_kind (borrowed_id id.entry)) loose.now object
+        × (copy.items ≡ borrowed_object_text object)
+        × (id_of (id_kind (borrowed_id id.entry)) (borrowed_kind object) copy.items ≡ borrowed_id
+        id.entry)) }
     ensures refusal { IfErr result (RefusesTaking loose.now (borrowed_id id.entry)) }
 {
     let object = match ObjectRef::from_loose(alloc, loose, id.kind()) {

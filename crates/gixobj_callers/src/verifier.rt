@@ -41,7 +41,8 @@ pub fn read_both_ways(text: &[u8], kind: Kind) -> Option<BothReadings<'_>>
 
 /// The target and the name of a tag, told without reading the rest: of a tag's text they always are.
 fn target_and_name(text: &[u8], kind: Kind) -> Option<(ObjectId, BStr<'_>)>
-    ensures found { IfSome result (λ it. (tag : TagLines) → IsTagText kind text.now tag → Spells tag.target it.0 × (bstr_bytes it.1 ≡ tag.name)) }
+    ensures found { IfSome result (λ it. (tag : TagLines) → IsTagText kind text.now tag
+        → Spells tag.target it.0 × (bstr_bytes it.1 ≡ tag.name)) }
     ensures none { IfNone result (IsNoTagText kind text.now) }
 {
     tag_readers_read_one_language();
@@ -56,8 +57,11 @@ fn target_and_name(text: &[u8], kind: Kind) -> Option<(ObjectId, BStr<'_>)>
 
 /// The next token. Where tokens are to come to the end of the bytes, it is the first of them.
 fn told<'a>(reader: &mut TagRefIter<'a>) -> Option<Token<'a>>
-    ensures found { IfSome result (λ token. (first : TagTokenView) (others : List TagTokenView) → IsToTell reader.old (first ∷ others) → (tag_token_view token ≡ first) × IsToTell reader.new others) }
-    ensures none { IfNone result ((first : TagTokenView) (others : List TagTokenView) → ¬ IsToTell reader.old (first ∷ others)) }
+    ensures found { IfSome result (λ token. (first : TagTokenView) (others : List TagTokenView)
+        → IsToTell reader.old (first ∷ others) → (tag_token_view token ≡ first)
+        × IsToTell reader.new others) }
+    ensures none { IfNone result ((first : TagTokenView) (others : List TagTokenView)
+        → ¬ IsToTell reader.old (first ∷ others)) }
 {
     tag_tokens_have_one_reading();
     match reader.next()? {
@@ -68,7 +72,8 @@ fn told<'a>(reader: &mut TagRefIter<'a>) -> Option<Token<'a>>
 
 /// The name that the token tells.
 fn name_of(token: Token<'_>) -> Option<BStr<'_>>
-    ensures found { IfSome result (λ name. tag_token_view token.entry ≡ name_token (bstr_bytes name)) }
+    ensures found { IfSome result (λ name. tag_token_view token.entry ≡ name_token
+        (bstr_bytes name)) }
     ensures none { IfNone result ((name : List ℕ) → tag_token_view token.entry ≢ name_token name) }
 {
     match token {

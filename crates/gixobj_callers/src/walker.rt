@@ -16,7 +16,8 @@ use std::alloc::Global;
 
 /// The tree of a commit. It is refused only where the text is no commit's.
 pub fn tree_of(alloc: Global, text: &[u8], kind: Kind) -> Result<ObjectId, Error>
-    ensures tree { IfOk result (λ id. (commit : CommitLines) → IsCommitText kind text.now commit → Spells commit.tree id) }
+    ensures tree { IfOk result (λ id. (commit : CommitLines) → IsCommitText kind text.now commit
+        → Spells commit.tree id) }
     ensures refusal { IfErr result (λ _. IsNoCommitText kind text.now) }
 {
     ids_are_found();
@@ -25,7 +26,8 @@ pub fn tree_of(alloc: Global, text: &[u8], kind: Kind) -> Result<ObjectId, Error
 
 /// The parents of a commit, in order.
 pub fn parents_of(alloc: Global, text: &[u8], kind: Kind) -> Result<Vec<ObjectId>, OutOfMemory>
-    ensures { IfOk result (λ ids. (commit : CommitLines) → IsCommitText kind text.now commit → AllZip Spells commit.parents ids.items) }
+    ensures { IfOk result (λ ids. (commit : CommitLines) → IsCommitText kind text.now commit
+        → AllZip Spells commit.parents ids.items) }
 {
     ids_are_found();
     let ids = CommitRefIter::from_bytes(alloc, text, kind)
@@ -36,8 +38,10 @@ pub fn parents_of(alloc: Global, text: &[u8], kind: Kind) -> Result<Vec<ObjectId
 
 /// The message of a commit. Of a commit's text it is refused only for want of memory.
 pub fn message_of<'a>(alloc: Global, text: &'a [u8], kind: Kind) -> Result<BStr<'a>, Error>
-    ensures message { IfOk result (λ message. (commit : CommitLines) → IsCommitText kind text.now commit → bstr_bytes message ≡ commit.message) }
-    ensures refusal { IfErr result (λ error. (commit : CommitLines) → IsCommitText kind text.now commit → error ≡ decode.OutOfMemory) }
+    ensures message { IfOk result (λ message. (commit : CommitLines)
+        → IsCommitText kind text.now commit → bstr_bytes message ≡ commit.message) }
+    ensures refusal { IfErr result (λ error. (commit : CommitLines)
+        → IsCommitText kind text.now commit → error ≡ decode.OutOfMemory) }
 {
     message_is_found();
     CommitRefIter::from_bytes(alloc, text, kind).message()

@@ -10,6 +10,9 @@ pub mod tag;
 pub mod tree;
 
 pub use gixobj_commit::{Commit, CommitRef, CommitRefIter};
-pub use gixobj_object::{Data, Exists, Find, FindHeader, FindObjectOrHeader, LooseDecodeError, Object, ObjectRef, Store, TreeRefIter, data, find};
+pub use gixobj_object::{
+    Data, Exists, Find, FindHeader, FindObjectOrHeader, LooseDecodeError, Object, ObjectRef, Store,
+    TreeRefIter, data, find,
+};
 pub use gixobj_tag::{Tag, TagRef, TagRefIter};
 pub use gixobj_tree::TreeRef;

@@ -4,6 +4,7 @@
 use crate::commit::writers::long_commit;
 use crate::commit::{PLAIN, SIGNED};
 use crate::helpers::{Answer, written};
+use crate::signing::played::Played;
 use crate::tags::tag_with;
 use bstr::BString;
 use gixobj_base::hash::Kind;
@@ -14,7 +15,6 @@ use gixobj_signature::signature::sign::{Error, Options};
 use gixobj_signature::signature::words::text;
 use gixobj_signature::signature::{Call, Output, verify};
 use gixobj_text::signature::Format;
-use crate::signing::played::Played;
 use std::alloc::Global;
 use std::test::Fail;
 

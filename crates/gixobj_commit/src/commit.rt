@@ -20,11 +20,14 @@ mod owned;
 mod sign;
 mod write;
 
+pub use crate::{
+    BorrowedHeaders, ExtraHeaders, FindAll, Mergetags, OwnedHeaders, Parents, SIGNATURE_FIELD_NAME,
+    SIGNATURE_FIELD_NAME_SHA256, signature_field_name,
+};
 use bstr::{BStr, BString};
 use gixobj_actor::actor::{Signature, SignatureRef};
 use gixobj_actor::date::Time;
 use gixobj_actor::parse::{actor_of_line, trimmed_actor};
-pub use crate::{BorrowedHeaders, ExtraHeaders, FindAll, Mergetags, OwnedHeaders, Parents, SIGNATURE_FIELD_NAME, SIGNATURE_FIELD_NAME_SHA256, signature_field_name};
 use gixobj_hash::decode::Error;
 use gixobj_hash::hash::ObjectId;
 use gixobj_hash::parse::id_of_hex;
@@ -92,7 +95,8 @@ impl<'a> CommitRef<'a> {
     /// The headers behind the author, the committer and the encoding. It takes no memory.
     pub fn extra_headers(&self) -> ExtraHeaders<BorrowedHeaders<'_, 'a>>
         requires { IsHexOfAnId (commit_lines self.now).tree }
-        ensures headers { headers_left (iterator_of result) ≡ (commit_lines self.now).extra_headers }
+        ensures headers { headers_left (iterator_of result) ≡ (commit_lines
+            self.now).extra_headers }
         ensures hash_kind { IsHexOf (hash_kind_of result) (commit_lines self.now).tree }
     {
         let hash_kind = self.tree().kind();
@@ -104,7 +108,8 @@ impl<'a> CommitRef<'a> {
     /// `Malformed` where the line is no actor's. It takes no memory.
     pub fn author(&self) -> Result<SignatureRef<'a>, Error>
         ensures found { IfOk result (IsTrimmedActor (commit_lines self.now).author) }
-        ensures refusal { IfErr result (λ e. (e ≡ Malformed) × IsNoActor (commit_lines self.now).author) }
+        ensures refusal { IfErr result (λ e. (e ≡ Malformed)
+            × IsNoActor (commit_lines self.now).author) }
     {
         trimmed_actor(self.author)
     }
@@ -114,7 +119,8 @@ impl<'a> CommitRef<'a> {
     /// `Malformed` where the line is no actor's. It takes no memory.
     pub fn committer(&self) -> Result<SignatureRef<'a>, Error>
         ensures found { IfOk result (IsTrimmedActor (commit_lines self.now).committer) }
-        ensures refusal { IfErr result (λ e. (e ≡ Malformed) × IsNoActor (commit_lines self.now).committer) }
+        ensures refusal { IfErr result (λ e. (e ≡ Malformed)
+            × IsNoActor (commit_lines self.now).committer) }
     {
         trimmed_actor(self.committer)
     }
@@ -125,7 +131,8 @@ impl<'a> CommitRef<'a> {
     /// `Malformed` where the line is no actor's. It takes no memory.
     pub fn time(&self) -> Result<Time, Error>
         ensures found { IfOk result (IsTimeOfLine (commit_lines self.now).committer) }
-        ensures refusal { IfErr result (λ e. (e ≡ Malformed) × IsNoActor (commit_lines self.now).committer) }
+        ensures refusal { IfErr result (λ e. (e ≡ Malformed)
+            × IsNoActor (commit_lines self.now).committer) }
     {
         let actor = actor_of_line(self.committer)?;
         match actor.time() {
@@ -164,7 +171,8 @@ impl CommitRef<'_> {
 impl Commit {
     /// The headers behind the author, the committer and the encoding. It takes no memory.
     pub fn extra_headers(&self) -> ExtraHeaders<OwnedHeaders<'_>>
-        ensures headers { owned_headers_left (iterator_of result) ≡ map owned_header_of self.now.extra_headers.items }
+        ensures headers { owned_headers_left (iterator_of result) ≡ map owned_header_of
+            self.now.extra_headers.items }
         ensures hash_kind { hash_kind_of result ≡ id_kind self.now.tree }
     {
         ExtraHeaders::new(OwnedHeaders::new(&self.extra_headers), self.tree.kind())

@@ -111,7 +111,8 @@ impl<'a, I: Iterator<Item = (BStr<'a>, BStr<'a>)> + Drop> ExtraHeaders<I> {
     pub fn pgp_signature(self) -> Option<BStr<'a>>
         requires can { I.can_next (iterator_of self) }
         requires ends { IsFinite (I.remaining (iterator_of self)) }
-        ensures { FindsValue I.next_gives (signature_field (hash_kind_of self)) (iterator_of self) result }
+        ensures { FindsValue I.next_gives (signature_field (hash_kind_of self)) (iterator_of self)
+            result }
     {
         let name = signature_field_name(self.hash_kind);
         self.find(name)

@@ -10,6 +10,9 @@ mod parents;
 pub mod ref_iter;
 
 pub use commit::{Commit, CommitRef};
-pub use extra_headers::{BorrowedHeaders, ExtraHeaders, FindAll, Mergetags, OwnedHeaders, SIGNATURE_FIELD_NAME, SIGNATURE_FIELD_NAME_SHA256, signature_field_name};
+pub use extra_headers::{
+    BorrowedHeaders, ExtraHeaders, FindAll, Mergetags, OwnedHeaders, SIGNATURE_FIELD_NAME,
+    SIGNATURE_FIELD_NAME_SHA256, signature_field_name,
+};
 pub use parents::Parents;
 pub use ref_iter::CommitRefIter;

@@ -64,7 +64,8 @@ pub fn read_line(
     kind: Kind,
     input: &[u8],
 ) -> Result<(Line<'_>, State, &[u8]), Error>
-    ensures found { IfOk result (λ it. HasLine kind before input.now (line_view it.0) it.1 it.2.now) }
+    ensures found { IfOk result (λ it. HasLine kind before input.now (line_view it.0) it.1
+        it.2.now) }
     ensures parsed { IfOk result (λ it. IsParsedLine it.0) }
     ensures refusal { IfErr result (RefusesLine kind before input.now) }
 {
@@ -82,7 +83,8 @@ pub fn read_line(
 #[inline(always)]
 #[tactic(auto, using(crate::specs::Lines::tree_comes))]
 fn read_tree(kind: Kind, input: &[u8]) -> Result<(Line<'_>, State, &[u8]), Error>
-    ensures found { IfOk result (λ it. HasLine kind state.Tree input.now (line_view it.0) it.1 it.2.now) }
+    ensures found { IfOk result (λ it. HasLine kind state.Tree input.now (line_view it.0) it.1
+        it.2.now) }
     ensures parsed { IfOk result (λ it. IsParsedLine it.0) }
     ensures refusal { IfErr result (RefusesLine kind state.Tree input.now) }
 {
@@ -96,7 +98,8 @@ fn read_tree(kind: Kind, input: &[u8]) -> Result<(Line<'_>, State, &[u8]), Error
 #[inline(always)]
 #[tactic(auto, using(crate::specs::Lines::parent_comes, crate::specs::Lines::author_comes))]
 fn read_parent_or_author(kind: Kind, input: &[u8]) -> Result<(Line<'_>, State, &[u8]), Error>
-    ensures found { IfOk result (λ it. HasLine kind state.Parents input.now (line_view it.0) it.1 it.2.now) }
+    ensures found { IfOk result (λ it. HasLine kind state.Parents input.now (line_view it.0) it.1
+        it.2.now) }
     ensures parsed { IfOk result (λ it. IsParsedLine it.0) }
     ensures refusal { IfErr result (RefusesLine kind state.Parents input.now) }
 {
@@ -113,7 +116,8 @@ fn read_parent_or_author(kind: Kind, input: &[u8]) -> Result<(Line<'_>, State, &
 #[inline(always)]
 #[tactic(auto, using(crate::specs::Lines::committer_comes))]
 fn read_committer(input: &[u8]) -> Result<(Line<'_>, State, &[u8]), Error>
-    ensures found { (kind : Kind) → IfOk result (λ it. HasLine kind state.Committer input.now (line_view it.0) it.1 it.2.now) }
+    ensures found { (kind : Kind) → IfOk result (λ it.
+        HasLine kind state.Committer input.now (line_view it.0) it.1 it.2.now) }
     ensures parsed { IfOk result (λ it. IsParsedLine it.0) }
     ensures refusal { (kind : Kind) → IfErr result (RefusesLine kind state.Committer input.now) }
 {
@@ -127,7 +131,8 @@ fn read_committer(input: &[u8]) -> Result<(Line<'_>, State, &[u8]), Error>
 #[inline(always)]
 #[tactic(auto, using(crate::specs::Lines::encoding_comes))]
 fn read_encoding_or_header(alloc: Global, input: &[u8]) -> Result<(Line<'_>, State, &[u8]), Error>
-    ensures found { (kind : Kind) → IfOk result (λ it. HasLine kind state.Encoding input.now (line_view it.0) it.1 it.2.now) }
+    ensures found { (kind : Kind) → IfOk result (λ it.
+        HasLine kind state.Encoding input.now (line_view it.0) it.1 it.2.now) }
     ensures parsed { IfOk result (λ it. IsParsedLine it.0) }
     ensures refusal { (kind : Kind) → IfErr result (RefusesLine kind state.Encoding input.now) }
 {
@@ -148,7 +153,8 @@ fn read_encoding_or_header(alloc: Global, input: &[u8]) -> Result<(Line<'_>, Sta
 #[inline(always)]
 #[tactic(auto, using(crate::specs::Lines::header_comes, crate::specs::Lines::message_comes, crate::proofs::LineRefusals::refuses_header))]
 fn read_header_or_message(alloc: Global, input: &[u8]) -> Result<(Line<'_>, State, &[u8]), Error>
-    ensures found { (kind : Kind) → IfOk result (λ it. HasLine kind state.ExtraHeaders input.now (line_view it.0) it.1 it.2.now) }
+    ensures found { (kind : Kind) → IfOk result (λ it.
+        HasLine kind state.ExtraHeaders input.now (line_view it.0) it.1 it.2.now) }
     ensures parsed { IfOk result (λ it. IsParsedLine it.0) }
     ensures refusal { (kind : Kind) → IfErr result (RefusesLine kind state.ExtraHeaders input.now) }
 {
@@ -163,7 +169,8 @@ fn read_header_or_message(alloc: Global, input: &[u8]) -> Result<(Line<'_>, Stat
 #[inline(always)]
 fn actor_line<'a>(input: &'a [u8], name: &[u8]) -> Option<(BStr<'a>, SignatureRef<'a>, &'a [u8])>
     ensures found { IfSome result (λ it. HasActor name.now input.now (bstr_bytes it.0) it.2.now) }
-    ensures parsed { IfSome result (λ it. IsActor (bstr_bytes it.0) (bstr_bytes it.1.name) (bstr_bytes it.1.email) (bstr_bytes it.1.time)) }
+    ensures parsed { IfSome result (λ it. IsActor (bstr_bytes it.0) (bstr_bytes it.1.name)
+        (bstr_bytes it.1.email) (bstr_bytes it.1.time)) }
     ensures none { IfNone result (HasNoActor name.now input.now) }
 {
     let Some((line, rest)) = header_field(input, name) else {

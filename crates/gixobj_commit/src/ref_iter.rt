@@ -10,13 +10,13 @@ mod filters;
 mod parts;
 mod signature;
 
+use crate::lines::{Line, State, read_line};
 use bstr::BStr;
 pub use filters::{ParentIds, Signatures};
 use gixobj_actor::actor::SignatureRef;
 use gixobj_hash::decode::Error;
 use gixobj_hash::hash::{Kind, ObjectId, oid};
 use gixobj_hash::parse::id_of_hex;
-use crate::lines::{Line, State, read_line};
 use std::alloc::Global;
 use std::borrow::CowSlice;
 
@@ -131,7 +131,8 @@ impl<'a> Token<'a> {
 impl<'a> Token<'a> {
     /// The id of a tree or a parent, borrowed.
     pub fn id(&self) -> Option<oid<'_>>
-        ensures { MatchOption result (commit_token_id (commit_token_view self.now) ≡ None) (λ id. commit_token_id (commit_token_view self.now) ≡ Some (borrowed_id id)) }
+        ensures { MatchOption result (commit_token_id (commit_token_view self.now) ≡ None)
+            (λ id. commit_token_id (commit_token_view self.now) ≡ Some (borrowed_id id)) }
     {
         match self {
             Token::Tree { id } | Token::Parent { id } => Some(id.as_oid()),

@@ -73,7 +73,8 @@ impl Model for Open {
 /// The place of a directory among those that are open.
 pub(crate) fn child_at(children: &[Child], name: &BString) -> Option<usize>
     requires { AreOrdered (parts children.now) }
-    ensures { result ≡ position (λ c. same_name (bstring_bytes c.name) (bstring_bytes name.now)) children.now }
+    ensures { result ≡ position (λ c. same_name (bstring_bytes c.name) (bstring_bytes name.now))
+        children.now }
 {
     child_place(children, name).ok()
 }
@@ -81,7 +82,8 @@ pub(crate) fn child_at(children: &[Child], name: &BString) -> Option<usize>
 /// The place of the directory of a name, or else that where it would stand: sought by halves.
 fn child_place(children: &[Child], name: &BString) -> Result<usize, usize>
     requires { AreOrdered (parts children.now) }
-    ensures found { result_ok result ≡ position (λ c. same_name (bstring_bytes c.name) (bstring_bytes name.now)) children.now }
+    ensures found { result_ok result ≡ position (λ c.
+        same_name (bstring_bytes c.name) (bstring_bytes name.now)) children.now }
     ensures place { MatchResult result
         (λ i. i ≡ prefix_len (is_child_before (bstring_bytes name.now)) children.now)
         (λ i. i ≡ prefix_len (is_child_before (bstring_bytes name.now)) children.now) }
@@ -103,7 +105,8 @@ fn child_place(children: &[Child], name: &BString) -> Result<usize, usize>
 impl Child {
     /// The order of its entry and that of a directory of this name.
     fn order(&self, name: &BString) -> Ordering
-        ensures { result ≡ slice_cmp nat_cmp (key_of (bstring_bytes self.now.name) true) (key_of (bstring_bytes name.now) true) }
+        ensures { result ≡ slice_cmp nat_cmp (key_of (bstring_bytes self.now.name) true)
+            (key_of (bstring_bytes name.now) true) }
     {
         key_order(self.name.as_bytes(), true, name.as_bytes(), true)
     }
@@ -165,9 +168,12 @@ impl Open {
     ///
     /// It takes no memory.
     pub fn directory(&self, path: &[BString]) -> Option<&Open>
-        ensures found { IfSome result (λ it. (at : Path) → dirs_of it.now at ≡ dirs_of self.now (names_of path.now ++ at)) }
-        ensures none { IfNone result ((at : Path) → dirs_of self.now (names_of path.now ++ at) ≡ None) }
-        ensures root { IfSome result (λ it. (entries : List EntryView) × (dirs_of it.now [] ≡ Some entries)) }
+        ensures found { IfSome result (λ it. (at : Path)
+            → dirs_of it.now at ≡ dirs_of self.now (names_of path.now ++ at)) }
+        ensures none { IfNone result ((at : Path) → dirs_of self.now
+            (names_of path.now ++ at) ≡ None) }
+        ensures root { IfSome result (λ it. (entries : List EntryView)
+            × (dirs_of it.now [] ≡ Some entries)) }
     {
         let _ = &self.tree;
         let Some((name, rest)) = path.split_first() else {
@@ -216,8 +222,10 @@ impl Open {
         null: ObjectId,
     ) -> Result<(), AllocError>
         requires { AllByRecursion IsEntryName (names_of path.now) }
-        ensures ok { OnOk result ((at : Path) → dirs_of self.new at ≡ upserted_dirs (names_of path.now) (mode_bits mode) id null (dirs_of self.old) at) }
-        ensures bases { OnOk result ((at : Path) → bases_of self.new at ≡ edited_bases (dirs_of self.old) (dirs_of self.new) (bases_of self.old) at) }
+        ensures ok { OnOk result ((at : Path) → dirs_of self.new at ≡ upserted_dirs
+            (names_of path.now) (mode_bits mode) id null (dirs_of self.old) at) }
+        ensures bases { OnOk result ((at : Path) → bases_of self.new at ≡ edited_bases
+            (dirs_of self.old) (dirs_of self.new) (bases_of self.old) at) }
         ensures unchanged { OnErr result (self.new ≡ self.old) }
     {
         let Some((name, rest)) = path.split_first() else {
@@ -243,8 +251,10 @@ impl Open {
     ///
     /// It takes no memory.
     pub fn take(&mut self, path: &[BString])
-        ensures dirs { (at : Path) → dirs_of self.new at ≡ removed_dirs (names_of path.now) (dirs_of self.old) at }
-        ensures bases { (at : Path) → bases_of self.new at ≡ edited_bases (dirs_of self.old) (dirs_of self.new) (bases_of self.old) at }
+        ensures dirs { (at : Path) → dirs_of self.new at ≡ removed_dirs (names_of path.now)
+            (dirs_of self.old) at }
+        ensures bases { (at : Path) → bases_of self.new at ≡ edited_bases (dirs_of self.old)
+            (dirs_of self.new) (bases_of self.old) at }
     {
         let Some((name, rest)) = path.split_first() else {
             return;
@@ -302,7 +312,8 @@ fn put_entry(
 ) -> Result<(), AllocError>
     requires well_formed { IsWellFormed tree.old }
     requires name { IsEntryName (bstring_bytes name.now) }
-    ensures ok { OnOk result (tree.new ≡ with_entry (record { mode = mode_bits mode; name = bstring_bytes name.now; id = id }) tree.old) }
+    ensures ok { OnOk result (tree.new ≡ with_entry
+        (record { mode = mode_bits mode; name = bstring_bytes name.now; id = id }) tree.old) }
     ensures unchanged { OnErr result (tree.new ≡ tree.old) }
 {
     let alloc = *tree.entries.allocator();
@@ -358,8 +369,11 @@ pub(crate) fn add_directory(
     requires well_formed { IsWellFormed tree.old }
     requires name { IsEntryName (bstring_bytes name.now) }
     requires ordered { AreOrdered (parts children.old.items) }
-    ensures ok { OnOk result ((tree.new ≡ with_directory (bstring_bytes name.now) null tree.old) × (parts children.new.items ≡ with_part (bstring_bytes name.now, inner) (parts children.old.items))) }
-    ensures unchanged { OnErr result ((tree.new ≡ tree.old) × (children.new.items ≡ children.old.items)) }
+    ensures ok { OnOk result ((tree.new ≡ with_directory (bstring_bytes name.now) null tree.old)
+        × (parts children.new.items ≡ with_part (bstring_bytes name.now, inner)
+        (parts children.old.items))) }
+    ensures unchanged { OnErr result ((tree.new ≡ tree.old)
+        × (children.new.items ≡ children.old.items)) }
 {
     let alloc = *tree.entries.allocator();
     let own_name = room_for(alloc, children, name)?;
@@ -371,7 +385,8 @@ pub(crate) fn add_directory(
 /// Shuts the directory of a name.
 fn drop_child(children: &mut Vec<Child>, name: &BString)
     requires { AreOrdered (parts children.old.items) }
-    ensures { parts children.new.items ≡ other_parts (bstring_bytes name.now) (parts children.old.items) }
+    ensures { parts children.new.items ≡ other_parts (bstring_bytes name.now)
+        (parts children.old.items) }
 {
     if let Some(place) = child_at(children, name) {
         children.remove(place);
@@ -384,7 +399,8 @@ pub(crate) fn room_for(
     children: &mut Vec<Child>,
     name: &BString,
 ) -> Result<BString, AllocError>
-    ensures ok { IfOk result (λ copied. (bstring_bytes copied ≡ bstring_bytes name.now) × (vec_len children.new < vec_capacity children.new)) }
+    ensures ok { IfOk result (λ copied. (bstring_bytes copied ≡ bstring_bytes name.now)
+        × (vec_len children.new < vec_capacity children.new)) }
     ensures items { children.new.items ≡ children.old.items }
 {
     let copied = BString::from_slice(alloc, name.as_bytes())?;
@@ -396,7 +412,8 @@ pub(crate) fn room_for(
 pub(crate) fn put_child(children: &mut Vec<Child>, name: BString, inner: Open)
     requires room { vec_len children.old < vec_capacity children.old }
     requires ordered { AreOrdered (parts children.old.items) }
-    ensures { parts children.new.items ≡ with_part (bstring_bytes name, inner) (parts children.old.items) }
+    ensures { parts children.new.items ≡ with_part (bstring_bytes name, inner)
+        (parts children.old.items) }
 {
     let place = place_for(children, &name);
     let _ = children.insert(place, Child { name, open: inner });
@@ -416,8 +433,11 @@ fn place_for(children: &[Child], name: &BString) -> usize
 /// The id of the entry of a name, where that is of a tree's mode.
 pub(crate) fn tree_id(tree: &Tree, name: &BString) -> Option<ObjectId>
     requires { IsWellFormed tree.now }
-    ensures some { IfSome result (λ id. (e : EntryView) × IsEntryOf (bstring_bytes name.now) (Some tree.now) e × (is_tree_mode e.mode ≡ true) × (e.id ≡ id)) }
-    ensures none { IfNone result ((e : EntryView) → Has tree.now e → e.name ≡ bstring_bytes name.now → is_tree_mode e.mode ≡ false) }
+    ensures some { IfSome result (λ id. (e : EntryView)
+        × IsEntryOf (bstring_bytes name.now) (Some tree.now) e × (is_tree_mode e.mode ≡ true)
+        × (e.id ≡ id)) }
+    ensures none { IfNone result ((e : EntryView) → Has tree.now e → e.name ≡ bstring_bytes name.now
+        → is_tree_mode e.mode ≡ false) }
 {
     let entry = find_entry(tree, name)?;
     if entry.mode.is_tree() {
@@ -430,7 +450,8 @@ pub(crate) fn tree_id(tree: &Tree, name: &BString) -> Option<ObjectId>
 /// The entry of a name.
 fn find_entry<'a>(tree: &'a Tree, name: &BString) -> Option<&'a Entry>
     requires { IsWellFormed tree.now }
-    ensures { option_copied result ≡ find (λ e. same_name e.name (bstring_bytes name.now)) tree.now }
+    ensures { option_copied result ≡ find (λ e. same_name e.name (bstring_bytes name.now))
+        tree.now }
 {
     match place_of(&tree.entries, name.as_bytes()) {
         Some(place) => Some(&tree.entries[place]),

@@ -17,11 +17,11 @@ ghost use Rattle.gixobj_directories.specs.declared.opening.Unasked.TheVariants.{
 
 use crate::open::{Open, child_at, copy_tree, put_child, room_for, tree_id};
 use bstr::BString;
-use gixobj_object::{Find, find};
-use gixobj_hash::hash::ObjectId;
-use gixobj_hash::{OutOfMemory, decode};
 use gixobj_find::FindExt;
 use gixobj_find::find::existing_object;
+use gixobj_hash::hash::ObjectId;
+use gixobj_hash::{OutOfMemory, decode};
+use gixobj_object::{Find, find};
 use gixobj_tree::Tree;
 use std::alloc::{AllocError, Global};
 
@@ -108,8 +108,11 @@ fn is_unasked(id: ObjectId) -> bool
 /// The id of the directory of a name, where there is one and an opening goes into it.
 fn next_id(tree: &Tree, name: &BString, unasked: Unasked) -> Option<ObjectId>
     requires { IsWellFormed tree.now }
-    ensures some { IfSome result (λ id. (e : EntryView) × IsEntryOf (bstring_bytes name.now) (Some tree.now) e × (is_tree_mode e.mode ≡ true) × (¬ EndsBefore unasked e) × (e.id ≡ id)) }
-    ensures none { IfNone result ((e : EntryView) → Has tree.now e → e.name ≡ bstring_bytes name.now → EndsBefore unasked e) }
+    ensures some { IfSome result (λ id. (e : EntryView)
+        × IsEntryOf (bstring_bytes name.now) (Some tree.now) e × (is_tree_mode e.mode ≡ true)
+        × (¬ EndsBefore unasked e) × (e.id ≡ id)) }
+    ensures none { IfNone result ((e : EntryView) → Has tree.now e → e.name ≡ bstring_bytes name.now
+        → EndsBefore unasked e) }
 {
     let id = tree_id(tree, name)?;
     if unasked.leaves(id) {
@@ -122,7 +125,8 @@ fn next_id(tree: &Tree, name: &BString, unasked: Unasked) -> Option<ObjectId>
 fn find_directory<S: Find>(alloc: Global, store: &S, id: ObjectId) -> Result<Tree, Error>
     requires { ¬ IsUnaskedId id }
     ensures found { IfOk result (λ tree. NamesTree (S.objects store.now) id tree) }
-    ensures refusal { IfErr result (RefusesDirectory (S.objects store.now) (S.may_fail store.now) id) }
+    ensures refusal { IfErr result (RefusesDirectory (S.objects store.now) (S.may_fail store.now)
+        id) }
 {
     let mut buffer = Vec::new(alloc);
     let tree = store.find_tree(alloc, id.as_oid(), &mut buffer)?;
@@ -138,7 +142,8 @@ fn find_copied<S: Find>(alloc: Global, store: &S, id: ObjectId) -> Result<(Tree,
     requires { ¬ IsUnaskedId id }
     ensures found { IfOk result (λ it. NamesTree (S.objects store.now) id it.0) }
     ensures copied { IfOk result (λ it. it.1 ≡ it.0) }
-    ensures refusal { IfErr result (RefusesDirectory (S.objects store.now) (S.may_fail store.now) id) }
+    ensures refusal { IfErr result (RefusesDirectory (S.objects store.now) (S.may_fail store.now)
+        id) }
 {
     let tree = find_directory(alloc, store, id)?;
     let copied = copy_tree(alloc, &tree)?;
@@ -155,9 +160,13 @@ fn load<S: Find>(
 ) -> Result<(Tree, Tree), Error>
     ensures well_formed { IfOk result (λ it. IsWellFormed it.0) }
     ensures copied { IfOk result (λ it. it.1 ≡ it.0) }
-    ensures found { IfOk result (λ it. (trees : Trees) → AreTreesOf (S.objects store.now) trees → (asked : List ObjectId) × Finds trees id it.0 asked × (lookups.new ≡ counted lookups.old asked)) }
-    ensures asked { OnErr result ((¬ IsUnaskedId id) × (lookups.new ≡ counted lookups.old (id ∷ []))) }
-    ensures refusal { IfErr result (RefusesDirectory (S.objects store.now) (S.may_fail store.now) id) }
+    ensures found { IfOk result (λ it. (trees : Trees) → AreTreesOf (S.objects store.now) trees
+        → (asked : List ObjectId) × Finds trees id it.0 asked
+        × (lookups.new ≡ counted lookups.old asked)) }
+    ensures asked { OnErr result ((¬ IsUnaskedId id)
+        × (lookups.new ≡ counted lookups.old (id ∷ []))) }
+    ensures refusal { IfErr result (RefusesDirectory (S.objects store.now) (S.may_fail store.now)
+        id) }
 {
     if is_unasked(id) {
         return Ok((Tree::empty(alloc), Tree::empty(alloc)));
@@ -183,11 +192,19 @@ impl Open {
         store: &S,
         lookups: &mut u64,
     ) -> Result<(), Error>
-        ensures opened { OnOk result ((trees : Trees) → AreTreesOf (S.objects store.now) trees → (asked : List ObjectId) × Opens (EndsBefore unasked) trees (names_of path.now) (dirs_of self.old) (dirs_of self.new) asked × (lookups.new ≡ counted lookups.old asked)) }
-        ensures halted { IfErr result (λ error. (trees : Trees) → AreTreesOf (S.objects store.now) trees → (asked : List ObjectId) × (vain : Option ObjectId) × Halts (EndsBefore unasked) trees (names_of path.now) (dirs_of self.old) (dirs_of self.new) asked vain
-            × (lookups.new ≡ counted lookups.old asked) × RefusesAt (S.objects store.now) (S.may_fail store.now) vain error) }
+        ensures opened { OnOk result ((trees : Trees) → AreTreesOf (S.objects store.now) trees
+            → (asked : List ObjectId) × Opens (EndsBefore unasked) trees (names_of path.now)
+            (dirs_of self.old) (dirs_of self.new) asked
+            × (lookups.new ≡ counted lookups.old asked)) }
+        ensures halted { IfErr result (λ error. (trees : Trees)
+            → AreTreesOf (S.objects store.now) trees → (asked : List ObjectId)
+            × (vain : Option ObjectId) × Halts (EndsBefore unasked) trees (names_of path.now)
+            (dirs_of self.old) (dirs_of self.new) asked vain
+            × (lookups.new ≡ counted lookups.old asked)
+            × RefusesAt (S.objects store.now) (S.may_fail store.now) vain error) }
         ensures still_opened { IsOpened (dirs_of self.old) → IsOpened (dirs_of self.new) }
-        ensures bases { (at : Path) → bases_of self.new at ≡ opened_bases (dirs_of self.old) (dirs_of self.new) (bases_of self.old) at }
+        ensures bases { (at : Path) → bases_of self.new at ≡ opened_bases (dirs_of self.old)
+            (dirs_of self.new) (bases_of self.old) at }
         ensures same_root { dirs_of self.new [] ≡ dirs_of self.old [] }
         ensures root { (entries : List EntryView) × (dirs_of self.old [] ≡ Some entries) }
     {

@@ -79,7 +79,8 @@ fn leaves<E, F: FnMut(&Tree) -> Result<ObjectId, E>>(
     pairs: &mut Vec<(ObjectId, Tree)>,
     saved: &mut usize,
 ) -> Result<OwnTree, WriteError<E>>
-    requires callable { IsCallableOnTrees F.pre (λ f p g. CalledAt F.FnMut f p.1 (Ok p.0) g) out.old }
+    requires callable { IsCallableOnTrees F.pre (λ f p g. CalledAt F.FnMut f p.1 (Ok p.0) g)
+        out.old }
     ensures beside { IfOk result (IsBeside base.now) }
     ensures ok { IfOk result (λ own. (below : List Pair) × (count : ℕ)
         × Leaves (dirs_of node.now) (bases_of node.now) below (so_far base.now own) count
@@ -126,17 +127,20 @@ fn visit<E, F: FnMut(&Tree) -> Result<ObjectId, E>>(
     pairs: &mut Vec<(ObjectId, Tree)>,
     saved: &mut usize,
 ) -> Result<Option<ObjectId>, WriteError<E>>
-    requires callable { IsCallableOnTrees F.pre (λ f p g. CalledAt F.FnMut f p.1 (Ok p.0) g) out.old }
+    requires callable { IsCallableOnTrees F.pre (λ f p g. CalledAt F.FnMut f p.1 (Ok p.0) g)
+        out.old }
     ensures ok { IfOk result (λ id. (inner : List Pair) × (count : ℕ)
         × Visits (child_side entries_side (option_copied child.entry))
-        (child_side base_side (option_copied child.entry)) entry.now inner (kept_with entry.now id) count
+        (child_side base_side (option_copied child.entry)) entry.now inner (kept_with entry.now id)
+        count
         × (saved.new ≡ raised saved.old count) × (pairs.new.items ≡ pairs.old.items ++ inner)
         × FoldsTo (λ f p g. CalledAt F.FnMut f p.1 (Ok p.0) g) out.old inner out.new) }
     ensures stopped { IfErr result (Stopped (λ f p g. CalledAt F.FnMut f p.1 (Ok p.0) g)
         (λ f t e g. CalledAt F.FnMut f t (Err e) g)
         (λ inner. (kept : List EntryView) × (count : ℕ)
         × Visits (child_side entries_side (option_copied child.entry))
-        (child_side base_side (option_copied child.entry)) entry.now inner kept count) out.old out.new) }
+        (child_side base_side (option_copied child.entry)) entry.now inner kept count) out.old
+        out.new) }
 {
     let Some(child) = child else {
         return Ok(Some(entry.oid));
@@ -164,7 +168,8 @@ fn leaves_copied<E, F: FnMut(&Tree) -> Result<ObjectId, E>>(
     pairs: &mut Vec<(ObjectId, Tree)>,
     saved: &mut usize,
 ) -> Result<Tree, WriteError<E>>
-    requires callable { IsCallableOnTrees F.pre (λ f p g. CalledAt F.FnMut f p.1 (Ok p.0) g) out.old }
+    requires callable { IsCallableOnTrees F.pre (λ f p g. CalledAt F.FnMut f p.1 (Ok p.0) g)
+        out.old }
     ensures ok { IfOk result (λ own. (below : List Pair) × (count : ℕ)
         × Leaves (dirs_of node.now) (bases_of node.now) below own count
         × (saved.new ≡ raised saved.old count) × (pairs.new.items ≡ pairs.old.items ++ below)
@@ -208,10 +213,14 @@ fn hand<E, F: FnMut(&Tree) -> Result<ObjectId, E>>(
     out: &mut F,
     pairs: &mut Vec<(ObjectId, Tree)>,
 ) -> Result<ObjectId, WriteError<E>>
-    requires callable { IsCallableOnTrees F.pre (λ f p g. CalledAt F.FnMut f p.1 (Ok p.0) g) out.old }
+    requires callable { IsCallableOnTrees F.pre (λ f p g. CalledAt F.FnMut f p.1 (Ok p.0) g)
+        out.old }
     requires storable { IsStorable tree }
-    ensures ok { IfOk result (λ id. (pairs.new.items ≡ pairs.old.items ++ (id, tree) ∷ []) × CalledAt F.FnMut out.old tree (Ok id) out.new) }
-    ensures stopped { IfErr result (Stopped (λ f p g. CalledAt F.FnMut f p.1 (Ok p.0) g) (λ f t e g. CalledAt F.FnMut f t (Err e) g) (λ ps. (id : ObjectId) × (ps ≡ (id, tree) ∷ [])) out.old out.new) }
+    ensures ok { IfOk result (λ id. (pairs.new.items ≡ pairs.old.items ++ (id, tree) ∷ [])
+        × CalledAt F.FnMut out.old tree (Ok id) out.new) }
+    ensures stopped { IfErr result (Stopped (λ f p g. CalledAt F.FnMut f p.1 (Ok p.0) g)
+        (λ f t e g. CalledAt F.FnMut f t (Err e) g) (λ ps. (id : ObjectId) × (ps ≡ (id, tree) ∷ []))
+        out.old out.new) }
 {
     pairs.reserve(1)?;
     match out(&tree) {
@@ -269,11 +278,17 @@ pub fn write_all<E, F: FnMut(&Tree) -> Result<ObjectId, E>>(
     out: &mut F,
 ) -> Result<Written, WriteError<E>>
     requires { IsCallableOnTrees F.pre (λ f p g. CalledAt F.FnMut f p.1 (Ok p.0) g) out.old }
-    ensures ok { IfOk result (λ it. (below : List Pair) × (own : List EntryView) × Saves (dirs_of node.old) (bases_of node.old) below own it.saved × (it.trees.items ≡ below ++ (it.id, own) ∷ [])
-        × FoldsTo (λ f p g. CalledAt F.FnMut f p.1 (Ok p.0) g) out.old (below ++ (it.id, own) ∷ []) out.new × IsStorable own
+    ensures ok { IfOk result (λ it. (below : List Pair) × (own : List EntryView)
+        × Saves (dirs_of node.old) (bases_of node.old) below own it.saved
+        × (it.trees.items ≡ below ++ (it.id, own) ∷ [])
+        × FoldsTo (λ f p g. CalledAt F.FnMut f p.1 (Ok p.0) g) out.old (below ++ (it.id, own) ∷ [])
+        out.new × IsStorable own
         × ((base : List EntryView) × (node.new ≡ opened own base []))) }
-    ensures bases { OnOk result ((at : Path) → bases_of node.new at ≡ edited_bases (dirs_of node.old) (dirs_of node.new) (bases_of node.old) at) }
-    ensures stopped { IfErr result (Stopped (λ f p g. CalledAt F.FnMut f p.1 (Ok p.0) g) (λ f t e g. CalledAt F.FnMut f t (Err e) g) (HandsOutSome (dirs_of node.old) (bases_of node.old)) out.old out.new) }
+    ensures bases { OnOk result ((at : Path) → bases_of node.new at ≡ edited_bases
+        (dirs_of node.old) (dirs_of node.new) (bases_of node.old) at) }
+    ensures stopped { IfErr result (Stopped (λ f p g. CalledAt F.FnMut f p.1 (Ok p.0) g)
+        (λ f t e g. CalledAt F.FnMut f t (Err e) g)
+        (HandsOutSome (dirs_of node.old) (bases_of node.old)) out.old out.new) }
     ensures unchanged { OnErr result (node.new ≡ node.old) }
 {
     let mut trees = Vec::new(alloc);
@@ -294,13 +309,23 @@ pub fn write_at<E, F: FnMut(&Tree) -> Result<ObjectId, E>>(
     path: &[BString],
     out: &mut F,
 ) -> Result<Written, WriteError<E>>
-    requires callable { IsCallableOnTrees F.pre (λ f p g. CalledAt F.FnMut f p.1 (Ok p.0) g) out.old }
+    requires callable { IsCallableOnTrees F.pre (λ f p g. CalledAt F.FnMut f p.1 (Ok p.0) g)
+        out.old }
     requires is_open { dirs_of node.old (names_of path.now) ≢ None }
-    ensures ok { IfOk result (λ it. (below : List Pair) × (own : List EntryView) × Saves (in_path (names_of path.now) (dirs_of node.old)) (in_path (names_of path.now) (bases_of node.old)) below own it.saved × (it.trees.items ≡ below ++ (it.id, own) ∷ [])
-        × FoldsTo (λ f p g. CalledAt F.FnMut f p.1 (Ok p.0) g) out.old (below ++ (it.id, own) ∷ []) out.new × IsStorable own
-        × ((at : Path) → dirs_of node.new at ≡ with_path (names_of path.now) (only own) (dirs_of node.old) at)) }
-    ensures bases { OnOk result ((at : Path) → bases_of node.new at ≡ edited_bases (dirs_of node.old) (dirs_of node.new) (bases_of node.old) at) }
-    ensures stopped { IfErr result (Stopped (λ f p g. CalledAt F.FnMut f p.1 (Ok p.0) g) (λ f t e g. CalledAt F.FnMut f t (Err e) g) (HandsOutSome (in_path (names_of path.now) (dirs_of node.old)) (in_path (names_of path.now) (bases_of node.old))) out.old out.new) }
+    ensures ok { IfOk result (λ it. (below : List Pair) × (own : List EntryView)
+        × Saves (in_path (names_of path.now) (dirs_of node.old))
+        (in_path (names_of path.now) (bases_of node.old)) below own it.saved
+        × (it.trees.items ≡ below ++ (it.id, own) ∷ [])
+        × FoldsTo (λ f p g. CalledAt F.FnMut f p.1 (Ok p.0) g) out.old (below ++ (it.id, own) ∷ [])
+        out.new × IsStorable own
+        × ((at : Path) → dirs_of node.new at ≡ with_path (names_of path.now) (only own)
+        (dirs_of node.old) at)) }
+    ensures bases { OnOk result ((at : Path) → bases_of node.new at ≡ edited_bases
+        (dirs_of node.old) (dirs_of node.new) (bases_of node.old) at) }
+    ensures stopped { IfErr result (Stopped (λ f p g. CalledAt F.FnMut f p.1 (Ok p.0) g)
+        (λ f t e g. CalledAt F.FnMut f t (Err e) g)
+        (HandsOutSome (in_path (names_of path.now) (dirs_of node.old))
+        (in_path (names_of path.now) (bases_of node.old))) out.old out.new) }
     ensures unchanged { OnErr result (node.new ≡ node.old) }
 {
     let Some((name, rest)) = path.split_first() else {

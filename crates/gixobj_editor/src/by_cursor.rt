@@ -6,13 +6,13 @@ ghost use Rattle.gixobj_editor.specs.Cursors.{prefix_of};
 ghost use Rattle.gixobj_editor.specs.Commands.{at_cursor};
 ghost use Rattle.gixobj_editor.specs.Replies.{AreEditReplies, IsCallable, IsEditReply, IsReplyAt};
 
+use crate::Edit;
+use crate::editor::{Cursor, Editor, Error};
 use crate::edits::{push_reserved, reply_to_edit};
 use crate::reply::{EditReply, Reply};
 use bstr::BString;
-use crate::Edit;
-use crate::editor::{Cursor, Editor, Error};
-use gixobj_hash::hash::ObjectId;
 use gixobj_find::{Keep, keep_all};
+use gixobj_hash::hash::ObjectId;
 use gixobj_tree::Tree;
 use std::alloc::Global;
 
@@ -25,7 +25,9 @@ pub(crate) fn do_edits_at<S: Keep, E: Drop, F: Fn(&Tree) -> Result<ObjectId, E>>
     out: &F,
 ) -> Reply<E>
     requires callable { IsCallable F.pre out.now }
-    ensures replied { IsReplyAt (record { objects = S.objects; may_fail = S.may_fail }) (λ tree answer. FnReturnsAt F.Fn out.now tree answer) (prefix_of (names_of prefix.now)) editor.old edits.items result editor.new }
+    ensures replied { IsReplyAt (record { objects = S.objects; may_fail = S.may_fail })
+        (λ tree answer. FnReturnsAt F.Fn out.now tree answer) (prefix_of (names_of prefix.now))
+        editor.old edits.items result editor.new }
 {
     match Vec::with_capacity(alloc, edits.len()) {
         Ok(replies) => do_edits_in(editor, prefix, edits, replies, out),
@@ -44,7 +46,9 @@ fn do_edits_in<S: Keep, E: Drop, F: Fn(&Tree) -> Result<ObjectId, E>>(
     requires callable { IsCallable F.pre out.now }
     requires empty { replies.items ≡ [] }
     requires room { length edits.items ≤ vec_capacity replies }
-    ensures replied { IsReplyAt (record { objects = S.objects; may_fail = S.may_fail }) (λ tree answer. FnReturnsAt F.Fn out.now tree answer) (prefix_of (names_of prefix.now)) editor.old edits.items result editor.new }
+    ensures replied { IsReplyAt (record { objects = S.objects; may_fail = S.may_fail })
+        (λ tree answer. FnReturnsAt F.Fn out.now tree answer) (prefix_of (names_of prefix.now))
+        editor.old edits.items result editor.new }
 {
     match editor.cursor_at(prefix) {
         Ok(mut cursor) => Reply::At(do_edits(&mut cursor, edits, replies, out)),
@@ -63,7 +67,10 @@ fn do_edits<S: Keep, E: Drop, F: Fn(&Tree) -> Result<ObjectId, E>>(
     requires empty { replies.items ≡ [] }
     requires room { length edits.items ≤ vec_capacity replies }
     ensures same_reference { cursor.new.editor.ghost_name ≡ cursor.old.editor.ghost_name }
-    ensures replied { AreEditReplies (record { objects = S.objects; may_fail = S.may_fail }) (λ tree answer. FnReturnsAt F.Fn out.now tree answer) (at_cursor cursor.old.editor.now.prefix) cursor.old.editor.now edits.items result.items cursor.new.editor.now }
+    ensures replied { AreEditReplies (record { objects = S.objects; may_fail = S.may_fail })
+        (λ tree answer. FnReturnsAt F.Fn out.now tree answer)
+        (at_cursor cursor.old.editor.now.prefix) cursor.old.editor.now edits.items result.items
+        cursor.new.editor.now }
 {
     let mut replies = replies;
     for edit in edits {
@@ -82,7 +89,10 @@ fn do_edit_by<S: Keep, E, F: Fn(&Tree) -> Result<ObjectId, E>>(
     requires callable { IsCallable F.pre out.now }
     ensures same_reference { cursor.new.editor.ghost_name ≡ cursor.old.editor.ghost_name }
     ensures prefix { cursor.new.editor.now.prefix ≡ cursor.old.editor.now.prefix }
-    ensures replied { IsEditReply (record { objects = S.objects; may_fail = S.may_fail }) (λ tree answer. FnReturnsAt F.Fn out.now tree answer) (at_cursor cursor.old.editor.now.prefix) cursor.old.editor.now edit result cursor.new.editor.now }
+    ensures replied { IsEditReply (record { objects = S.objects; may_fail = S.may_fail })
+        (λ tree answer. FnReturnsAt F.Fn out.now tree answer)
+        (at_cursor cursor.old.editor.now.prefix) cursor.old.editor.now edit result
+        cursor.new.editor.now }
 {
     match edit {
         Edit::Upsert { path, kind, id } => reply_to_edit(cursor.try_upsert(&path, kind, id)),
@@ -100,7 +110,10 @@ fn do_write_by<S: Keep, E, F: Fn(&Tree) -> Result<ObjectId, E>>(
     requires callable { IsCallable F.pre out.now }
     ensures same_reference { cursor.new.editor.ghost_name ≡ cursor.old.editor.ghost_name }
     ensures prefix { cursor.new.editor.now.prefix ≡ cursor.old.editor.now.prefix }
-    ensures replied { IsEditReply (record { objects = S.objects; may_fail = S.may_fail }) (λ tree answer. FnReturnsAt F.Fn out.now tree answer) (at_cursor cursor.old.editor.now.prefix) cursor.old.editor.now Edit.Write result cursor.new.editor.now }
+    ensures replied { IsEditReply (record { objects = S.objects; may_fail = S.may_fail })
+        (λ tree answer. FnReturnsAt F.Fn out.now tree answer)
+        (at_cursor cursor.old.editor.now.prefix) cursor.old.editor.now Edit.Write result
+        cursor.new.editor.now }
 {
     let written = match cursor.write(out) {
         Ok(written) => written,

@@ -30,13 +30,13 @@ mod removal;
 use bstr::BString;
 pub use cursor::Cursor;
 pub use error::Error;
-use gixobj_object::Find;
 use gixobj_directories::open::Open;
 use gixobj_directories::opening::Unasked;
 use gixobj_directories::write::write_all;
 pub use gixobj_directories::write::{WriteError, Written};
 use gixobj_hash::OutOfMemory;
 use gixobj_hash::hash::{self, ObjectId};
+use gixobj_object::Find;
 use gixobj_tree::Tree;
 use gixobj_tree::tree::{Entry, EntryKind};
 use names::{check_names, copy_names};
@@ -109,9 +109,11 @@ impl<S> Editor<S> {
         requires { IsWellFormed root }
         ensures same_reference { result.ghost_name ≡ self.entry.ghost_name }
         ensures state { result.now ≡ record self.old { dirs = root_alone root; bases = root_alone [] } }
-        ensures has_bases { (T : Table) → HasBases T (open_dirs result.now) (open_bases result.now) }
+        ensures has_bases { (T : Table) → HasBases T (open_dirs result.now)
+            (open_bases result.now) }
         ensures is_opened { IsOpened (open_dirs result.now) }
-        ensures files { (T : Table) (n : ℕ) → SameFiles (EditorFiles T n result.now) (Files T n root) }
+        ensures files { (T : Table) (n : ℕ) → SameFiles (EditorFiles T n result.now)
+            (Files T n root) }
     {
         let alloc = *root.entries.allocator();
         self.root = Open::new(alloc, root);
@@ -123,7 +125,8 @@ impl<S> Editor<S> {
 impl<S> Editor<S> {
     /// The store.
     pub fn store_mut(&mut self) -> &mut S
-        ensures* writes_back { sem 𝓛 (Lends (the_row S.row) S.row self.entry result (with_store self.old)) }
+        ensures* writes_back { sem 𝓛 (Lends (the_row S.row) S.row self.entry result
+            (with_store self.old)) }
         ensures value { result.now ≡ self.old.store }
     {
         &mut self.store
@@ -149,8 +152,13 @@ impl<S: Find> Editor<S> {
         id: ObjectId,
     ) -> Result<&mut Editor<S>, Error>
         ensures same_reference { IfOk result (λ it. it.ghost_name ≡ self.entry.ghost_name) }
-        ensures upserted { IfOk result (λ it. (trees : Trees) → AreTreesOf (S.objects self.old.store) trees → IsUpserted trees self.old (names_of path.now) (mode_of_kind kind) id it.now) }
-        ensures refusal { IfErr result (λ error. (trees : Trees) → AreTreesOf (S.objects self.old.store) trees → RefusesUpsert (S.objects self.old.store) (S.may_fail self.old.store) trees (open_dirs self.old) (names_of path.now) error) }
+        ensures upserted { IfOk result (λ it. (trees : Trees)
+            → AreTreesOf (S.objects self.old.store) trees
+            → IsUpserted trees self.old (names_of path.now) (mode_of_kind kind) id it.now) }
+        ensures refusal { IfErr result (λ error. (trees : Trees)
+            → AreTreesOf (S.objects self.old.store) trees
+            → RefusesUpsert (S.objects self.old.store) (S.may_fail self.old.store) trees
+            (open_dirs self.old) (names_of path.now) error) }
     {
         self.try_upsert(path, kind, id)?;
         Ok(self)
@@ -161,8 +169,13 @@ impl<S: Find> Editor<S> {
     /// that one.
     pub fn remove(&mut self, path: &[BString]) -> Result<&mut Editor<S>, Error>
         ensures same_reference { IfOk result (λ it. it.ghost_name ≡ self.entry.ghost_name) }
-        ensures removed { IfOk result (λ it. (trees : Trees) → AreTreesOf (S.objects self.old.store) trees → IsRemoved IsNoTree trees self.old (names_of path.now) it.now) }
-        ensures refusal { IfErr result (λ error. (trees : Trees) → AreTreesOf (S.objects self.old.store) trees → RefusesRemoval IsNoTree (S.objects self.old.store) (S.may_fail self.old.store) trees (open_dirs self.old) (names_of path.now) error) }
+        ensures removed { IfOk result (λ it. (trees : Trees)
+            → AreTreesOf (S.objects self.old.store) trees
+            → IsRemoved IsNoTree trees self.old (names_of path.now) it.now) }
+        ensures refusal { IfErr result (λ error. (trees : Trees)
+            → AreTreesOf (S.objects self.old.store) trees
+            → RefusesRemoval IsNoTree (S.objects self.old.store) (S.may_fail self.old.store) trees
+            (open_dirs self.old) (names_of path.now) error) }
     {
         self.try_remove(path)?;
         Ok(self)
@@ -173,8 +186,13 @@ impl<S: Find> Editor<S> {
     /// something calls that one.
     pub fn remove_leaf(&mut self, path: &[BString]) -> Result<&mut Editor<S>, Error>
         ensures same_reference { IfOk result (λ it. it.ghost_name ≡ self.entry.ghost_name) }
-        ensures removed { IfOk result (λ it. (trees : Trees) → AreTreesOf (S.objects self.old.store) trees → IsLeafRemoved trees self.old (names_of path.now) it.now) }
-        ensures refusal { IfErr result (λ error. (trees : Trees) → AreTreesOf (S.objects self.old.store) trees → RefusesLeafRemoval (S.objects self.old.store) (S.may_fail self.old.store) trees (open_dirs self.old) (names_of path.now) error) }
+        ensures removed { IfOk result (λ it. (trees : Trees)
+            → AreTreesOf (S.objects self.old.store) trees
+            → IsLeafRemoved trees self.old (names_of path.now) it.now) }
+        ensures refusal { IfErr result (λ error. (trees : Trees)
+            → AreTreesOf (S.objects self.old.store) trees
+            → RefusesLeafRemoval (S.objects self.old.store) (S.may_fail self.old.store) trees
+            (open_dirs self.old) (names_of path.now) error) }
     {
         self.try_remove_leaf(path)?;
         Ok(self)
@@ -198,9 +216,16 @@ impl<S: Find> Editor<S> {
         kind: EntryKind,
         id: ObjectId,
     ) -> Result<(), Error>
-        ensures upserted { OnOk result ((trees : Trees) → AreTreesOf (S.objects self.old.store) trees → IsUpserted trees self.old (names_of path.now) (mode_of_kind kind) id self.new) }
-        ensures refused { OnErr result ((trees : Trees) → AreTreesOf (S.objects self.old.store) trees → IsRefused trees self.old (names_of path.now) self.new) }
-        ensures refusal { IfErr result (λ error. (trees : Trees) → AreTreesOf (S.objects self.old.store) trees → RefusesUpsert (S.objects self.old.store) (S.may_fail self.old.store) trees (open_dirs self.old) (names_of path.now) error) }
+        ensures upserted { OnOk result ((trees : Trees)
+            → AreTreesOf (S.objects self.old.store) trees
+            → IsUpserted trees self.old (names_of path.now) (mode_of_kind kind) id self.new) }
+        ensures refused { OnErr result ((trees : Trees)
+            → AreTreesOf (S.objects self.old.store) trees
+            → IsRefused trees self.old (names_of path.now) self.new) }
+        ensures refusal { IfErr result (λ error. (trees : Trees)
+            → AreTreesOf (S.objects self.old.store) trees
+            → RefusesUpsert (S.objects self.old.store) (S.may_fail self.old.store) trees
+            (open_dirs self.old) (names_of path.now) error) }
         ensures unasked { IfErr result (λ error. IsForAName error → self.new ≡ self.old) }
     {
         let alloc = self.root.alloc();
@@ -230,9 +255,15 @@ impl<S: Find> Editor<S> {
     /// `OutOfMemory` where memory was wanting, which is taken only where a directory is opened. A
     /// refusal leaves the files as they were; what was opened on the way stays open.
     pub fn try_remove(&mut self, path: &[BString]) -> Result<(), Error>
-        ensures removed { OnOk result ((trees : Trees) → AreTreesOf (S.objects self.old.store) trees → IsRemoved IsNoTree trees self.old (names_of path.now) self.new) }
-        ensures refused { OnErr result ((trees : Trees) → AreTreesOf (S.objects self.old.store) trees → IsRefused trees self.old (names_of path.now) self.new) }
-        ensures refusal { IfErr result (λ error. (trees : Trees) → AreTreesOf (S.objects self.old.store) trees → RefusesRemoval IsNoTree (S.objects self.old.store) (S.may_fail self.old.store) trees (open_dirs self.old) (names_of path.now) error) }
+        ensures removed { OnOk result ((trees : Trees) → AreTreesOf (S.objects self.old.store) trees
+            → IsRemoved IsNoTree trees self.old (names_of path.now) self.new) }
+        ensures refused { OnErr result ((trees : Trees)
+            → AreTreesOf (S.objects self.old.store) trees
+            → IsRefused trees self.old (names_of path.now) self.new) }
+        ensures refusal { IfErr result (λ error. (trees : Trees)
+            → AreTreesOf (S.objects self.old.store) trees
+            → RefusesRemoval IsNoTree (S.objects self.old.store) (S.may_fail self.old.store) trees
+            (open_dirs self.old) (names_of path.now) error) }
     {
         open_for_removal(
             &mut self.root,
@@ -251,9 +282,15 @@ impl<S: Find> Editor<S> {
     /// `CannotRemoveNonLeaf` where a directory is at the path, beside what refuses a removal;
     /// `OutOfMemory` also where there was no memory for its path.
     pub fn try_remove_leaf(&mut self, path: &[BString]) -> Result<(), Error>
-        ensures removed { OnOk result ((trees : Trees) → AreTreesOf (S.objects self.old.store) trees → IsLeafRemoved trees self.old (names_of path.now) self.new) }
-        ensures refused { OnErr result ((trees : Trees) → AreTreesOf (S.objects self.old.store) trees → IsRefused trees self.old (names_of path.now) self.new) }
-        ensures refusal { IfErr result (λ error. (trees : Trees) → AreTreesOf (S.objects self.old.store) trees → RefusesLeafRemoval (S.objects self.old.store) (S.may_fail self.old.store) trees (open_dirs self.old) (names_of path.now) error) }
+        ensures removed { OnOk result ((trees : Trees) → AreTreesOf (S.objects self.old.store) trees
+            → IsLeafRemoved trees self.old (names_of path.now) self.new) }
+        ensures refused { OnErr result ((trees : Trees)
+            → AreTreesOf (S.objects self.old.store) trees
+            → IsRefused trees self.old (names_of path.now) self.new) }
+        ensures refusal { IfErr result (λ error. (trees : Trees)
+            → AreTreesOf (S.objects self.old.store) trees
+            → RefusesLeafRemoval (S.objects self.old.store) (S.may_fail self.old.store) trees
+            (open_dirs self.old) (names_of path.now) error) }
     {
         open_for_removal(
             &mut self.root,
@@ -274,7 +311,8 @@ impl<S> Editor<S> {
     /// be out of date. It looks nothing up, takes no memory, and always succeeds.
     pub fn get(&self, path: &[BString]) -> Result<Option<&Entry>, OutOfMemory>
         ensures succeeds { IsOk result }
-        ensures found { IfOk result (λ entry. option_copied entry ≡ entry_at (names_of path.now) (open_dirs self.now)) }
+        ensures found { IfOk result (λ entry. option_copied entry ≡ entry_at (names_of path.now)
+            (open_dirs self.now)) }
     {
         Ok(self.root.get(path))
     }
@@ -315,8 +353,13 @@ impl<S> Editor<S> {
         out: F,
     ) -> Result<Written, WriteError<E>>
         requires { IsCallableOnTrees F.pre (λ f p g. CalledAt F.FnMut f p.1 (Ok p.0) g) out }
-        ensures written { IfOk result (λ it. (last : F) × IsWrittenEditor (λ f p g. CalledAt F.FnMut f p.1 (Ok p.0) g) out self.old it self.new last) }
-        ensures stopped { IfErr result (λ error. (last : F) × Stopped (λ f p g. CalledAt F.FnMut f p.1 (Ok p.0) g) (λ f t e g. CalledAt F.FnMut f t (Err e) g) (HandsOutSome (open_dirs self.old) (open_bases self.old)) out last error) }
+        ensures written { IfOk result (λ it. (last : F)
+            × IsWrittenEditor (λ f p g. CalledAt F.FnMut f p.1 (Ok p.0) g) out self.old it self.new
+            last) }
+        ensures stopped { IfErr result (λ error. (last : F)
+            × Stopped (λ f p g. CalledAt F.FnMut f p.1 (Ok p.0) g)
+            (λ f t e g. CalledAt F.FnMut f t (Err e) g)
+            (HandsOutSome (open_dirs self.old) (open_bases self.old)) out last error) }
         ensures unchanged { OnErr result (self.new ≡ self.old) }
     {
         let mut out = out;
@@ -342,8 +385,11 @@ impl<S> Editor<S> {
         out: &mut F,
     ) -> Result<Written, WriteError<E>>
         requires { IsCallableOnTrees F.pre (λ f p g. CalledAt F.FnMut f p.1 (Ok p.0) g) out.old }
-        ensures written { IfOk result (λ it. IsWrittenEditor (λ f p g. CalledAt F.FnMut f p.1 (Ok p.0) g) out.old self.old it self.new out.new) }
-        ensures stopped { IfErr result (Stopped (λ f p g. CalledAt F.FnMut f p.1 (Ok p.0) g) (λ f t e g. CalledAt F.FnMut f t (Err e) g) (HandsOutSome (open_dirs self.old) (open_bases self.old)) out.old out.new) }
+        ensures written { IfOk result (λ it. IsWrittenEditor
+            (λ f p g. CalledAt F.FnMut f p.1 (Ok p.0) g) out.old self.old it self.new out.new) }
+        ensures stopped { IfErr result (Stopped (λ f p g. CalledAt F.FnMut f p.1 (Ok p.0) g)
+            (λ f t e g. CalledAt F.FnMut f t (Err e) g)
+            (HandsOutSome (open_dirs self.old) (open_bases self.old)) out.old out.new) }
         ensures unchanged { OnErr result (self.new ≡ self.old) }
     {
         let alloc = self.root.alloc();

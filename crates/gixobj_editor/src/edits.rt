@@ -4,11 +4,11 @@ ghost use Rattle.std.specs.Fn.{FnReturnsAt};
 ghost use Rattle.gixobj_editor.specs.Commands.{at_root};
 ghost use Rattle.gixobj_editor.specs.Replies.{IsCallable, IsEditReply, reply_to};
 
-use crate::reply::EditReply;
 use crate::Edit;
 use crate::editor::{Editor, Error};
-use gixobj_hash::hash::ObjectId;
+use crate::reply::EditReply;
 use gixobj_find::{Keep, keep_all};
+use gixobj_hash::hash::ObjectId;
 use gixobj_tree::Tree;
 
 /// Does one edit, or a write.
@@ -18,7 +18,9 @@ pub(crate) fn do_edit<S: Keep, E, F: Fn(&Tree) -> Result<ObjectId, E>>(
     out: &F,
 ) -> EditReply<E>
     requires callable { IsCallable F.pre out.now }
-    ensures replied { IsEditReply (record { objects = S.objects; may_fail = S.may_fail }) (λ tree answer. FnReturnsAt F.Fn out.now tree answer) at_root editor.old edit result editor.new }
+    ensures replied { IsEditReply (record { objects = S.objects; may_fail = S.may_fail })
+        (λ tree answer. FnReturnsAt F.Fn out.now tree answer) at_root editor.old edit result
+        editor.new }
 {
     match edit {
         Edit::Upsert { path, kind, id } => reply_to_edit(editor.try_upsert(&path, kind, id)),
@@ -34,7 +36,9 @@ fn do_write<S: Keep, E, F: Fn(&Tree) -> Result<ObjectId, E>>(
     out: &F,
 ) -> EditReply<E>
     requires callable { IsCallable F.pre out.now }
-    ensures replied { IsEditReply (record { objects = S.objects; may_fail = S.may_fail }) (λ tree answer. FnReturnsAt F.Fn out.now tree answer) at_root editor.old Edit.Write result editor.new }
+    ensures replied { IsEditReply (record { objects = S.objects; may_fail = S.may_fail })
+        (λ tree answer. FnReturnsAt F.Fn out.now tree answer) at_root editor.old Edit.Write result
+        editor.new }
 {
     let written = match editor.write(out) {
         Ok(written) => written,

@@ -15,7 +15,9 @@ use gixobj_tree::laws::{tree_has_one_reading, tree_reads_back};
 /// Some table agrees with a run, as long as no id of what its writes handed out stands for two
 /// trees, and the written text of each tree that was kept reads as no other well-formed tree.
 pub fn fitting_runs_have_a_table<E>(replies: &[Reply<E>])
-    ensures { (objects : Objects) (trees : Trees) → AreTreesOf objects trees → FitsBeside (pairs_handed_out replies.now) trees → All ReadsAsItself (pairs_kept replies.now)
+    ensures { (objects : Objects) (trees : Trees) → AreTreesOf objects trees
+        → FitsBeside (pairs_handed_out replies.now) trees
+        → All ReadsAsItself (pairs_kept replies.now)
         → (T : Table) × AgreesWithRun T objects replies.now }
 {}
 

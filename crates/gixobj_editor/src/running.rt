@@ -11,14 +11,14 @@ ghost use Rattle.gixobj_editor.specs.OneId.{IdsTellFiles, IsPlainRun};
 ghost use Rattle.gixobj_editor.specs.Replies.{IsCallable, IsReply, IsRun};
 ghost use Rattle.gixobj_editor.specs.RunTables.{AgreesWithRun};
 
+use crate::Command;
 use crate::by_cursor::do_edits_at;
+use crate::editor::{Editor, Written};
 use crate::edits::{do_edit, push_reserved};
 use crate::reply::Reply;
-use crate::Command;
-use crate::editor::{Editor, Written};
+use gixobj_find::Keep;
 use gixobj_hash::OutOfMemory;
 use gixobj_hash::hash::ObjectId;
-use gixobj_find::Keep;
 use gixobj_tree::Tree;
 use std::alloc::Global;
 
@@ -43,11 +43,21 @@ pub fn run<S: Keep, E: Drop, F: Fn(&Tree) -> Result<ObjectId, E> + Drop>(
     out: F,
 ) -> Result<Vec<Reply<E>>, OutOfMemory>
     requires callable { IsCallable F.pre out }
-    ensures replies { IfOk result (λ replies. IsRun (record { objects = S.objects; may_fail = S.may_fail }) (λ tree answer. FnReturnsAt F.Fn out tree answer) editor.old commands.items replies.items editor.new) }
-    ensures headline { IfOk result (λ replies. (T : Table) (n k : ℕ) (written : Written) → written_at replies.items k ≡ Some written
-        → AgreesWithRun T (S.objects editor.old.store) (take k replies.items) → AgreesWithPairs T written.trees.items → HasBases T (open_dirs editor.old) (open_bases editor.old)
-        → SameFiles (NamedFiles T n written.id) (History T n (accepted_steps (take k commands.items) (take k replies.items)) (EditorFiles T n editor.old))) }
-    ensures one_id { IfOk result (λ replies. (T : Table) (m : ℕ) → IsPlainRun T (S.objects editor.old.store) editor.old (take m commands.items) (take m replies.items)
+    ensures replies { IfOk result (λ replies. IsRun
+        (record { objects = S.objects; may_fail = S.may_fail })
+        (λ tree answer. FnReturnsAt F.Fn out tree answer) editor.old commands.items replies.items
+        editor.new) }
+    ensures headline { IfOk result (λ replies. (T : Table) (n k : ℕ) (written : Written)
+        → written_at replies.items k ≡ Some written
+        → AgreesWithRun T (S.objects editor.old.store) (take k replies.items)
+        → AgreesWithPairs T written.trees.items → HasBases T (open_dirs editor.old)
+        (open_bases editor.old)
+        → SameFiles (NamedFiles T n written.id) (History T n
+        (accepted_steps (take k commands.items) (take k replies.items))
+        (EditorFiles T n editor.old))) }
+    ensures one_id { IfOk result (λ replies. (T : Table) (m : ℕ)
+        → IsPlainRun T (S.objects editor.old.store) editor.old (take m commands.items)
+        (take m replies.items)
         → IdsTellFiles (take m commands.items) (take m replies.items)) }
     ensures nothing_done { OnErr result (editor.new ≡ editor.old) }
 {
@@ -67,7 +77,8 @@ fn do_command<S: Keep, E: Drop, F: Fn(&Tree) -> Result<ObjectId, E>>(
     out: &F,
 ) -> Reply<E>
     requires callable { IsCallable F.pre out.now }
-    ensures replied { IsReply (record { objects = S.objects; may_fail = S.may_fail }) (λ tree answer. FnReturnsAt F.Fn out.now tree answer) editor.old command result editor.new }
+    ensures replied { IsReply (record { objects = S.objects; may_fail = S.may_fail })
+        (λ tree answer. FnReturnsAt F.Fn out.now tree answer) editor.old command result editor.new }
 {
     match command {
         Command::Edit(edit) => Reply::Edit(do_edit(editor, edit, out)),

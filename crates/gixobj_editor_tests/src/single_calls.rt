@@ -5,10 +5,10 @@ use bstr::BString;
 use gixobj_base::hash::{Kind as HashKind, ObjectId};
 use gixobj_base::tree::EntryKind;
 use gixobj_base::{Tree, encode};
-use gixobj_script::{answer_lines, answers_of};
 use gixobj_editor::editor::{Cursor, Editor, Error};
 use gixobj_editor::{EditReply, Reply};
 use gixobj_find::Memory;
+use gixobj_script::{answer_lines, answers_of};
 use std::alloc::{AllocError, Global};
 use std::test::Fail;
 

@@ -112,7 +112,8 @@ impl From<AllocError> for Error {
 /// It takes no memory.
 #[inline(always)]
 pub fn trusted_header_field<S: Sink>(name: &[u8], value: &[u8], sink: &mut S) -> io::Result<()>
-    ensures put { PutsOrFails result (S.view sink.old) (S.view sink.new) (field_text name.now value.now) }
+    ensures put { PutsOrFails result (S.view sink.old) (S.view sink.new)
+        (field_text name.now value.now) }
     ensures same_loan { S.loan sink.new ≡ S.loan sink.old }
 {
     put_parts(&[name, b" ", value, b"\n"], sink)
@@ -122,7 +123,8 @@ pub fn trusted_header_field<S: Sink>(name: &[u8], value: &[u8], sink: &mut S) ->
 /// "commits"). The error is the sink's. It takes no memory.
 #[inline(always)]
 pub fn trusted_header_id<S: Sink>(name: &[u8], id: &ObjectId, sink: &mut S) -> io::Result<()>
-    ensures put { PutsOrFails result (S.view sink.old) (S.view sink.new) (field_text name.now (hex_text id.now)) }
+    ensures put { PutsOrFails result (S.view sink.old) (S.view sink.new)
+        (field_text name.now (hex_text id.now)) }
     ensures same_loan { S.loan sink.new ≡ S.loan sink.old }
 {
     let mut buffer = [0; 64];
@@ -134,7 +136,8 @@ pub fn trusted_header_id<S: Sink>(name: &[u8], id: &ObjectId, sink: &mut S) -> i
 #[inline(always)]
 pub fn trusted_header_hex<S: Sink>(name: &[u8], hex: &[u8], sink: &mut S) -> io::Result<()>
     requires { length hex.now ≤ 64 }
-    ensures put { PutsOrFails result (S.view sink.old) (S.view sink.new) (field_text name.now (str_to_ascii_lowercase hex.now)) }
+    ensures put { PutsOrFails result (S.view sink.old) (S.view sink.new)
+        (field_text name.now (str_to_ascii_lowercase hex.now)) }
     ensures same_loan { S.loan sink.new ≡ S.loan sink.old }
 {
     let mut buffer = [0; 64];
@@ -156,9 +159,11 @@ pub fn header_field<S: Sink>(
     value: &[u8],
     sink: &mut S,
 ) -> Result<(), Error>
-    ensures written { OnOk result (Puts (S.view sink.old) (S.view sink.new) (field_text name.now value.now)) }
+    ensures written { OnOk result (Puts (S.view sink.old) (S.view sink.new)
+        (field_text name.now value.now)) }
     ensures nothing_refused { OnOk result (RefusesNothing (RefusesField value.now)) }
-    ensures refusal { IfErr result (RefusesWriting (RefusesField value.now) (S.view sink.old) (S.view sink.new) (field_text name.now value.now)) }
+    ensures refusal { IfErr result (RefusesWriting (RefusesField value.now) (S.view sink.old)
+        (S.view sink.new) (field_text name.now value.now)) }
     ensures same_loan { S.loan sink.new ≡ S.loan sink.old }
 {
     if value.is_empty() {
@@ -179,7 +184,8 @@ pub fn header_field<S: Sink>(
 /// memory.
 #[tactic(auto, using(crate::proofs::Puts::front_of_byte, crate::proofs::Puts::puts_or_fails_behind_byte))]
 pub fn header_field_multi_line<S: Sink>(name: &[u8], value: &[u8], sink: &mut S) -> io::Result<()>
-    ensures put { PutsOrFails result (S.view sink.old) (S.view sink.new) (name.now ++ space ∷ folded value.now) }
+    ensures put { PutsOrFails result (S.view sink.old) (S.view sink.new)
+        (name.now ++ space ∷ folded value.now) }
     ensures same_loan { S.loan sink.new ≡ S.loan sink.old }
 {
     put_parts(&[name, b" "], sink)?;
@@ -202,7 +208,8 @@ fn put_folded<S: Sink>(value: &[u8], sink: &mut S) -> io::Result<()>
 
 /// Puts a line, and the space before the next.
 fn put_line<S: Sink>(line: &[u8], sink: &mut S) -> io::Result<()>
-    ensures put { PutsOrFails result (S.view sink.old) (S.view sink.new) (line.now ++ newline ∷ space ∷ []) }
+    ensures put { PutsOrFails result (S.view sink.old) (S.view sink.new)
+        (line.now ++ newline ∷ space ∷ []) }
     ensures same_loan { S.loan sink.new ≡ S.loan sink.old }
 {
     put_parts(&[line, b"\n "], sink)
@@ -230,7 +237,9 @@ fn missing_newline(line: &[u8]) -> &[u8]
 /// The first line and what follows it, or none where no byte follows the first newline.
 #[tactic(auto, using(crate::proofs::FieldWrites::folded_cut, crate::proofs::FieldWrites::cut_shorter, crate::proofs::FieldWrites::last_line))]
 fn first_line(value: &[u8]) -> Option<(&[u8], &[u8])>
-    ensures { MatchOption result (IsLastLine value.now) (λ it. (folded value.now ≡ it.0.now ++ newline ∷ space ∷ folded it.1.now) × (length it.1.now < length value.now)) }
+    ensures { MatchOption result (IsLastLine value.now)
+        (λ it. (folded value.now ≡ it.0.now ++ newline ∷ space ∷ folded it.1.now)
+        × (length it.1.now < length value.now)) }
 {
     let (line, after) = split_at_byte(value, b'\n')?;
     if after.is_empty() {

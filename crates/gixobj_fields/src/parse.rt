@@ -125,7 +125,8 @@ pub fn after_name<'a>(input: &'a [u8], name: &[u8]) -> Option<&'a [u8]>
 /// What stands behind a newline at the front of the input. It takes no memory.
 #[inline(always)]
 pub fn after_newline(input: &[u8]) -> Option<&[u8]>
-    ensures { MatchOption result ((rest : List ℕ) → input.now ≢ newline ∷ rest) (λ rest. input.now ≡ newline ∷ rest.now) }
+    ensures { MatchOption result ((rest : List ℕ) → input.now ≢ newline ∷ rest)
+        (λ rest. input.now ≡ newline ∷ rest.now) }
 {
     match input {
         [b'\n', rest @ ..] => Some(rest),
@@ -189,7 +190,8 @@ fn unfolded<'a>(alloc: Global, first: &[u8], input: &'a [u8]) -> Result<(Vec<u8>
 #[inline(always)]
 #[tactic(auto, using(crate::proofs::HeaderFields::front_is))]
 fn after_front<'a>(input: &'a [u8], front: &[u8]) -> Option<&'a [u8]>
-    ensures { MatchOption result ((rest : List ℕ) → input.now ≢ front.now ++ rest) (λ rest. input.now ≡ front.now ++ rest.now) }
+    ensures { MatchOption result ((rest : List ℕ) → input.now ≢ front.now ++ rest)
+        (λ rest. input.now ≡ front.now ++ rest.now) }
 {
     input.strip_prefix(front)
 }
@@ -207,7 +209,8 @@ pub fn after_space(input: &[u8]) -> Option<&[u8]>
 
 /// Whether a text without space can be the name of a header.
 fn is_header_name(name: &[u8]) -> bool
-    ensures { MatchBool result ((name.now ≢ []) × IsFree newline name.now) (¬ IsHeaderName name.now) }
+    ensures { MatchBool result ((name.now ≢ []) × IsFree newline name.now)
+        (¬ IsHeaderName name.now) }
 {
     !name.is_empty() && !has_byte(name, b'\n')
 }

@@ -51,8 +51,10 @@ pub fn compute_stream_hash<R: Read>(
     stream: &mut R,
     len: u64,
 ) -> Result<ObjectId, Error>
-    ensures found { IfOk result (ReadsObject hash kind (R.remaining stream.old) (R.remaining stream.new) len) }
-    ensures refusal { IfErr result (RefusesStream ⊤ (R.remaining stream.old) (R.remaining stream.new) len) }
+    ensures found { IfOk result (ReadsObject hash kind (R.remaining stream.old)
+        (R.remaining stream.new) len) }
+    ensures refusal { IfErr result (RefusesStream ⊤ (R.remaining stream.old)
+        (R.remaining stream.new) len) }
 {
     compute_source_hash(hash, kind, &mut FromRead(stream), len)
 }
@@ -86,8 +88,10 @@ pub fn compute_source_hash<S: Source>(
     source: &mut S,
     len: u64,
 ) -> Result<ObjectId, Error>
-    ensures found { IfOk result (ReadsObject hash kind (S.rest source.old) (S.rest source.new) len) }
-    ensures refusal { IfErr result (RefusesStream (S.may_fail source.old) (S.rest source.old) (S.rest source.new) len) }
+    ensures found { IfOk result (ReadsObject hash kind (S.rest source.old) (S.rest source.new)
+        len) }
+    ensures refusal { IfErr result (RefusesStream (S.may_fail source.old) (S.rest source.old)
+        (S.rest source.new) len) }
     ensures lasting { S.may_fail source.new → S.may_fail source.old }
     ensures same_loan { S.loan source.new ≡ S.loan source.old }
 {
@@ -100,8 +104,10 @@ pub fn compute_source_hash<S: Source>(
 ///
 /// `UnexpectedEof` where the reader ends before them, and `Io` where it fails. It takes no memory.
 pub fn skip_stream<R: Read>(stream: &mut R, len: u64) -> Result<(), Error>
-    ensures read { OnOk result (SkipsExactly (R.remaining stream.old) (R.remaining stream.new) len) }
-    ensures refusal { IfErr result (RefusesStream ⊤ (R.remaining stream.old) (R.remaining stream.new) len) }
+    ensures read { OnOk result (SkipsExactly (R.remaining stream.old) (R.remaining stream.new)
+        len) }
+    ensures refusal { IfErr result (RefusesStream ⊤ (R.remaining stream.old)
+        (R.remaining stream.new) len) }
 {
     skip_source(&mut FromRead(stream), len)
 }
@@ -110,7 +116,8 @@ pub fn skip_stream<R: Read>(stream: &mut R, len: u64) -> Result<(), Error>
 #[tactic(auto, using(crate::proofs::StreamReads::nothing_skipped, crate::proofs::StreamReads::piece_skipped, crate::proofs::StreamReads::all_skipped, crate::proofs::StreamReads::refused_skipping))]
 pub fn skip_source<S: Source>(source: &mut S, len: u64) -> Result<(), Error>
     ensures read { OnOk result (SkipsExactly (S.rest source.old) (S.rest source.new) len) }
-    ensures refusal { IfErr result (RefusesStream (S.may_fail source.old) (S.rest source.old) (S.rest source.new) len) }
+    ensures refusal { IfErr result (RefusesStream (S.may_fail source.old) (S.rest source.old)
+        (S.rest source.new) len) }
     ensures lasting { S.may_fail source.new → S.may_fail source.old }
     ensures same_loan { S.loan source.new ≡ S.loan source.old }
 {
@@ -126,8 +133,11 @@ pub fn skip_source<S: Source>(source: &mut S, len: u64) -> Result<(), Error>
 /// Adds the next `len` bytes of a source at the end of the message.
 #[tactic(auto, using(crate::proofs::StreamReads::nothing_digested, crate::proofs::StreamReads::piece_digested, crate::proofs::StreamReads::all_digested, crate::proofs::StreamReads::refused_behind))]
 fn update_from<S: Source>(hasher: &mut Hasher, source: &mut S, len: u64) -> Result<(), Error>
-    ensures read { OnOk result ((content : List ℕ) × ReadsExactly (S.rest source.old) (S.rest source.new) len content × AddsBytes hasher.old hasher.new content) }
-    ensures refusal { IfErr result (RefusesStream (S.may_fail source.old) (S.rest source.old) (S.rest source.new) len) }
+    ensures read { OnOk result ((content : List ℕ)
+        × ReadsExactly (S.rest source.old) (S.rest source.new) len content
+        × AddsBytes hasher.old hasher.new content) }
+    ensures refusal { IfErr result (RefusesStream (S.may_fail source.old) (S.rest source.old)
+        (S.rest source.new) len) }
     ensures lasting { S.may_fail source.new → S.may_fail source.old }
     ensures same_loan { S.loan source.new ≡ S.loan source.old }
 {
@@ -149,8 +159,10 @@ fn read_piece<S: Source>(source: &mut S, buffer: &mut [u8], most: u64) -> Result
     requires room { 0 < length buffer.old }
     ensures count { IfOk result (λ count. (0 < count) × (count ≤ most)) }
     ensures bound { ReadsAtMost result buffer.new }
-    ensures taken { IfOk result (λ count. Consumes (S.rest source.old) (S.rest source.new) (take count buffer.new)) }
-    ensures refusal { IfErr result (RefusesStream (S.may_fail source.old) (S.rest source.old) (S.rest source.new) most) }
+    ensures taken { IfOk result (λ count. Consumes (S.rest source.old) (S.rest source.new)
+        (take count buffer.new)) }
+    ensures refusal { IfErr result (RefusesStream (S.may_fail source.old) (S.rest source.old)
+        (S.rest source.new) most) }
     ensures lasting { S.may_fail source.new → S.may_fail source.old }
     ensures same_loan { S.loan source.new ≡ S.loan source.old }
 {

@@ -127,7 +127,8 @@ impl<W: Write> ToWrite<'_, W> {
     #[inline(always)]
     fn write_some(&mut self, bytes: &[u8]) -> io::Result<usize>
         ensures bound { WritesAtMost result bytes.now }
-        ensures bytes { WriteAppends (W.contents self.old.0.now) (W.contents self.new.0.now) result bytes.now }
+        ensures bytes { WriteAppends (W.contents self.old.0.now) (W.contents self.new.0.now) result
+            bytes.now }
         ensures same_loan { self.new.0.ghost_name ≡ self.old.0.ghost_name }
     {
         for _ in 0..u64::MAX {
@@ -144,7 +145,8 @@ impl<W: Write> ToWrite<'_, W> {
 /// and a front of them, but not all, has been put. It takes no memory.
 #[inline(always)]
 pub fn put_parts<S: Sink>(parts: &[&[u8]], sink: &mut S) -> io::Result<()>
-    ensures put { PutsOrFails result (S.view sink.old) (S.view sink.new) (flat_map (λ part. part.now) parts.now) }
+    ensures put { PutsOrFails result (S.view sink.old) (S.view sink.new)
+        (flat_map (λ part. part.now) parts.now) }
     ensures same_loan { S.loan sink.new ≡ S.loan sink.old }
 {
     for part in parts {

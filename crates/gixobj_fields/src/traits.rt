@@ -44,7 +44,8 @@ pub trait WriteTo {
         requires { can_write self.now }
         ensures written { OnOk result (Puts (S.view sink.old) (S.view sink.new) (text self.now)) }
         ensures nothing_refused { OnOk result (RefusesNothing (refuses self.now)) }
-        ensures refusal { IfErr result (RefusesWriting (refuses self.now) (S.view sink.old) (S.view sink.new) (text self.now)) }
+        ensures refusal { IfErr result (RefusesWriting (refuses self.now) (S.view sink.old)
+            (S.view sink.new) (text self.now)) }
         ensures same_loan { S.loan sink.new ≡ S.loan sink.old };
 
     /// The kind of the object.
@@ -64,9 +65,11 @@ pub trait WriteTo {
     /// exactly the parts before it have been written; `OutOfMemory` where it couldn't be copied.
     final fn write_to<W: Write>(&self, alloc: Global, out: &mut W) -> Result<(), encode::Error>
         requires { can_write self.now }
-        ensures written { OnOk result (Appends (W.contents out.old) (W.contents out.new) (text self.now)) }
+        ensures written { OnOk result (Appends (W.contents out.old) (W.contents out.new)
+            (text self.now)) }
         ensures nothing_refused { OnOk result (RefusesNothing (refuses self.now)) }
-        ensures refusal { IfErr result (RefusesWriting (refuses self.now) (writer_view (W.contents out.old)) (writer_view (W.contents out.new)) (text self.now)) }
+        ensures refusal { IfErr result (RefusesWriting (refuses self.now)
+            (writer_view (W.contents out.old)) (writer_view (W.contents out.new)) (text self.now)) }
     {
         self.write_into(alloc, &mut ToWrite(out))
     }
@@ -78,7 +81,8 @@ pub trait WriteTo {
         requires { can_write self.now }
         ensures written { OnOk result (out.new.items ≡ out.old.items ++ text self.now) }
         ensures nothing_refused { OnOk result (RefusesNothing (refuses self.now)) }
-        ensures refusal { IfErr result (RefusesWriting (refuses self.now) (list_view out.old) (list_view out.new) (text self.now)) }
+        ensures refusal { IfErr result (RefusesWriting (refuses self.now) (list_view out.old)
+            (list_view out.new) (text self.now)) }
     {
         self.write_into(alloc, out)
     }
@@ -89,7 +93,8 @@ pub trait WriteTo {
         requires { can_write self.now }
         ensures found { IsSome result ↔ (length (text self.now) < 2 ^ 64) }
         ensures inline { IfSome result (λ it. it.capacity ≡ 28) }
-        ensures header { IfSome result (λ it. it.items ≡ loose_header_text (object_kind self.now) (length (text self.now))) }
+        ensures header { IfSome result (λ it. it.items ≡ loose_header_text (object_kind self.now)
+            (length (text self.now))) }
     {
         Some(loose_header(alloc, self.kind(), self.size()?))
     }

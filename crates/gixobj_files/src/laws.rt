@@ -23,17 +23,21 @@ pub fn every_store_has_its_own_table()
 /// Some table agrees with a store and with trees that were handed out beside it, as long as no id of theirs stands for
 /// two trees.
 pub fn fitting_pairs_have_a_table()
-    ensures { (pairs : List Pair) (trees : Trees) → FitsBeside pairs trees → (T : Table) × AgreesWithStore T trees × AgreesWithPairs T pairs }
+    ensures { (pairs : List Pair) (trees : Trees) → FitsBeside pairs trees → (T : Table)
+        × AgreesWithStore T trees × AgreesWithPairs T pairs }
 {}
 
 /// A well-formed root that is open alone is what open directories are.
 pub fn a_root_alone_is_opened()
-    ensures { (entries : List EntryView) → IsWellFormed entries → IsOpened (λ path. map.get (root_alone entries) path) }
+    ensures { (entries : List EntryView) → IsWellFormed entries
+        → IsOpened (λ path. map.get (root_alone entries) path) }
 {}
 
 /// Where no tree is put in and no root but the empty one is set, steps make the same files of none in every table:
 /// `PlainHistory` tells them without a table and without a bound on their paths.
 pub fn a_plain_history_needs_no_table()
-    ensures { (steps : List Step) → All HasNoTree steps → (T : Table) (n : ℕ) (path : Path) (mode : ℕ) (id : ObjectId)
-        → History T n steps NoFiles path mode id ↔ ((length path ≤ n) × PlainHistory steps NoFiles path mode id) }
+    ensures { (steps : List Step) → All HasNoTree steps
+        → (T : Table) (n : ℕ) (path : Path) (mode : ℕ) (id : ObjectId)
+        → History T n steps NoFiles path mode id ↔ ((length path ≤ n)
+        × PlainHistory steps NoFiles path mode id) }
 {}

@@ -8,12 +8,12 @@ ghost use Rattle.gixobj_hash.specs.Hash.{id_of};
 ghost use Rattle.gixobj_hash.specs.Hash.Borrowed.{borrowed_id};
 ghost use Rattle.gixobj_find.specs.Memory.{IsForAValue, memory_objects};
 
+use crate::{Keep, KeepCommit, KeepError};
 use bstr::BString;
-use gixobj_object::{Data, Exists, Find, FindHeader, Store, find};
 use gixobj_fields::{WriteTo, encode};
 use gixobj_hash::hash::{ObjectId, oid};
 use gixobj_hash::{Header, Kind, OutOfMemory, compute_hash, hash};
-use crate::{Keep, KeepCommit, KeepError};
+use gixobj_object::{Data, Exists, Find, FindHeader, Store, find};
 use gixobj_tree::Tree;
 use std::alloc::Global;
 use std::collections::BTreeMap;
@@ -54,7 +54,9 @@ impl Memory {
         bytes: &[u8],
     ) -> Result<ObjectId, OutOfMemory>
         ensures id { IfOk result (λ id. id ≡ id_of object_hash kind bytes.now) }
-        ensures put { IfOk result (λ id. memory_objects self.new ≡ map.insert (memory_objects self.old) id (record { kind = kind; object_hash = object_hash; bytes = bytes.now })) }
+        ensures put { IfOk result (λ id. memory_objects self.new ≡ map.insert
+            (memory_objects self.old) id
+            (record { kind = kind; object_hash = object_hash; bytes = bytes.now })) }
         ensures unchanged { OnErr result (memory_objects self.new ≡ memory_objects self.old) }
     {
         let id = compute_hash(object_hash, kind, bytes);
@@ -85,7 +87,8 @@ impl Find for Memory {
         buffer: &'a mut Vec<u8>,
     ) -> Result<Option<Data<'a>>, find::Error>
         ensures found { IfOk result (IsFound (memory_objects self.now) (borrowed_id id.entry)) }
-        ensures refusal { IfErr result (λ error. (error ≡ refusal.OutOfMemory) × IsSome (named (memory_objects self.now) (borrowed_id id.entry))) }
+        ensures refusal { IfErr result (λ error. (error ≡ refusal.OutOfMemory)
+            × IsSome (named (memory_objects self.now) (borrowed_id id.entry))) }
     {
         let Some(stored) = self.objects.get(&id.to_owned()) else {
             return Ok(None);
@@ -100,7 +103,8 @@ impl Find for Memory {
 impl FindHeader for Memory {
     #[tactic(auto, using(crate::proofs::Objects::kept))]
     fn try_header(&self, id: oid<'_>) -> Result<Option<Header>, find::Error>
-        ensures found { IfOk result (IsHeaderFound (memory_objects self.now) (borrowed_id id.entry)) }
+        ensures found { IfOk result (IsHeaderFound (memory_objects self.now)
+            (borrowed_id id.entry)) }
         ensures succeeds { IsOk result }
     {
         let Some(stored) = self.objects.get(&id.to_owned()) else {

@@ -6,9 +6,9 @@ ghost use Rattle.gixobj_hash.specs.declared.decode.Error.TheVariants.{OutOfMemor
 ghost use Rattle.gixobj_hash.specs.declared.kind.Kind.{Kind};
 ghost use Rattle.gixobj_hash.specs.Decode.{HasLooseHeader, HasSizeFault, IsSizeText, RefusesHeader, RefusesSize, size_digits};
 
+use crate::texts::{are_digits, number_from_digits, split_at_byte};
 use crate::{Kind, kind};
 use bstr::BString;
-use crate::texts::{are_digits, number_from_digits, split_at_byte};
 use std::alloc::{AllocError, AllocFailed, Global};
 
 /// The refusal of a reader of objects.
@@ -125,7 +125,8 @@ pub fn loose_header(
     alloc: Global,
     input: &[u8],
 ) -> Result<(Kind, u64, usize), LooseHeaderDecodeError>
-    ensures accepts { (kind : Kind) (size used : ℕ) → HasLooseHeader input.now kind size used → result ≡ Ok (kind, size, used) }
+    ensures accepts { (kind : Kind) (size used : ℕ) → HasLooseHeader input.now kind size used
+        → result ≡ Ok (kind, size, used) }
     ensures found { IfOk result (λ header. HasLooseHeader input.now header.0 header.1 header.2) }
     ensures refusal { IfErr result (RefusesHeader input.now) }
 {

@@ -12,7 +12,8 @@ ghost use Rattle.gixobj_hash.specs.declared.kind.Kind.{Kind};
 /// The loose header that is written is the one that is read, whatever follows it.
 pub fn loose_header_reads_back()
     ensures { (kind : Kind) (size : ℕ) (rest : List ℕ) → size < 2 ^ 64 →
-        HasLooseHeader (loose_header_text kind size ++ rest) kind size (length (loose_header_text kind size)) }
+        HasLooseHeader (loose_header_text kind size ++ rest) kind size
+        (length (loose_header_text kind size)) }
 {}
 
 /// The hex text that is written is in lower case, and `from_hex` reads the same id from it.
@@ -24,8 +25,10 @@ pub fn hex_reads_back()
 
 /// A hex text that was read is written back in lower case, and so as it was where it was in lower case.
 pub fn hex_writes_back()
-    ensures lower_case { (text : List ℕ) (id : ObjectId) → Spells text id → hex_text id ≡ str_to_ascii_lowercase text }
-    ensures same_text { (text : List ℕ) (id : ObjectId) → AllPass is_lower_hex_digit text → Spells text id → hex_text id ≡ text }
+    ensures lower_case { (text : List ℕ) (id : ObjectId) → Spells text id
+        → hex_text id ≡ str_to_ascii_lowercase text }
+    ensures same_text { (text : List ℕ) (id : ObjectId) → AllPass is_lower_hex_digit text
+        → Spells text id → hex_text id ≡ text }
 {}
 
 /// The hex text of an id spells one id.

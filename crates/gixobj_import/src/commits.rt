@@ -14,10 +14,10 @@ use gixobj_actor::laws::actor_reads_back;
 use gixobj_commit::Commit;
 use gixobj_editor::editor::Editor;
 use gixobj_fields::{WriteTo, encode};
+use gixobj_find::KeepCommit;
 use gixobj_hash::hash::{self, ObjectId};
 use gixobj_hash::laws::hex_reads_back;
 use gixobj_hash::{Kind, OutOfMemory, compute_hash};
-use gixobj_find::KeepCommit;
 use smallvec::SmallVec;
 use std::alloc::Global;
 

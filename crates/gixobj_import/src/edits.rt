@@ -4,8 +4,8 @@ ghost use Rattle.gixobj_import.specs.Edited.{AreDone, IsRefusedAt, IsReplied, me
 ghost use Rattle.gixobj_editor.specs.Replies.{reply_to};
 
 use gixobj_editor::Edit;
-use gixobj_object::Find;
 use gixobj_editor::editor::{Editor, Error};
+use gixobj_object::Find;
 
 /// Whether one of the edits is a write.
 pub(crate) fn hold_a_write(edits: &[Edit]) -> bool

@@ -8,8 +8,8 @@ ghost use Rattle.gixobj_import.specs.Imports.{AgreesWithImports, pairs_of_import
 ghost use Rattle.gixobj_editor.specs.RunTables.{ReadsAsItself};
 
 use crate::import::{Imported, Step};
-use gixobj_object::laws::{an_object_is_put_in, ids_are_the_same_or_not};
 use gixobj_files::laws::fitting_pairs_have_a_table;
+use gixobj_object::laws::{an_object_is_put_in, ids_are_the_same_or_not};
 
 /// Some table agrees with an import, as long as no id of the trees that its writes handed out stands
 /// for two trees, and the written text of each of them reads as no other well-formed tree.

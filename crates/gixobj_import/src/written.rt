@@ -12,13 +12,13 @@ ghost use Rattle.hex.specs.Hex.{IsBytes};
 
 use crate::edits::do_edits;
 use crate::import::ImportError;
-use gixobj_editor::{Edit, EditReply};
 use gixobj_editor::editor::{Editor, WriteError, Written};
+use gixobj_editor::{Edit, EditReply};
 use gixobj_fields::{WriteTo, encode};
+use gixobj_find::{Keep, keep_all};
 use gixobj_hash::hash::{self, ObjectId};
 use gixobj_hash::laws::hex_reads_back;
 use gixobj_hash::{Kind, compute_hash};
-use gixobj_find::{Keep, keep_all};
 use gixobj_tree::Tree;
 use std::alloc::Global;
 

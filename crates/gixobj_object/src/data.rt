@@ -9,12 +9,12 @@ ghost use Rattle.gixobj_commit.specs.TokenGiving.{IsAtStartOfCommit};
 
 pub mod verify;
 
+use crate::ObjectRef;
 use crate::tree::TreeRefIter;
+use gixobj_commit::CommitRefIter;
 use gixobj_hash::decode::Error;
 use gixobj_hash::{Kind, hash};
-use crate::ObjectRef;
 use gixobj_tag::TagRefIter;
-use gixobj_commit::CommitRefIter;
 use std::alloc::Global;
 
 /// The content of an object, borrowed, with its kind and the kind of its ids.
@@ -51,10 +51,12 @@ impl<'a> Data<'a> {
     /// `Malformed` where the content is no object's text of the kind. `OutOfMemory` comes only for a tree or
     /// a commit, as their own readers say; a blob is never refused.
     pub fn decode(&self, alloc: Global) -> Result<ObjectRef<'a>, Error>
-        ensures found { IfOk result (IsObjectText self.now.object_hash self.now.kind self.now.bytes.now) }
+        ensures found { IfOk result (IsObjectText self.now.object_hash self.now.kind
+            self.now.bytes.now) }
         ensures has_ids { IfOk result HasObjectIds }
         ensures ready { IfOk result IsReadyToWrite }
-        ensures refusal { IfErr result (RefusesObjectText self.now.object_hash self.now.kind self.now.bytes.now) }
+        ensures refusal { IfErr result (RefusesObjectText self.now.object_hash self.now.kind
+            self.now.bytes.now) }
     {
         ObjectRef::from_bytes(alloc, self.bytes, self.kind, self.object_hash)
     }
@@ -63,7 +65,8 @@ impl<'a> Data<'a> {
     /// It takes no memory.
     pub fn try_into_commit_iter(self, alloc: Global) -> Option<CommitRefIter<'a>>
         ensures accepts { IsSome result ↔ (self.entry.kind ≡ object.Commit) }
-        ensures reader { IfSome result (IsAtStartOfCommit self.entry.object_hash self.entry.bytes.now) }
+        ensures reader { IfSome result (IsAtStartOfCommit self.entry.object_hash
+            self.entry.bytes.now) }
     {
         match self.kind {
             Kind::Commit => Some(CommitRefIter::from_bytes(alloc, self.bytes, self.object_hash)),
@@ -75,7 +78,8 @@ impl<'a> Data<'a> {
     /// It takes no memory.
     pub fn try_into_tag_iter(self) -> Option<TagRefIter<'a>>
         ensures accepts { IsSome result ↔ (self.entry.kind ≡ object.Tag) }
-        ensures reader { IfSome result (IsAtStartOfTag self.entry.object_hash self.entry.bytes.now) }
+        ensures reader { IfSome result (IsAtStartOfTag self.entry.object_hash
+            self.entry.bytes.now) }
     {
         match self.kind {
             Kind::Tag => Some(TagRefIter::from_bytes(self.bytes, self.object_hash)),

@@ -2,9 +2,9 @@
 ghost use Rattle.std.specs.Prelude.{◌≡◌, ◌≢◌, MatchOption};
 ghost use Rattle.gixobj_object.specs.Objects.{owned_kind};
 
+mod borrowed;
 mod convert;
 mod write;
-mod borrowed;
 
 pub use borrowed::{LooseDecodeError, ObjectRef};
 use gixobj_commit::Commit;
@@ -41,7 +41,8 @@ impl Object {
 
     /// The tree, or none where the object is of another kind.
     pub fn as_tree(&self) -> Option<&Tree>
-        ensures { MatchOption result (owned_kind self.now ≢ Kind.Tree) (λ tree. self.now ≡ Object.Tree tree.now) }
+        ensures { MatchOption result (owned_kind self.now ≢ Kind.Tree)
+            (λ tree. self.now ≡ Object.Tree tree.now) }
     {
         match self {
             Object::Tree(tree) => Some(tree),
@@ -51,7 +52,8 @@ impl Object {
 
     /// The blob, or none where the object is of another kind.
     pub fn as_blob(&self) -> Option<&Blob>
-        ensures { MatchOption result (owned_kind self.now ≢ Kind.Blob) (λ blob. self.now ≡ Object.Blob blob.now) }
+        ensures { MatchOption result (owned_kind self.now ≢ Kind.Blob)
+            (λ blob. self.now ≡ Object.Blob blob.now) }
     {
         match self {
             Object::Blob(blob) => Some(blob),
@@ -61,7 +63,8 @@ impl Object {
 
     /// The commit, or none where the object is of another kind.
     pub fn as_commit(&self) -> Option<&Commit>
-        ensures { MatchOption result (owned_kind self.now ≢ Kind.Commit) (λ commit. self.now ≡ Object.Commit commit.now) }
+        ensures { MatchOption result (owned_kind self.now ≢ Kind.Commit)
+            (λ commit. self.now ≡ Object.Commit commit.now) }
     {
         match self {
             Object::Commit(commit) => Some(commit),
@@ -71,7 +74,8 @@ impl Object {
 
     /// The tag, or none where the object is of another kind.
     pub fn as_tag(&self) -> Option<&Tag>
-        ensures { MatchOption result (owned_kind self.now ≢ Kind.Tag) (λ tag. self.now ≡ Object.Tag tag.now) }
+        ensures { MatchOption result (owned_kind self.now ≢ Kind.Tag)
+            (λ tag. self.now ≡ Object.Tag tag.now) }
     {
         match self {
             Object::Tag(tag) => Some(tag),

@@ -34,7 +34,8 @@ pub trait Find: Store {
     /// memory was wanting. Behind an error the buffer may hold anything.
     fn try_find<'a>(&self, id: oid<'_>, buffer: &'a mut Vec<u8>) -> Result<Option<Data<'a>>, Error>
         ensures found { IfOk result (IsFound (Self.objects self.now) (borrowed_id id.entry)) }
-        ensures refusal { IfErr result (RefusesFind (Self.may_fail self.now) (borrowed_id id.entry)) };
+        ensures refusal { IfErr result (RefusesFind (Self.may_fail self.now)
+            (borrowed_id id.entry)) };
 }
 
 /// A store in which the kinds and sizes of objects are found.
@@ -45,14 +46,16 @@ pub trait FindHeader: Store {
     /// memory was wanting.
     fn try_header(&self, id: oid<'_>) -> Result<Option<Header>, Error>
         ensures found { IfOk result (IsHeaderFound (Self.objects self.now) (borrowed_id id.entry)) }
-        ensures refusal { IfErr result (RefusesFind (Self.may_fail self.now) (borrowed_id id.entry)) };
+        ensures refusal { IfErr result (RefusesFind (Self.may_fail self.now)
+            (borrowed_id id.entry)) };
 }
 
 /// A store that tells whether it has an object.
 pub trait Exists: Store {
     /// Whether the id names an object. For an id whose lookup may fail it may answer either.
     fn exists(&self, id: oid<'_>) -> bool
-        ensures { IsFalse (Self.may_fail self.now (borrowed_id id.entry)) → result ≡ is_some (named (Self.objects self.now) (borrowed_id id.entry)) };
+        ensures { IsFalse (Self.may_fail self.now (borrowed_id id.entry))
+            → result ≡ is_some (named (Self.objects self.now) (borrowed_id id.entry)) };
 }
 
 /// A store in which both objects and their headers are found.

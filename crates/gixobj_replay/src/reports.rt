@@ -5,8 +5,10 @@ use crate::tags::format_word;
 use bstr::BString;
 use gixobj_base::OutOfMemory;
 use gixobj_base::parse::split_at_byte;
+use gixobj_signature::signature::verify::{
+    Outcome, TrustLevel, parse_gpg_output, parse_ssh_output,
+};
 use gixobj_text::signature::{Format, find};
-use gixobj_signature::signature::verify::{Outcome, TrustLevel, parse_gpg_output, parse_ssh_output};
 use std::alloc::{AllocError, Global};
 
 /// What people are told in each report of OpenPGP and of X.509.

@@ -6,11 +6,11 @@ use crate::recorded::texts::{bytes_of, kind_of_ids, text_of};
 use gixobj_base::hash::{self, ObjectId};
 use gixobj_base::parse::split_at_byte;
 use gixobj_base::{Kind, OutOfMemory, Tree, WriteTo, compute_hash, encode};
-use gixobj_script::{answer_lines, answers_of, read_script};
 use gixobj_editor::editor::{Editor, Error};
-use gixobj_find::find::existing_object;
 use gixobj_editor::{EditReply, Reply, run};
 use gixobj_find::Memory;
+use gixobj_find::find::existing_object;
+use gixobj_script::{answer_lines, answers_of, read_script};
 use std::alloc::{AllocError, Global};
 
 /// What is told of a script, run on the empty root over a store of these objects, and the cause of each directory that

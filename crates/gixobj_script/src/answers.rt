@@ -92,7 +92,8 @@ fn push_answer(text: &mut Vec<u8>, answer: &Answer) -> Result<(), OutOfMemory>
 
 /// Appends `refused` and the number of the refusal, with the path of a directory.
 fn push_refusal(text: &mut Vec<u8>, refusal: &Refusal) -> Result<(), OutOfMemory>
-    ensures { OnOk result (text.new.items ≡ text.old.items ++ word_and (codes "refused") (refusal_text refusal.now)) }
+    ensures { OnOk result (text.new.items ≡ text.old.items ++ word_and (codes "refused")
+        (refusal_text refusal.now)) }
 {
     text.extend_from_slice(b"refused ")?;
     match refusal {

@@ -8,12 +8,12 @@ ghost use Rattle.gixobj_editor.specs.Replies.{IsCallable};
 
 use crate::digest::digest_of;
 use crate::telling::answers_of;
+use crate::{ScriptError, answer_lines, read_script};
 use gixobj_editor::editor::Editor;
+use gixobj_editor::run;
+use gixobj_find::{Keep, Memory};
 use gixobj_hash::OutOfMemory;
 use gixobj_hash::hash::{Kind, ObjectId};
-use gixobj_find::{Keep, Memory};
-use gixobj_editor::run;
-use crate::{ScriptError, answer_lines, read_script};
 use gixobj_tree::Tree;
 use std::alloc::Global;
 
@@ -85,10 +85,16 @@ pub fn edit_on<S: Keep, E: Drop, F: Fn(&Tree) -> Result<ObjectId, E> + Drop>(
     out: F,
 ) -> Result<Vec<u8>, EditError>
     requires callable { IsCallable F.pre out }
-    ensures told { IfOk result (λ text. IsTold (record { objects = S.objects; may_fail = S.may_fail }) (λ tree answer. FnReturnsAt F.Fn out tree answer) hash script.now editor.old text.items editor.new) }
+    ensures told { IfOk result
+        (λ text. IsTold (record { objects = S.objects; may_fail = S.may_fail })
+        (λ tree answer. FnReturnsAt F.Fn out tree answer) hash script.now editor.old text.items
+        editor.new) }
     ensures refusal { IfErr result (RefusesEdit hash script.now) }
-    ensures not_run { IfErr result (λ error. (number : ℕ) → error ≡ editing.BadLine number → editor.new ≡ editor.old) }
-    ensures left { OnErr result ((editor.new ≡ editor.old) ⊎ WasRun (record { objects = S.objects; may_fail = S.may_fail }) (λ tree answer. FnReturnsAt F.Fn out tree answer) hash script.now editor.old editor.new) }
+    ensures not_run { IfErr result (λ error. (number : ℕ) → error ≡ editing.BadLine number
+        → editor.new ≡ editor.old) }
+    ensures left { OnErr result ((editor.new ≡ editor.old)
+        ⊎ WasRun (record { objects = S.objects; may_fail = S.may_fail })
+        (λ tree answer. FnReturnsAt F.Fn out tree answer) hash script.now editor.old editor.new) }
 {
     let commands = read_script(alloc, script, hash)?;
     let replies = run(alloc, editor, commands, out)?;

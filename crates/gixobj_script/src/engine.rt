@@ -38,16 +38,25 @@ pub fn engine<R: Read, O: Write, E: Write>(
     errors: &mut E,
 ) -> u8
     ensures answer { result ≡ 0 → AsksForNoEdit (map string_bytes words.now)
-        → Answered (map string_bytes words.now) (R.remaining input.old) (R.remaining input.new) (writer_view (O.contents output.old)) (writer_view (O.contents output.new)) }
-    ensures refusal { result ≢ 0 → AsksForNoEdit (map string_bytes words.now) → (refusal : Refusal) × (result ≡ exit_status_of refusal)
-        × Refuses (map string_bytes words.now) (R.remaining input.old) (R.remaining input.new) ⊤ (writer_view (O.contents output.old)) (writer_view (O.contents output.new)) refusal
-        × Told (writer_view (E.contents errors.old)) (writer_view (E.contents errors.new)) (line_of refusal)
+        → Answered (map string_bytes words.now) (R.remaining input.old) (R.remaining input.new)
+        (writer_view (O.contents output.old)) (writer_view (O.contents output.new)) }
+    ensures refusal { result ≢ 0 → AsksForNoEdit (map string_bytes words.now) → (refusal : Refusal)
+        × (result ≡ exit_status_of refusal)
+        × Refuses (map string_bytes words.now) (R.remaining input.old) (R.remaining input.new) ⊤
+        (writer_view (O.contents output.old)) (writer_view (O.contents output.new)) refusal
+        × Told (writer_view (E.contents errors.old)) (writer_view (E.contents errors.new))
+        (line_of refusal)
         × Unread (input.new ≡ input.old) refusal × Unwritten (output.new ≡ output.old) refusal }
     ensures edited { result ≡ 0 → AsksToEdit (map string_bytes words.now)
-        → Edited (map string_bytes words.now) (R.remaining input.old) (R.remaining input.new) (writer_view (O.contents output.old)) (writer_view (O.contents output.new)) }
-    ensures fault { result ≢ 0 → AsksToEdit (map string_bytes words.now) → (fault : Fault) × (result ≡ fault_status fault)
-        × RefusesEditing (map string_bytes words.now) (R.remaining input.old) (R.remaining input.new) ⊤ (writer_view (O.contents output.old)) (writer_view (O.contents output.new)) fault
-        × Told (writer_view (E.contents errors.old)) (writer_view (E.contents errors.new)) (fault_line fault)
+        → Edited (map string_bytes words.now) (R.remaining input.old) (R.remaining input.new)
+        (writer_view (O.contents output.old)) (writer_view (O.contents output.new)) }
+    ensures fault { result ≢ 0 → AsksToEdit (map string_bytes words.now) → (fault : Fault)
+        × (result ≡ fault_status fault)
+        × RefusesEditing (map string_bytes words.now) (R.remaining input.old)
+        (R.remaining input.new) ⊤ (writer_view (O.contents output.old))
+        (writer_view (O.contents output.new)) fault
+        × Told (writer_view (E.contents errors.old)) (writer_view (E.contents errors.new))
+        (fault_line fault)
         × UnwrittenByEdit (output.new ≡ output.old) fault }
     ensures no_error { result ≡ 0 → errors.new ≡ errors.old }
 {
@@ -74,19 +83,26 @@ pub fn run<S: Source, O: Sink, E: Sink>(
     errors: &mut E,
 ) -> u8
     ensures answer { result ≡ 0 → AsksForNoEdit (map string_bytes words.now)
-        → Answered (map string_bytes words.now) (S.rest input.old) (S.rest input.new) (O.view output.old) (O.view output.new) }
-    ensures refusal { result ≢ 0 → AsksForNoEdit (map string_bytes words.now) → (refusal : Refusal) × (result ≡ exit_status_of refusal)
-        × Refuses (map string_bytes words.now) (S.rest input.old) (S.rest input.new) (S.may_fail input.old) (O.view output.old) (O.view output.new) refusal
+        → Answered (map string_bytes words.now) (S.rest input.old) (S.rest input.new)
+        (O.view output.old) (O.view output.new) }
+    ensures refusal { result ≢ 0 → AsksForNoEdit (map string_bytes words.now) → (refusal : Refusal)
+        × (result ≡ exit_status_of refusal)
+        × Refuses (map string_bytes words.now) (S.rest input.old) (S.rest input.new)
+        (S.may_fail input.old) (O.view output.old) (O.view output.new) refusal
         × Told (E.view errors.old) (E.view errors.new) (line_of refusal)
         × Unread (input.new ≡ input.old) refusal × Unwritten (output.new ≡ output.old) refusal }
     ensures edited { result ≡ 0 → AsksToEdit (map string_bytes words.now)
-        → Edited (map string_bytes words.now) (S.rest input.old) (S.rest input.new) (O.view output.old) (O.view output.new) }
-    ensures fault { result ≢ 0 → AsksToEdit (map string_bytes words.now) → (fault : Fault) × (result ≡ fault_status fault)
-        × RefusesEditing (map string_bytes words.now) (S.rest input.old) (S.rest input.new) (S.may_fail input.old) (O.view output.old) (O.view output.new) fault
+        → Edited (map string_bytes words.now) (S.rest input.old) (S.rest input.new)
+        (O.view output.old) (O.view output.new) }
+    ensures fault { result ≢ 0 → AsksToEdit (map string_bytes words.now) → (fault : Fault)
+        × (result ≡ fault_status fault)
+        × RefusesEditing (map string_bytes words.now) (S.rest input.old) (S.rest input.new)
+        (S.may_fail input.old) (O.view output.old) (O.view output.new) fault
         × Told (E.view errors.old) (E.view errors.new) (fault_line fault)
         × UnwrittenByEdit (output.new ≡ output.old) fault }
     ensures no_error { result ≡ 0 → errors.new ≡ errors.old }
-    ensures same_loans { (S.loan input.new ≡ S.loan input.old) × (O.loan output.new ≡ O.loan output.old) × (E.loan errors.new ≡ E.loan errors.old) }
+    ensures same_loans { (S.loan input.new ≡ S.loan input.old)
+        × (O.loan output.new ≡ O.loan output.old) × (E.loan errors.new ≡ E.loan errors.old) }
 {
     match asked_to_edit(words) {
         Some(hash) => run_script(alloc, words, hash, input, output, errors),
@@ -104,13 +120,16 @@ fn run_script<S: Source, O: Sink, E: Sink>(
     errors: &mut E,
 ) -> u8
     requires asked { AsksForEdit (map string_bytes words.now) hash }
-    ensures edited { result ≡ 0 → Edited (map string_bytes words.now) (S.rest input.old) (S.rest input.new) (O.view output.old) (O.view output.new) }
+    ensures edited { result ≡ 0 → Edited (map string_bytes words.now) (S.rest input.old)
+        (S.rest input.new) (O.view output.old) (O.view output.new) }
     ensures fault { result ≢ 0 → (fault : Fault) × (result ≡ fault_status fault)
-        × RefusesEditing (map string_bytes words.now) (S.rest input.old) (S.rest input.new) (S.may_fail input.old) (O.view output.old) (O.view output.new) fault
+        × RefusesEditing (map string_bytes words.now) (S.rest input.old) (S.rest input.new)
+        (S.may_fail input.old) (O.view output.old) (O.view output.new) fault
         × Told (E.view errors.old) (E.view errors.new) (fault_line fault)
         × UnwrittenByEdit (output.new ≡ output.old) fault }
     ensures no_error { result ≡ 0 → errors.new ≡ errors.old }
-    ensures same_loans { (S.loan input.new ≡ S.loan input.old) × (O.loan output.new ≡ O.loan output.old) × (E.loan errors.new ≡ E.loan errors.old) }
+    ensures same_loans { (S.loan input.new ≡ S.loan input.old)
+        × (O.loan output.new ≡ O.loan output.old) × (E.loan errors.new ≡ E.loan errors.old) }
 {
     match edited(alloc, words, hash, input, output) {
         Ok(()) => 0,
@@ -127,10 +146,13 @@ fn edited<S: Source, O: Sink>(
     output: &mut O,
 ) -> Result<(), Fault>
     requires asked { AsksForEdit (map string_bytes words.now) hash }
-    ensures told { OnOk result (Edited (map string_bytes words.now) (S.rest input.old) (S.rest input.new) (O.view output.old) (O.view output.new)) }
-    ensures refusal { IfErr result (RefusesEditing (map string_bytes words.now) (S.rest input.old) (S.rest input.new) (S.may_fail input.old) (O.view output.old) (O.view output.new)) }
+    ensures told { OnOk result (Edited (map string_bytes words.now) (S.rest input.old)
+        (S.rest input.new) (O.view output.old) (O.view output.new)) }
+    ensures refusal { IfErr result (RefusesEditing (map string_bytes words.now) (S.rest input.old)
+        (S.rest input.new) (S.may_fail input.old) (O.view output.old) (O.view output.new)) }
     ensures unwritten { IfErr result (UnwrittenByEdit (output.new ≡ output.old)) }
-    ensures same_loans { (S.loan input.new ≡ S.loan input.old) × (O.loan output.new ≡ O.loan output.old) }
+    ensures same_loans { (S.loan input.new ≡ S.loan input.old)
+        × (O.loan output.new ≡ O.loan output.old) }
 {
     let script = match read_all(alloc, input) {
         Ok(script) => script,

@@ -22,7 +22,8 @@ use std::alloc::Global;
 ///
 /// `OutOfMemory` only where the line is a command's.
 pub fn read_command(alloc: Global, line: &[u8], hash: Kind) -> Result<Option<Command>, OutOfMemory>
-    ensures read { IfOk result (λ it. MatchOption it (HasNoCommand hash line.now) (λ command. IsCommandText hash line.now (command_view command))) }
+    ensures read { IfOk result (λ it. MatchOption it (HasNoCommand hash line.now)
+        (λ command. IsCommandText hash line.now (command_view command))) }
     ensures refusal { OnErr result (HasCommand hash line.now) }
 {
     if let Some(rest) = after_name(line, b"at") {
@@ -39,7 +40,9 @@ pub fn read_command(alloc: Global, line: &[u8], hash: Kind) -> Result<Option<Com
 
 /// The command of `at` and a space in front of this text.
 fn read_edit_at(alloc: Global, text: &[u8], hash: Kind) -> Result<Option<Command>, OutOfMemory>
-    ensures read { IfOk result (λ it. MatchOption it (HasNoCommand hash (word_and (codes "at") text.now)) (λ command. IsCommandText hash (word_and (codes "at") text.now) (command_view command))) }
+    ensures read { IfOk result (λ it. MatchOption it
+        (HasNoCommand hash (word_and (codes "at") text.now))
+        (λ command. IsCommandText hash (word_and (codes "at") text.now) (command_view command))) }
     ensures refusal { OnErr result (HasCommand hash (word_and (codes "at") text.now)) }
 {
     let Some((prefix, rest)) = split_at_byte(text, b' ') else {
@@ -58,7 +61,8 @@ fn read_edit_at(alloc: Global, text: &[u8], hash: Kind) -> Result<Option<Command
 ///
 /// `OutOfMemory` only where the text is an edit's.
 pub fn read_edit(alloc: Global, text: &[u8], hash: Kind) -> Result<Option<Edit>, OutOfMemory>
-    ensures read { IfOk result (λ it. MatchOption it (HasNoEdit hash text.now) (λ edit. IsEditText hash text.now (edit_view edit))) }
+    ensures read { IfOk result (λ it. MatchOption it (HasNoEdit hash text.now)
+        (λ edit. IsEditText hash text.now (edit_view edit))) }
     ensures refusal { OnErr result (HasEdit hash text.now) }
 {
     if let Some(entry) = after_name(text, b"upsert") {
@@ -80,7 +84,9 @@ pub fn read_edit(alloc: Global, text: &[u8], hash: Kind) -> Result<Option<Edit>,
 
 /// The edit of `upsert` and a space in front of this text.
 fn read_upsert(alloc: Global, entry: &[u8], hash: Kind) -> Result<Option<Edit>, OutOfMemory>
-    ensures read { IfOk result (λ it. MatchOption it (HasNoEdit hash (word_and (codes "upsert") entry.now)) (λ edit. IsEditText hash (word_and (codes "upsert") entry.now) (edit_view edit))) }
+    ensures read { IfOk result (λ it. MatchOption it
+        (HasNoEdit hash (word_and (codes "upsert") entry.now))
+        (λ edit. IsEditText hash (word_and (codes "upsert") entry.now) (edit_view edit))) }
     ensures refusal { OnErr result (HasEdit hash (word_and (codes "upsert") entry.now)) }
 {
     let Some((kind, id, path)) = entry_parts(entry, hash) else {
@@ -93,7 +99,8 @@ fn read_upsert(alloc: Global, entry: &[u8], hash: Kind) -> Result<Option<Edit>, 
 /// The kind, the id and the path of `KIND HEX PATH`, or none. It takes no memory.
 fn entry_parts(entry: &[u8], hash: Kind) -> Option<(EntryKind, ObjectId, &[u8])>
     ensures found { IfSome result (λ it. IsEntryAt hash entry.now it.0 it.1 it.2.now) }
-    ensures none { IfNone result ((kind : EntryKind) (id : ObjectId) (path : List ℕ) → ¬ IsEntryAt hash entry.now kind id path) }
+    ensures none { IfNone result ((kind : EntryKind) (id : ObjectId) (path : List ℕ)
+        → ¬ IsEntryAt hash entry.now kind id path) }
 {
     let Some((word, behind)) = split_at_byte(entry, b' ') else {
         return None;
@@ -112,7 +119,8 @@ fn entry_parts(entry: &[u8], hash: Kind) -> Option<(EntryKind, ObjectId, &[u8])>
 
 /// The kind of entries that the word names, or none.
 fn kind_of_word(word: &[u8]) -> Option<EntryKind>
-    ensures { MatchOption result ((kind : EntryKind) → word.now ≢ entry_word kind) (λ kind. word.now ≡ entry_word kind) }
+    ensures { MatchOption result ((kind : EntryKind) → word.now ≢ entry_word kind)
+        (λ kind. word.now ≡ entry_word kind) }
 {
     match word {
         b"tree" => Some(EntryKind::Tree),
@@ -126,7 +134,8 @@ fn kind_of_word(word: &[u8]) -> Option<EntryKind>
 
 /// The id of this kind whose hex text this is, in either case, or none.
 fn id_of_kind(hex: &[u8], hash: Kind) -> Option<ObjectId>
-    ensures { MatchOption result ((id : ObjectId) → ¬ IsHexOfId hash hex.now id) (λ id. IsHexOfId hash hex.now id) }
+    ensures { MatchOption result ((id : ObjectId) → ¬ IsHexOfId hash hex.now id)
+        (λ id. IsHexOfId hash hex.now id) }
 {
     let hex = hex_hash(hex, hash)?;
     Some(id_of_hex(hex))

@@ -3,11 +3,11 @@ ghost use Rattle.std.specs.Prelude.{◌≡◌, ◌++◌, map, IfOk, OnOk};
 ghost use Rattle.std.specs.List.{flat_map};
 ghost use Rattle.gixobj_script.specs.Telling.{answer_to_edit, answers_to, answers_to_all, told_refusal};
 
+use crate::{Answer, Refusal};
 use gixobj_directories::write::WriteError;
 use gixobj_editor::editor::Error;
-use gixobj_hash::OutOfMemory;
 use gixobj_editor::{EditReply, Reply};
-use crate::{Answer, Refusal};
+use gixobj_hash::OutOfMemory;
 use std::alloc::Global;
 
 /// The answers that tell the replies, in order: one for each, but for edits in a directory one for each of theirs.
@@ -43,7 +43,8 @@ fn push_answers_of_edits<E: Drop>(
     answers: &mut Vec<Answer>,
     replies: Vec<EditReply<E>>,
 ) -> Result<(), OutOfMemory>
-    ensures { OnOk result (answers.new.items ≡ answers.old.items ++ map answer_to_edit replies.items) }
+    ensures { OnOk result (answers.new.items ≡ answers.old.items ++ map answer_to_edit
+        replies.items) }
 {
     for reply in replies {
         answers.push(answer_of_edit(reply))?;

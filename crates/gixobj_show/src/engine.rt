@@ -32,11 +32,15 @@ pub fn engine<R: Read, O: Write, E: Write>(
     output: &mut O,
     errors: &mut E,
 ) -> u8
-    ensures answer { result ≡ 0 → Answered (map string_bytes words.now) (R.remaining input.old) (R.remaining input.new) (writer_view (O.contents output.old)) (writer_view (O.contents output.new)) }
+    ensures answer { result ≡ 0 → Answered (map string_bytes words.now) (R.remaining input.old)
+        (R.remaining input.new) (writer_view (O.contents output.old))
+        (writer_view (O.contents output.new)) }
     ensures no_error { result ≡ 0 → errors.new ≡ errors.old }
     ensures refusal { result ≢ 0 → (refusal : Refusal) × (result ≡ exit_status_of refusal)
-        × Refuses (map string_bytes words.now) (R.remaining input.old) (R.remaining input.new) ⊤ (writer_view (O.contents output.old)) (writer_view (O.contents output.new)) refusal
-        × Told (writer_view (E.contents errors.old)) (writer_view (E.contents errors.new)) (line_of refusal)
+        × Refuses (map string_bytes words.now) (R.remaining input.old) (R.remaining input.new) ⊤
+        (writer_view (O.contents output.old)) (writer_view (O.contents output.new)) refusal
+        × Told (writer_view (E.contents errors.old)) (writer_view (E.contents errors.new))
+        (line_of refusal)
         × Unread (input.new ≡ input.old) refusal × Unwritten (output.new ≡ output.old) refusal }
 {
     run(
@@ -57,13 +61,16 @@ pub fn run<S: Source, O: Sink, E: Sink>(
     output: &mut O,
     errors: &mut E,
 ) -> u8
-    ensures answer { result ≡ 0 → Answered (map string_bytes words.now) (S.rest input.old) (S.rest input.new) (O.view output.old) (O.view output.new) }
+    ensures answer { result ≡ 0 → Answered (map string_bytes words.now) (S.rest input.old)
+        (S.rest input.new) (O.view output.old) (O.view output.new) }
     ensures no_error { result ≡ 0 → errors.new ≡ errors.old }
     ensures refusal { result ≢ 0 → (refusal : Refusal) × (result ≡ exit_status_of refusal)
-        × Refuses (map string_bytes words.now) (S.rest input.old) (S.rest input.new) (S.may_fail input.old) (O.view output.old) (O.view output.new) refusal
+        × Refuses (map string_bytes words.now) (S.rest input.old) (S.rest input.new)
+        (S.may_fail input.old) (O.view output.old) (O.view output.new) refusal
         × Told (E.view errors.old) (E.view errors.new) (line_of refusal)
         × Unread (input.new ≡ input.old) refusal × Unwritten (output.new ≡ output.old) refusal }
-    ensures same_loans { (S.loan input.new ≡ S.loan input.old) × (O.loan output.new ≡ O.loan output.old) × (E.loan errors.new ≡ E.loan errors.old) }
+    ensures same_loans { (S.loan input.new ≡ S.loan input.old)
+        × (O.loan output.new ≡ O.loan output.old) × (E.loan errors.new ≡ E.loan errors.old) }
 {
     match answer(alloc, words, input, output) {
         Ok(()) => 0,
@@ -78,11 +85,14 @@ fn answer<S: Source, O: Sink>(
     input: &mut S,
     output: &mut O,
 ) -> Result<(), Refusal>
-    ensures answer { OnOk result (Answered (map string_bytes words.now) (S.rest input.old) (S.rest input.new) (O.view output.old) (O.view output.new)) }
-    ensures refusal { IfErr result (Refuses (map string_bytes words.now) (S.rest input.old) (S.rest input.new) (S.may_fail input.old) (O.view output.old) (O.view output.new)) }
+    ensures answer { OnOk result (Answered (map string_bytes words.now) (S.rest input.old)
+        (S.rest input.new) (O.view output.old) (O.view output.new)) }
+    ensures refusal { IfErr result (Refuses (map string_bytes words.now) (S.rest input.old)
+        (S.rest input.new) (S.may_fail input.old) (O.view output.old) (O.view output.new)) }
     ensures unread { IfErr result (Unread (input.new ≡ input.old)) }
     ensures unwritten { IfErr result (Unwritten (output.new ≡ output.old)) }
-    ensures same_loans { (S.loan input.new ≡ S.loan input.old) × (O.loan output.new ≡ O.loan output.old) }
+    ensures same_loans { (S.loan input.new ≡ S.loan input.old)
+        × (O.loan output.new ≡ O.loan output.old) }
 {
     let Some((command, hash)) = asked(words) else {
         return Err(Refusal::Usage);

@@ -12,7 +12,8 @@ use std::alloc::Global;
 /// The refusals are `InputFailed`, where the source fails, and `OutOfMemory`, where the bytes find
 /// no memory.
 pub fn read_all<S: Source>(alloc: Global, source: &mut S) -> Result<Vec<u8>, Refusal>
-    ensures all { IfOk result (λ bytes. Consumes (S.rest source.old) (S.rest source.new) bytes.items) }
+    ensures all { IfOk result (λ bytes. Consumes (S.rest source.old) (S.rest source.new)
+        bytes.items) }
     ensures end { OnOk result (IsAtEnd (S.rest source.new)) }
     ensures refusal { IfErr result (RefusesInput (S.may_fail source.old)) }
     ensures same_loan { S.loan source.new ≡ S.loan source.old }

@@ -26,7 +26,8 @@ pub struct LooseObject<'a> {
 /// fewer bytes follow than the header says; and `OutOfMemory`, where the input begins with no loose
 /// header and there is no memory to say why.
 pub fn loose_object(alloc: Global, input: &[u8]) -> Result<LooseObject<'_>, Refusal>
-    ensures found { IfOk result (λ object. IsObject input.now object.kind object.size object.content.now) }
+    ensures found { IfOk result (λ object. IsObject input.now object.kind object.size
+        object.content.now) }
     ensures refusal { IfErr result (RefusesObject input.now) }
 {
     let (kind, size, used) = header_of(alloc, input)?;
@@ -55,7 +56,8 @@ fn header_of(alloc: Global, input: &[u8]) -> Result<(Kind, u64, usize), Refusal>
 /// The content of this size behind a header of so many bytes, or none where fewer bytes follow.
 fn content_of(input: &[u8], size: u64, used: usize) -> Option<&[u8]>
     requires { used ≤ length input.now }
-    ensures found { IfSome result (λ content. (used + size ≤ length input.now) × (content.now ≡ take size (drop used input.now))) }
+    ensures found { IfSome result (λ content. (used + size ≤ length input.now)
+        × (content.now ≡ take size (drop used input.now))) }
     ensures none { IfNone result (length input.now < used + size) }
 {
     let rest = &input[used..];

@@ -4,13 +4,13 @@ ghost use Rattle.gixobj_signature.specs.Calls.{answer_view, call_view};
 
 pub mod report;
 pub mod sign;
-pub mod words;
 mod signed_data;
 pub mod verify;
+pub mod words;
 
-pub use signed_data::SignedData;
 use bstr::BString;
 use gixobj_actor::date::Time;
+pub use signed_data::SignedData;
 
 /// A word of a call.
 #[derive(Clone, Debug, Drop, PartialEq, Eq)]

@@ -50,7 +50,8 @@ pub fn commits_give_their_payloads()
 /// An owned commit of which its writer refuses nothing, as of each that is signed, has no newline in a field of one
 /// line.
 pub fn owned_commits_have_line_fields(commit: &Commit)
-    ensures { RefusesNothing (RefusesOwnedCommit commit.now) → HasLineFields (owned_commit_lines commit.now) }
+    ensures { RefusesNothing (RefusesOwnedCommit commit.now)
+        → HasLineFields (owned_commit_lines commit.now) }
 {
     id_has_one_line(&commit.tree);
     ids_have_one_line(commit.parents.as_slice());
@@ -69,7 +70,8 @@ pub fn signed_commit_gives_its_payload<R: Runner>(
     ensures found { IfOk result (λ signed. HasHeaderNames (owned_commit_lines commit) →
         ¬ HasNoSignature (id_kind commit.tree) (commit_text (owned_commit_lines signed))) }
     ensures payload { IfOk result (λ signed. HasHeaderNames (owned_commit_lines commit) →
-        CommitGivesPayload R.runs options (id_kind commit.tree) (commit_text (owned_commit_lines signed))
+        CommitGivesPayload R.runs options (id_kind commit.tree)
+        (commit_text (owned_commit_lines signed))
         runner.old runner.new) }
 {
     owned_commits_have_line_fields(&commit);
@@ -79,7 +81,8 @@ pub fn signed_commit_gives_its_payload<R: Runner>(
 /// What is found again in the text of a signed tag is what was signed, and the signer's text, where that begins with
 /// a marker and has no other at the start of a line.
 pub fn tags_give_their_payloads()
-    ensures { (lines : TagLines) (bytes signature signed : List ℕ) (format : Format) → HasOneMarker bytes →
+    ensures { (lines : TagLines) (bytes signature signed : List ℕ) (format : Format)
+        → HasOneMarker bytes →
         tags.HasTagSignature (tag_text (tag.signed_as (Some bytes) lines)) signature signed format →
         (signed ≡ tag.payload_of_tag lines) × (signature ≡ bytes) }
 {}
@@ -93,7 +96,8 @@ pub fn signed_tag_gives_its_payload<R: Runner>(
     runner: &mut R,
 ) -> Result<Tag, Error>
     ensures { IfOk result (λ signed.
-        TagGivesPayload R.runs options (tag_text (tag_views.owned_tag_lines signed)) runner.old runner.new) }
+        TagGivesPayload R.runs options (tag_text (tag_views.owned_tag_lines signed)) runner.old
+        runner.new) }
 {
     tag.sign(alloc, options, runner)
 }
@@ -104,5 +108,6 @@ pub fn tag_signatures_agree()
     ensures { (kind : Kind) (text : List ℕ) (lines : TagLines)
         (own : Option SignatureRef) (found : Option (SignatureRef × SignedData)) →
         IsTagText kind text lines → IsSignature lines.signature own →
-        IfSome found (tags.GivesSignatureOfTag text) → IfNone found (HasNoMarker text) → AreTheSame own found }
+        IfSome found (tags.GivesSignatureOfTag text) → IfNone found (HasNoMarker text)
+        → AreTheSame own found }
 {}

@@ -10,6 +10,8 @@ ghost use Rattle.gixobj_tag.specs.TokenGiving.{FindsTagger, GivesIdOfTag, GivesT
 
 mod signature;
 
+use crate::tag::decode;
+use crate::tag::decode::TaggerLine;
 use bstr::BStr;
 use gixobj_actor::actor::SignatureRef;
 use gixobj_fields::parse::{header_id, header_kind};
@@ -17,8 +19,6 @@ use gixobj_hash::decode::Error;
 use gixobj_hash::hash::{ObjectId, oid};
 use gixobj_hash::parse::id_of_hex;
 use gixobj_hash::{Kind, hash};
-use crate::tag::decode;
-use crate::tag::decode::TaggerLine;
 
 /// Where in a tag a reader stands.
 #[derive(Clone, Copy, Debug)]
@@ -85,7 +85,8 @@ impl<'a> TagRefIter<'a> {
     #[tactic(auto, using(crate::proofs::TokenRuns::seeks_start, crate::proofs::TokenRuns::seeks_first))]
     pub fn tagger(self) -> Result<Option<SignatureRef<'a>>, Error>
         ensures found { IfOk result (FindsTagger self.entry) }
-        ensures refusal { IfErr result (λ e. (e ≡ Malformed) × ((ending : Ending) × LacksTagger self.entry ending)) }
+        ensures refusal { IfErr result (λ e. (e ≡ Malformed)
+            × ((ending : Ending) × LacksTagger self.entry ending)) }
     {
         for item in self {
             let token = item?;
@@ -134,7 +135,8 @@ fn read_token(
     hash_kind: hash::Kind,
 ) -> Option<(Token<'_>, State, &[u8])>
     requires { input.now ≢ [] }
-    ensures found { IfSome result (λ it. HasTagToken hash_kind before input.now (tag_token_view it.0) it.1 it.2.now) }
+    ensures found { IfSome result (λ it. HasTagToken hash_kind before input.now
+        (tag_token_view it.0) it.1 it.2.now) }
     ensures none { IfNone result (HasNoPiece (HasTagToken hash_kind) before input.now) }
 {
     match before {
@@ -202,7 +204,8 @@ pub enum Token<'a> {
 impl Token<'_> {
     /// The id of a target, borrowed.
     pub fn id(&self) -> Option<oid<'_>>
-        ensures { MatchOption result (tag_token_id (tag_token_view self.now) ≡ None) (λ id. tag_token_id (tag_token_view self.now) ≡ Some (borrowed_id id)) }
+        ensures { MatchOption result (tag_token_id (tag_token_view self.now) ≡ None)
+            (λ id. tag_token_id (tag_token_view self.now) ≡ Some (borrowed_id id)) }
     {
         match self {
             Token::Target { id } => Some(id.as_oid()),

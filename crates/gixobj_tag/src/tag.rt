@@ -19,10 +19,10 @@ use gixobj_actor::parse::trimmed_actor;
 use gixobj_hash::Kind;
 use gixobj_hash::decode::Error;
 use gixobj_hash::hash::ObjectId;
+use gixobj_hash::optional::borrowed;
 use gixobj_hash::parse::id_of_hex;
 use gixobj_text::signature;
 use gixobj_text::signature::Format;
-use gixobj_hash::optional::borrowed;
 use std::alloc::Global;
 
 /// A tag, borrowed: its fields as they stand in its text.
@@ -76,7 +76,8 @@ impl<'a> TagRef<'a> {
     /// `Malformed` where bytes follow the actor of that line, or it is none. It takes no memory.
     pub fn tagger(&self) -> Result<Option<SignatureRef<'a>>, Error>
         ensures found { IfOk result (IsTrimmedTagger (tag_lines self.now).tagger) }
-        ensures refusal { IfErr result (λ e. (e ≡ Malformed) × IsBadTagger (tag_lines self.now).tagger) }
+        ensures refusal { IfErr result (λ e. (e ≡ Malformed)
+            × IsBadTagger (tag_lines self.now).tagger) }
     {
         match self.tagger {
             Some(line) => Ok(Some(trimmed_actor(line)?)),

@@ -1,6 +1,7 @@
 //! Trees (gitdatamodel, "trees").
 ghost use Rattle.std.specs.Prelude.{◌≡◌, []};
 
+mod borrowed;
 mod compared;
 mod entry;
 mod entry_kind;
@@ -8,7 +9,6 @@ mod entry_mode;
 pub mod order;
 mod well_formed;
 pub mod write;
-mod borrowed;
 
 pub use borrowed::{EntryRef, TreeRef, decode};
 pub use entry::Entry;

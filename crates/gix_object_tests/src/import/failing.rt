@@ -3,9 +3,9 @@ ghost use Rattle.std.specs.Prelude.{◌≡◌};
 ghost use Rattle.gixobj_find.specs.Memory.{memory_objects};
 
 use bstr::BString;
-use gixobj_object::{Data, Find, Store, find};
-use gixobj_hash::hash::{ObjectId, oid};
 use gixobj_find::{Keep, KeepCommit, KeepError, Memory};
+use gixobj_hash::hash::{ObjectId, oid};
+use gixobj_object::{Data, Find, Store, find};
 use gixobj_tree::Tree;
 use std::alloc::Global;
 

@@ -4,9 +4,9 @@
 use crate::import::samples::{COMMITS, are_commits, kept_commit, number, plain_steps, step};
 use gixobj_editor::editor::{Error, WriteError};
 use gixobj_fields::encode;
+use gixobj_find::{KeepError, Memory};
 use gixobj_hash::hash::Kind as HashKind;
 use gixobj_import::{ImportError, Importer, Step, Stopped, import_all};
-use gixobj_find::{KeepError, Memory};
 use std::alloc::Global;
 use std::test::Fail;
 

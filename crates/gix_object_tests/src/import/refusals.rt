@@ -1,11 +1,13 @@
 //! Every refusal of a step, and what comes behind it.
 
-use crate::import::samples::{COMMITS, are_commits, number, path_of, plain_steps, step, step_by, upsert};
+use crate::import::samples::{
+    COMMITS, are_commits, number, path_of, plain_steps, step, step_by, upsert,
+};
 use gixobj_editor::Edit;
 use gixobj_editor::editor::Error;
+use gixobj_find::Memory;
 use gixobj_hash::hash::{Kind as HashKind, ObjectId};
 use gixobj_import::{ImportError, Importer, Step, Stopped, import_all};
-use gixobj_find::Memory;
 use gixobj_tree::tree::EntryKind;
 use std::alloc::{AllocError, Global};
 use std::test::Fail;

@@ -4,10 +4,10 @@ use bstr::BString;
 use gixobj_actor::actor::Signature;
 use gixobj_actor::date::Time;
 use gixobj_editor::Edit;
-use gixobj_object::Find;
 use gixobj_hash::hash::ObjectId;
 use gixobj_hash::{Kind, compute_hash};
 use gixobj_import::{ImportError, Imported, Step};
+use gixobj_object::Find;
 use gixobj_tree::tree::EntryKind;
 use std::alloc::{AllocError, Global};
 

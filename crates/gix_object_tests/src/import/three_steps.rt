@@ -1,10 +1,12 @@
 //! Three steps, a refused one and one behind it. The ids are those that `git hash-object`, `git mktree` and `git commit-tree`
 //! answer, in a repository of either object format.
 
-use crate::import::samples::{Blobs, COMMITS, are_commits, id, kept_commit, number, plain_steps, step_by, three_steps};
+use crate::import::samples::{
+    Blobs, COMMITS, are_commits, id, kept_commit, number, plain_steps, step_by, three_steps,
+};
+use gixobj_find::Memory;
 use gixobj_hash::hash::Kind as HashKind;
 use gixobj_import::{Imported, Importer, import_all};
-use gixobj_find::Memory;
 use std::test::Fail;
 
 /// The trees, how many were handed out, and the size of the commit, of each step.

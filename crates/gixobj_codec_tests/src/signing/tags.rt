@@ -8,8 +8,8 @@ use gixobj_fields::WriteTo;
 use gixobj_hash::OutOfMemory;
 use gixobj_hash::hash::Kind::{Sha1, Sha256};
 use gixobj_signature::signature::sign::{Error, Options};
-use gixobj_text::signature::{Format, SignatureRef};
 use gixobj_tag::{Tag, TagRef, TagRefIter};
+use gixobj_text::signature::{Format, SignatureRef};
 use std::alloc::Global;
 use std::test::Fail;
 

@@ -1,12 +1,14 @@
 //! Verifying: the words of each call, and what comes of each answer.
 
-use crate::signing::calls::{PROGRAM, Step, Told, WHY, environment_of, runner_of, text, text_if_some, texts_of, time};
+use crate::signing::calls::{
+    PROGRAM, Step, Told, WHY, environment_of, runner_of, text, text_if_some, texts_of, time,
+};
 use bstr::{BStr, BString};
 use gixobj_hash::OutOfMemory;
-use gixobj_text::signature::Format;
 use gixobj_signature::signature::SignedData;
 use gixobj_signature::signature::verify::TrustLevel::{self, Fully, Marginal, Ultimate};
 use gixobj_signature::signature::verify::{Error, Options, Outcome};
+use gixobj_text::signature::Format;
 use std::alloc::{AllocError, Global};
 use std::test::Fail;
 

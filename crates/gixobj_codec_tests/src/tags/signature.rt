@@ -1,8 +1,8 @@
 //! Signatures: their formats, and where in a text they begin.
 
 use bstr::BStr;
-use gixobj_text::signature::{SignatureRef, find};
 use gixobj_text::signature::Format::{self, OpenPgp, Ssh, X509};
+use gixobj_text::signature::{SignatureRef, find};
 use std::alloc::AllocError;
 
 /// Texts, and the format of the marker with which they begin.

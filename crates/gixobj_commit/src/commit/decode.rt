@@ -8,10 +8,10 @@ ghost use Rattle.gixobj_commit.specs.Gathering.{TakesMemory, gather, nothing};
 ghost use Rattle.gixobj_commit.specs.Lines.{IsParsedLine, line_view};
 
 use super::CommitRef;
+use crate::lines::{Line, State, read_line};
 use bstr::BStr;
 use gixobj_hash::decode::Error;
 use gixobj_hash::hash::Kind;
-use crate::lines::{Line, State, read_line};
 use smallvec::SmallVec;
 use std::alloc::Global;
 
@@ -26,7 +26,8 @@ impl<'a> CommitRef<'a> {
         bytes: &'a [u8],
         hash_kind: Kind,
     ) -> Result<CommitRef<'a>, Error>
-        ensures found { IfOk result (λ commit. IsCommitText hash_kind bytes.now (commit_lines commit)) }
+        ensures found { IfOk result (λ commit. IsCommitText hash_kind bytes.now
+            (commit_lines commit)) }
         ensures has_ids { IfOk result (λ commit. HasIds (commit_lines commit)) }
         ensures borrowed { IfOk result BorrowsLines }
         ensures refusal { IfErr result (RefusesCommit hash_kind bytes.now) }
@@ -64,10 +65,13 @@ impl<'a> CommitRef<'a> {
     /// Puts a line that was read where it belongs. A second parent and a header take memory.
     fn put(&mut self, line: Line<'a>) -> Result<(), Error>
         requires { 1 ≤ self.now.parents.capacity }
-        ensures put { OnOk result (commit_lines self.new ≡ gather (commit_lines self.old) (line_view line.entry)) }
+        ensures put { OnOk result (commit_lines self.new ≡ gather (commit_lines self.old)
+            (line_view line.entry)) }
         ensures room { OnOk result (1 ≤ self.new.parents.capacity) }
-        ensures borrowed { OnOk result (BorrowsLines self.old → IsParsedLine line.entry → BorrowsLines self.new) }
-        ensures refusal { IfErr result (λ e. (e ≡ OutOfMemory) × TakesMemory (commit_lines self.old) (line_view line.entry)) }
+        ensures borrowed { OnOk result (BorrowsLines self.old → IsParsedLine line.entry
+            → BorrowsLines self.new) }
+        ensures refusal { IfErr result (λ e. (e ≡ OutOfMemory)
+            × TakesMemory (commit_lines self.old) (line_view line.entry)) }
     {
         match line {
             Line::Tree(hex) => self.tree = hex,

@@ -36,8 +36,10 @@ impl<'a> CommitRef<'a> {
     ///
     /// `OutOfMemory` where memory is wanting, which a message of one line takes none of.
     pub fn message_summary(&self, alloc: Global) -> Result<CowSlice<'a, u8>, OutOfMemory>
-        ensures value { IfOk result (λ it. cow_slice_items it ≡ summary_of (commit_lines self.now).message) }
-        ensures owned { IfOk result (λ it. is_owned it ≡ is_of_lines (commit_lines self.now).message) }
+        ensures value { IfOk result (λ it. cow_slice_items it ≡ summary_of
+            (commit_lines self.now).message) }
+        ensures owned { IfOk result (λ it. is_owned it ≡ is_of_lines
+            (commit_lines self.now).message) }
         ensures refusal { IfErr result (λ _. is_of_lines (commit_lines self.now).message ≡ true) }
     {
         summary(alloc, self.message.as_bytes())
@@ -56,7 +58,8 @@ impl<'a> CommitRef<'a> {
 impl<'a> CommitRef<'a> {
     /// The trailers `Signed-off-by` of the message (git-commit, `--signoff`).
     pub fn signed_off_by_trailers(&self, alloc: Global) -> Filtered<'a>
-        ensures trailers { HasTrailers (commit_lines self.now).message (trailers_left (all_of result)) }
+        ensures trailers { HasTrailers (commit_lines self.now).message
+            (trailers_left (all_of result)) }
         ensures filter { filter_of result ≡ SignedOffBy }
     {
         self.message_trailers(alloc).signed_off_by()
@@ -64,7 +67,8 @@ impl<'a> CommitRef<'a> {
 
     /// The trailers `Co-authored-by` of the message.
     pub fn co_authored_by_trailers(&self, alloc: Global) -> Filtered<'a>
-        ensures trailers { HasTrailers (commit_lines self.now).message (trailers_left (all_of result)) }
+        ensures trailers { HasTrailers (commit_lines self.now).message
+            (trailers_left (all_of result)) }
         ensures filter { filter_of result ≡ CoAuthoredBy }
     {
         self.message_trailers(alloc).co_authored_by()
@@ -72,7 +76,8 @@ impl<'a> CommitRef<'a> {
 
     /// The trailers `Assisted-by` of the message.
     pub fn assisted_by_trailers(&self, alloc: Global) -> Filtered<'a>
-        ensures trailers { HasTrailers (commit_lines self.now).message (trailers_left (all_of result)) }
+        ensures trailers { HasTrailers (commit_lines self.now).message
+            (trailers_left (all_of result)) }
         ensures filter { filter_of result ≡ AssistedBy }
     {
         self.message_trailers(alloc).assisted_by()
@@ -80,7 +85,8 @@ impl<'a> CommitRef<'a> {
 
     /// The trailers of the message that name who made the change: `Signed-off-by` and `Co-authored-by`.
     pub fn author_trailers(&self, alloc: Global) -> Filtered<'a>
-        ensures trailers { HasTrailers (commit_lines self.now).message (trailers_left (all_of result)) }
+        ensures trailers { HasTrailers (commit_lines self.now).message
+            (trailers_left (all_of result)) }
         ensures filter { filter_of result ≡ Authors }
     {
         self.message_trailers(alloc).authors()
@@ -90,7 +96,8 @@ impl<'a> CommitRef<'a> {
     /// `Co-authored-by`, `Assisted-by`, `Acked-by`, `Reviewed-by` and `Tested-by`. One name may stand there
     /// more than once.
     pub fn attribution_trailers(&self, alloc: Global) -> Filtered<'a>
-        ensures trailers { HasTrailers (commit_lines self.now).message (trailers_left (all_of result)) }
+        ensures trailers { HasTrailers (commit_lines self.now).message
+            (trailers_left (all_of result)) }
         ensures filter { filter_of result ≡ Attributions }
     {
         self.message_trailers(alloc).attributions()

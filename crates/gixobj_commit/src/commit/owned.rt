@@ -16,8 +16,8 @@ use gixobj_actor::actor::SignatureRef;
 use gixobj_actor::parse::owned_actor;
 use gixobj_hash::OutOfMemory;
 use gixobj_hash::hash::ObjectId;
-use gixobj_hash::parse::id_of_hex;
 use gixobj_hash::optional::copied;
+use gixobj_hash::parse::id_of_hex;
 use smallvec::SmallVec;
 use std::alloc::Global;
 use std::borrow::CowSlice;
@@ -31,8 +31,10 @@ pub(super) fn commit(
     committer: SignatureRef<'_>,
 ) -> Result<Commit, OutOfMemory>
     requires ids { HasIds (commit_lines commit.now) }
-    requires author { IsActor (bstr_bytes commit.now.author) (bstr_bytes author.name) (bstr_bytes author.email) (bstr_bytes author.time) }
-    requires committer { IsActor (bstr_bytes commit.now.committer) (bstr_bytes committer.name) (bstr_bytes committer.email) (bstr_bytes committer.time) }
+    requires author { IsActor (bstr_bytes commit.now.author) (bstr_bytes author.name)
+        (bstr_bytes author.email) (bstr_bytes author.time) }
+    requires committer { IsActor (bstr_bytes commit.now.committer) (bstr_bytes committer.name)
+        (bstr_bytes committer.email) (bstr_bytes committer.time) }
     ensures { IfOk result (IsOwnedFormOfCommit (commit_lines commit.now)) }
 {
     Ok(Commit {

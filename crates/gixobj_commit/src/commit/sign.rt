@@ -31,7 +31,8 @@ impl Commit {
         runner: &mut R,
     ) -> Result<Commit, Error>
         ensures signed { IfOk result (IsSignedCommit R.runs options self runner.old runner.new) }
-        ensures refusal { IfErr result (RefusesSigningCommit R.runs options self runner.old runner.new) }
+        ensures refusal { IfErr result (RefusesSigningCommit R.runs options self runner.old
+            runner.new) }
     {
         let field = signature_field_name(self.tree.kind()).as_bytes();
         let unsigned = without_headers_of(self, field);
@@ -55,8 +56,10 @@ impl CommitRef<'_> {
         runner: &mut R,
     ) -> Result<Commit, Error>
         requires { HasIds (commit_lines self) }
-        ensures signed { IfOk result (IsSignedCommitCopy R.runs options (commit_lines self.entry) runner.old runner.new) }
-        ensures refusal { IfErr result (RefusesSigningCommitCopy R.runs options (commit_lines self.entry) runner.old runner.new) }
+        ensures signed { IfOk result (IsSignedCommitCopy R.runs options (commit_lines self.entry)
+            runner.old runner.new) }
+        ensures refusal { IfErr result (RefusesSigningCommitCopy R.runs options
+            (commit_lines self.entry) runner.old runner.new) }
     {
         match self.into_owned(alloc) {
             Ok(commit) => commit.sign(alloc, options, runner),
@@ -69,7 +72,8 @@ impl CommitRef<'_> {
 fn payload_of(alloc: Global, commit: &Commit) -> Result<Vec<u8>, encode::Error>
     ensures text { IfOk result (λ text. text.items ≡ commit_text (owned_commit_lines commit.now)) }
     ensures writable { OnOk result (RefusesNothing (RefusesOwnedCommit commit.now)) }
-    ensures refusal { IfErr result (RefusesWritingCommit commit.now (commit_text (owned_commit_lines commit.now))) }
+    ensures refusal { IfErr result (RefusesWritingCommit commit.now
+        (commit_text (owned_commit_lines commit.now))) }
 {
     let mut payload = Vec::new(alloc);
     commit.write_to_vec(alloc, &mut payload)?;
@@ -86,8 +90,11 @@ fn sign_written<R: Runner>(
     options: Options,
     runner: &mut R,
 ) -> Result<Commit, Error>
-    ensures signed { IfOk result (GetsCommitSignature R.runs options payload.now field.now unsigned runner.old runner.new) }
-    ensures refusal { IfErr result (λ error. Goes R.runs (sign_plan (options_view options) payload.now) runner.old (signer_refusal error) runner.new) }
+    ensures signed { IfOk result (GetsCommitSignature R.runs options payload.now field.now unsigned
+        runner.old runner.new) }
+    ensures refusal { IfErr result (λ error. Goes R.runs
+        (sign_plan (options_view options) payload.now) runner.old (signer_refusal error)
+        runner.new) }
 {
     match sign_payload(alloc, payload, options, runner) {
         Ok(bytes) => match with_header(alloc, unsigned, field, bytes) {
@@ -100,7 +107,8 @@ fn sign_written<R: Runner>(
 
 /// The commit without the headers of this name.
 fn without_headers_of(commit: Commit, name: &[u8]) -> Commit
-    ensures lines { owned_commit_lines result ≡ without_headers name.now (owned_commit_lines commit) }
+    ensures lines { owned_commit_lines result ≡ without_headers name.now
+        (owned_commit_lines commit) }
     ensures others { result ≡ record commit { extra_headers = result.extra_headers } }
 {
     let mut commit = commit;
@@ -124,7 +132,8 @@ fn with_header(
     name: &[u8],
     value: BString,
 ) -> Result<Commit, OutOfMemory>
-    ensures { IfOk result (λ it. owned_commit_lines it ≡ with_last_header name.now (bstring_bytes value) (owned_commit_lines commit)) }
+    ensures { IfOk result (λ it. owned_commit_lines it ≡ with_last_header name.now
+        (bstring_bytes value) (owned_commit_lines commit)) }
 {
     let mut commit = commit;
     let name = BString::from_slice(alloc, name)?;

@@ -75,7 +75,8 @@ impl WriteTo for CommitRef<'_> {
 /// Puts the lines of the tree and of the parents.
 fn put_ids<T: Field, S: Sink>(tree: &ObjectId, parents: &[T], sink: &mut S) -> io::Result<()>
     requires { All T.can_put parents.now }
-    ensures put { PutsOrFails result (S.view sink.old) (S.view sink.new) (field_text (codes "tree") (hex_text tree.now) ++ flat_map T.written parents.now) }
+    ensures put { PutsOrFails result (S.view sink.old) (S.view sink.new)
+        (field_text (codes "tree") (hex_text tree.now) ++ flat_map T.written parents.now) }
     ensures same_loan { S.loan sink.new ≡ S.loan sink.old }
 {
     trusted_header_id(b"tree", tree, sink)?;
@@ -86,7 +87,8 @@ fn put_ids<T: Field, S: Sink>(tree: &ObjectId, parents: &[T], sink: &mut S) -> i
 fn put_hex_ids<S: Sink>(tree: BStr<'_>, parents: &[BStr<'_>], sink: &mut S) -> io::Result<()>
     requires tree { IsHexOfAnId (bstr_bytes tree) }
     requires parents { All (λ hex. IsHexOfAnId (bstr_bytes hex)) parents.now }
-    ensures put { PutsOrFails result (S.view sink.old) (S.view sink.new) (hex_lines tree.entry parents.now) }
+    ensures put { PutsOrFails result (S.view sink.old) (S.view sink.new)
+        (hex_lines tree.entry parents.now) }
     ensures same_loan { S.loan sink.new ≡ S.loan sink.old }
 {
     put_hex_tree(tree, sink)?;
@@ -122,7 +124,8 @@ fn hex_tree_size(tree: BStr<'_>) -> Option<u64>
 
 /// How many bytes the lines of the tree and of the parents take, or none past 64 bits.
 fn ids_size<T: Field>(tree: &ObjectId, parents: &[T]) -> Option<u64>
-    ensures { IsSize result (field_text (codes "tree") (hex_text tree.now) ++ flat_map T.written parents.now) }
+    ensures { IsSize result (field_text (codes "tree") (hex_text tree.now) ++ flat_map T.written
+        parents.now) }
 {
     size_with_all(size_with_id(0, b"tree", tree)?, parents)
 }
@@ -220,7 +223,8 @@ impl Field for (BString, BString) {
 #[tactic(auto, using(gixobj_fields::proofs::Joins::item_front))]
 fn put_all<T: Field, S: Sink>(fields: &[T], sink: &mut S) -> io::Result<()>
     requires { All T.can_put fields.now }
-    ensures put { PutsOrFails result (S.view sink.old) (S.view sink.new) (flat_map T.written fields.now) }
+    ensures put { PutsOrFails result (S.view sink.old) (S.view sink.new)
+        (flat_map T.written fields.now) }
     ensures same_loan { S.loan sink.new ≡ S.loan sink.old }
 {
     for field in fields {
@@ -249,9 +253,15 @@ fn put_rest<T: Field, S: Sink>(
     sink: &mut S,
 ) -> Result<(), Error>
     requires { All T.can_put headers.now }
-    ensures written { OnOk result (Puts (S.view sink.old) (S.view sink.new) (encoding_text (bytes_if_some encoding.entry) ++ flat_map T.written headers.now ++ newline ∷ message.now)) }
-    ensures nothing_refused { OnOk result (RefusesNothing (RefusesEncodingLine (bytes_if_some encoding.entry))) }
-    ensures refusal { IfErr result (RefusesWriting (RefusesEncodingLine (bytes_if_some encoding.entry)) (S.view sink.old) (S.view sink.new) (encoding_text (bytes_if_some encoding.entry) ++ flat_map T.written headers.now ++ newline ∷ message.now)) }
+    ensures written { OnOk result (Puts (S.view sink.old) (S.view sink.new)
+        (encoding_text (bytes_if_some encoding.entry) ++ flat_map T.written
+        headers.now ++ newline ∷ message.now)) }
+    ensures nothing_refused { OnOk result (RefusesNothing
+        (RefusesEncodingLine (bytes_if_some encoding.entry))) }
+    ensures refusal { IfErr result (RefusesWriting
+        (RefusesEncodingLine (bytes_if_some encoding.entry)) (S.view sink.old) (S.view sink.new)
+        (encoding_text (bytes_if_some encoding.entry) ++ flat_map T.written
+        headers.now ++ newline ∷ message.now)) }
     ensures same_loan { S.loan sink.new ≡ S.loan sink.old }
 {
     put_encoding(alloc, encoding, sink)?;
@@ -266,9 +276,13 @@ fn put_encoding<S: Sink>(
     encoding: Option<BStr<'_>>,
     sink: &mut S,
 ) -> Result<(), Error>
-    ensures written { OnOk result (Puts (S.view sink.old) (S.view sink.new) (encoding_text (bytes_if_some encoding.entry))) }
-    ensures nothing_refused { OnOk result (RefusesNothing (RefusesEncodingLine (bytes_if_some encoding.entry))) }
-    ensures refusal { IfErr result (RefusesWriting (RefusesEncodingLine (bytes_if_some encoding.entry)) (S.view sink.old) (S.view sink.new) (encoding_text (bytes_if_some encoding.entry))) }
+    ensures written { OnOk result (Puts (S.view sink.old) (S.view sink.new)
+        (encoding_text (bytes_if_some encoding.entry))) }
+    ensures nothing_refused { OnOk result (RefusesNothing
+        (RefusesEncodingLine (bytes_if_some encoding.entry))) }
+    ensures refusal { IfErr result (RefusesWriting
+        (RefusesEncodingLine (bytes_if_some encoding.entry)) (S.view sink.old) (S.view sink.new)
+        (encoding_text (bytes_if_some encoding.entry))) }
     ensures same_loan { S.loan sink.new ≡ S.loan sink.old }
 {
     match encoding {
@@ -284,7 +298,8 @@ fn size_with_rest<T: Field>(
     headers: &[T],
     message: &[u8],
 ) -> Option<u64>
-    ensures { AddsSize result size (encoding_text (bytes_if_some encoding.entry) ++ flat_map T.written headers.now ++ newline ∷ message.now) }
+    ensures { AddsSize result size (encoding_text (bytes_if_some encoding.entry) ++ flat_map
+        T.written headers.now ++ newline ∷ message.now) }
 {
     let with_encoding = size_with_encoding(size, encoding)?;
     let with_headers = size_with_all(with_encoding, headers)?;

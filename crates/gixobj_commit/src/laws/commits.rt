@@ -22,15 +22,19 @@ use std::alloc::Global;
 
 /// A text is that of one commit at most.
 pub fn commit_has_one_reading()
-    ensures { (kind : Kind) (text : List ℕ) (commit commit' : CommitLines) → IsCommitText kind text commit → IsCommitText kind text commit' → commit ≡ commit' }
+    ensures { (kind : Kind) (text : List ℕ) (commit commit' : CommitLines)
+        → IsCommitText kind text commit → IsCommitText kind text commit' → commit ≡ commit' }
 {}
 
 /// A commit that was read, with its ids in lower case, is written as it was. Of a commit that was read
 /// nothing is refused but an empty encoding.
 pub fn commit_writes_back()
-    ensures same_text { (kind : Kind) (text : List ℕ) (commit : CommitLines) → IsCommitText kind text commit →
-        AllPass is_lower_hex_digit commit.tree → All (λ hex. AllPass is_lower_hex_digit hex) commit.parents → commit_text (in_lower_case commit) ≡ text }
-    ensures not_refused { (kind : Kind) (text : List ℕ) (commit : CommitLines) → IsCommitText kind text commit →
+    ensures same_text { (kind : Kind) (text : List ℕ) (commit : CommitLines)
+        → IsCommitText kind text commit →
+        AllPass is_lower_hex_digit commit.tree → All (λ hex. AllPass is_lower_hex_digit hex)
+        commit.parents → commit_text (in_lower_case commit) ≡ text }
+    ensures not_refused { (kind : Kind) (text : List ℕ) (commit : CommitLines)
+        → IsCommitText kind text commit →
         commit.encoding ≢ Some [] → RefusesNothing (RefusesCommitLines (in_lower_case commit)) }
 {}
 
@@ -39,11 +43,17 @@ pub fn commit_writes_back()
 /// memory, and that is written but for want of room, an actor with a byte that no owned one may have,
 /// or an empty encoding.
 pub fn owned_forms_have_the_parts()
-    ensures parts { (lines : CommitLines) (commit : Commit) → IsOwnedFormOfCommit lines commit → AreOwnPartsOfCommit lines (owned_commit_lines commit) }
-    ensures owned { (kind : Kind) (text : List ℕ) (lines : CommitLines) → IsCommitText kind text lines → ¬ RefusesOwningCommit lines Malformed }
-    ensures refusal { (kind : Kind) (text : List ℕ) (lines : CommitLines) (commit : Commit) (before after : SinkView) (error : Error) →
+    ensures parts { (lines : CommitLines) (commit : Commit) → IsOwnedFormOfCommit lines commit
+        → AreOwnPartsOfCommit lines (owned_commit_lines commit) }
+    ensures owned { (kind : Kind) (text : List ℕ) (lines : CommitLines)
+        → IsCommitText kind text lines → ¬ RefusesOwningCommit lines Malformed }
+    ensures refusal { (kind : Kind) (text : List ℕ) (lines : CommitLines) (commit : Commit)
+        (before after : SinkView) (error : Error) →
         IsCommitText kind text lines → IsOwnedFormOfCommit lines commit →
-        RefusesWriting (RefusesOwnedCommit commit) before after (commit_text (owned_commit_lines commit)) error → RefusesOwnFormOfCommit lines before after (commit_text (owned_commit_lines commit)) error }
+        RefusesWriting (RefusesOwnedCommit commit) before after
+        (commit_text (owned_commit_lines commit)) error
+        → RefusesOwnFormOfCommit lines before after (commit_text (owned_commit_lines commit))
+        error }
 {}
 
 /// A commit is written behind the bytes of a list: where it was read from a text, and its ids were in
@@ -55,11 +65,16 @@ pub fn commit_reads_and_writes(
     out: &mut Vec<u8>,
 ) -> Result<(), Error>
     requires { HasIds (commit_lines commit.now) }
-    ensures same_text { OnOk result ((kind : Kind) (text : List ℕ) → IsCommitText kind text (commit_lines commit.now) →
-        AllPass is_lower_hex_digit (commit_lines commit.now).tree → All (λ hex. AllPass is_lower_hex_digit hex) (commit_lines commit.now).parents →
+    ensures same_text { OnOk result ((kind : Kind) (text : List ℕ)
+        → IsCommitText kind text (commit_lines commit.now) →
+        AllPass is_lower_hex_digit (commit_lines commit.now).tree
+        → All (λ hex. AllPass is_lower_hex_digit hex) (commit_lines commit.now).parents →
         out.new.items ≡ out.old.items ++ text) }
-    ensures refusal { IfErr result (λ error. (kind : Kind) (text : List ℕ) → IsCommitText kind text (commit_lines commit.now) → (commit_lines commit.now).encoding ≢ Some [] →
-        FailsAsSink (list_view out.old) (list_view out.new) (commit_text (in_lower_case (commit_lines commit.now))) error) }
+    ensures refusal { IfErr result (λ error. (kind : Kind) (text : List ℕ)
+        → IsCommitText kind text (commit_lines commit.now)
+        → (commit_lines commit.now).encoding ≢ Some [] →
+        FailsAsSink (list_view out.old) (list_view out.new)
+        (commit_text (in_lower_case (commit_lines commit.now))) error) }
 {
     match commit.write_to_vec(alloc, out) {
         Ok(()) => Ok(()),

@@ -25,9 +25,12 @@ ghost use Rattle.gixobj_commit.specs.declared.ref_iter.filters.ParentIds.{Parent
 /// that commit; and a text that is told to its end, with a message last, is that of a commit, whose
 /// tokens these are.
 pub fn readers_read_one_language()
-    ensures told { (kind : Kind) (text : List ℕ) (commit : CommitLines) → IsCommitText kind text commit →
-        (tokens : List CommitTokenView) × TellsCommit kind state.Tree text tokens complete × AreTokensOfCommit commit tokens × EndsInMessage tokens }
-    ensures read { (kind : Kind) (text : List ℕ) (tokens : List CommitTokenView) → TellsCommit kind state.Tree text tokens complete → EndsInMessage tokens →
+    ensures told { (kind : Kind) (text : List ℕ) (commit : CommitLines)
+        → IsCommitText kind text commit →
+        (tokens : List CommitTokenView) × TellsCommit kind state.Tree text tokens complete
+        × AreTokensOfCommit commit tokens × EndsInMessage tokens }
+    ensures read { (kind : Kind) (text : List ℕ) (tokens : List CommitTokenView)
+        → TellsCommit kind state.Tree text tokens complete → EndsInMessage tokens →
         (commit : CommitLines) × IsCommitText kind text commit × AreTokensOfCommit commit tokens }
 {}
 
@@ -35,43 +38,65 @@ pub fn readers_read_one_language()
 /// each token that it gives is passed too; where it gives nothing more, those that were passed are told to
 /// the end, and where it refuses the bytes that are left, they are told up to there.
 pub fn tokens_are_passed()
-    ensures starts { (kind : Kind) (text : List ℕ) (reader : CommitRefIter) → IsAtStartOfCommit kind text reader → HasPassedCommitTokens kind text [] reader }
-    ensures goes_on { (kind : Kind) (text : List ℕ) (tokens : List CommitTokenView) (at after : CommitRefIter) (token : Token) →
-        HasPassedCommitTokens kind text tokens at → GivesCommitToken at (Some (Ok token)) after → HasPassedCommitTokens kind text (tokens ++ commit_token_view token ∷ []) after }
-    ensures ends { (kind : Kind) (text : List ℕ) (tokens : List CommitTokenView) (at after : CommitRefIter) →
-        HasPassedCommitTokens kind text tokens at → GivesCommitToken at None after → TellsCommit kind state.Tree text tokens complete }
-    ensures stops { (kind : Kind) (text : List ℕ) (tokens : List CommitTokenView) (at after : CommitRefIter) →
-        HasPassedCommitTokens kind text tokens at → GivesCommitToken at (Some (Err Malformed)) after → TellsCommit kind state.Tree text tokens broken }
+    ensures starts { (kind : Kind) (text : List ℕ) (reader : CommitRefIter)
+        → IsAtStartOfCommit kind text reader → HasPassedCommitTokens kind text [] reader }
+    ensures goes_on { (kind : Kind) (text : List ℕ) (tokens : List CommitTokenView)
+        (at after : CommitRefIter) (token : Token) →
+        HasPassedCommitTokens kind text tokens at → GivesCommitToken at (Some (Ok token)) after
+        → HasPassedCommitTokens kind text (tokens ++ commit_token_view token ∷ []) after }
+    ensures ends { (kind : Kind) (text : List ℕ) (tokens : List CommitTokenView)
+        (at after : CommitRefIter) →
+        HasPassedCommitTokens kind text tokens at → GivesCommitToken at None after
+        → TellsCommit kind state.Tree text tokens complete }
+    ensures stops { (kind : Kind) (text : List ℕ) (tokens : List CommitTokenView)
+        (at after : CommitRefIter) →
+        HasPassedCommitTokens kind text tokens at → GivesCommitToken at (Some (Err Malformed)) after
+        → TellsCommit kind state.Tree text tokens broken }
 {}
 
 /// Of the text of a commit a reader at its start finds the commit's tree and parents.
 pub fn ids_are_found()
-    ensures tree { (kind : Kind) (text : List ℕ) (commit : CommitLines) (reader after : CommitRefIter) (result : Result ObjectId Error) →
-        IsCommitText kind text commit → IsAtStartOfCommit kind text reader → GivesIdOfCommit reader result after →
+    ensures tree { (kind : Kind) (text : List ℕ) (commit : CommitLines)
+        (reader after : CommitRefIter) (result : Result ObjectId Error) →
+        IsCommitText kind text commit → IsAtStartOfCommit kind text reader
+        → GivesIdOfCommit reader result after →
         (id : ObjectId) × (result ≡ Ok id) × Spells commit.tree id }
     ensures parents { (kind : Kind) (text : List ℕ) (commit : CommitLines) (parents : ParentIds) →
         IsCommitText kind text commit → IsAtStartOfCommit kind text (parents_reader parents) →
-        (ids : List ObjectId) × AllZip Spells commit.parents ids × YieldsList GivesParent (λ id. id) parents ids }
+        (ids : List ObjectId) × AllZip Spells commit.parents ids
+        × YieldsList GivesParent (λ id. id) parents ids }
 {}
 
 /// Of the text of a commit a reader at its start finds the commit's author and committer, and refuses
 /// them but for want of memory.
 pub fn actors_are_found()
-    ensures author { (kind : Kind) (text : List ℕ) (commit : CommitLines) (reader : CommitRefIter) (name email time : List ℕ) →
-        IsCommitText kind text commit → IsAtStartOfCommit kind text reader → FindsAuthor reader name email time → IsActor commit.author name email time }
-    ensures has_author { (kind : Kind) (text : List ℕ) (commit : CommitLines) (reader : CommitRefIter) →
-        IsCommitText kind text commit → IsAtStartOfCommit kind text reader → ¬ FindsNone IsAuthorToken reader Malformed }
-    ensures committer { (kind : Kind) (text : List ℕ) (commit : CommitLines) (reader : CommitRefIter) (name email time : List ℕ) →
-        IsCommitText kind text commit → IsAtStartOfCommit kind text reader → FindsCommitter reader name email time → IsActor commit.committer name email time }
-    ensures has_committer { (kind : Kind) (text : List ℕ) (commit : CommitLines) (reader : CommitRefIter) →
-        IsCommitText kind text commit → IsAtStartOfCommit kind text reader → ¬ FindsNone IsCommitterToken reader Malformed }
+    ensures author { (kind : Kind) (text : List ℕ) (commit : CommitLines) (reader : CommitRefIter)
+        (name email time : List ℕ) →
+        IsCommitText kind text commit → IsAtStartOfCommit kind text reader
+        → FindsAuthor reader name email time → IsActor commit.author name email time }
+    ensures has_author { (kind : Kind) (text : List ℕ) (commit : CommitLines)
+        (reader : CommitRefIter) →
+        IsCommitText kind text commit → IsAtStartOfCommit kind text reader
+        → ¬ FindsNone IsAuthorToken reader Malformed }
+    ensures committer { (kind : Kind) (text : List ℕ) (commit : CommitLines)
+        (reader : CommitRefIter) (name email time : List ℕ) →
+        IsCommitText kind text commit → IsAtStartOfCommit kind text reader
+        → FindsCommitter reader name email time → IsActor commit.committer name email time }
+    ensures has_committer { (kind : Kind) (text : List ℕ) (commit : CommitLines)
+        (reader : CommitRefIter) →
+        IsCommitText kind text commit → IsAtStartOfCommit kind text reader
+        → ¬ FindsNone IsCommitterToken reader Malformed }
 {}
 
 /// Of the text of a commit a reader at its start finds the commit's message, and refuses it but for
 /// want of memory.
 pub fn message_is_found()
-    ensures message { (kind : Kind) (text : List ℕ) (commit : CommitLines) (reader : CommitRefIter) (message : List ℕ) →
-        IsCommitText kind text commit → IsAtStartOfCommit kind text reader → FindsMessage reader message → message ≡ commit.message }
-    ensures has_message { (kind : Kind) (text : List ℕ) (commit : CommitLines) (reader : CommitRefIter) →
-        IsCommitText kind text commit → IsAtStartOfCommit kind text reader → ¬ FindsFault IsMessageToken reader Malformed }
+    ensures message { (kind : Kind) (text : List ℕ) (commit : CommitLines) (reader : CommitRefIter)
+        (message : List ℕ) →
+        IsCommitText kind text commit → IsAtStartOfCommit kind text reader
+        → FindsMessage reader message → message ≡ commit.message }
+    ensures has_message { (kind : Kind) (text : List ℕ) (commit : CommitLines)
+        (reader : CommitRefIter) →
+        IsCommitText kind text commit → IsAtStartOfCommit kind text reader
+        → ¬ FindsFault IsMessageToken reader Malformed }
 {}

@@ -33,7 +33,8 @@ impl<'a> CommitRefIter<'a> {
     /// The error that comes before it, or `Malformed` where none comes.
     #[tactic(auto, using(crate::proofs::TokenRuns::seeks_start, crate::proofs::TokenRuns::seeks_first))]
     pub fn author(self) -> Result<SignatureRef<'a>, Error>
-        ensures found { IfOk result (λ it. FindsAuthor self.entry (bstr_bytes it.name) (bstr_bytes it.email) (bstr_bytes it.time)) }
+        ensures found { IfOk result (λ it. FindsAuthor self.entry (bstr_bytes it.name)
+            (bstr_bytes it.email) (bstr_bytes it.time)) }
         ensures refusal { IfErr result (FindsNone IsAuthorToken self.entry) }
     {
         for item in self {
@@ -50,7 +51,8 @@ impl<'a> CommitRefIter<'a> {
     /// The error that comes before it, or `Malformed` where none comes.
     #[tactic(auto, using(crate::proofs::TokenRuns::seeks_start, crate::proofs::TokenRuns::seeks_first))]
     pub fn committer(self) -> Result<SignatureRef<'a>, Error>
-        ensures found { IfOk result (λ it. FindsCommitter self.entry (bstr_bytes it.name) (bstr_bytes it.email) (bstr_bytes it.time)) }
+        ensures found { IfOk result (λ it. FindsCommitter self.entry (bstr_bytes it.name)
+            (bstr_bytes it.email) (bstr_bytes it.time)) }
         ensures refusal { IfErr result (FindsNone IsCommitterToken self.entry) }
     {
         for item in self {

@@ -12,7 +12,8 @@ use gixobj_hash::hash::ObjectId;
 impl<'a> Token<'a> {
     /// The id of a parent.
     pub(super) fn as_parent(&self) -> Option<ObjectId>
-        ensures { MatchOption result (¬ IsParentToken (commit_token_view self.now)) (λ id. commit_token_view self.now ≡ parent_token id) }
+        ensures { MatchOption result (¬ IsParentToken (commit_token_view self.now))
+            (λ id. commit_token_view self.now ≡ parent_token id) }
     {
         match self {
             Token::Parent { id } => Some(*id),
@@ -22,7 +23,9 @@ impl<'a> Token<'a> {
 
     /// The actor of an author.
     pub(super) fn as_author(&self) -> Option<SignatureRef<'a>>
-        ensures { MatchOption result (¬ IsAuthorToken (commit_token_view self.now)) (λ it. commit_token_view self.now ≡ author_token (bstr_bytes it.name) (bstr_bytes it.email) (bstr_bytes it.time)) }
+        ensures { MatchOption result (¬ IsAuthorToken (commit_token_view self.now))
+            (λ it. commit_token_view self.now ≡ author_token (bstr_bytes it.name)
+            (bstr_bytes it.email) (bstr_bytes it.time)) }
     {
         match self {
             Token::Author { signature } => Some(*signature),
@@ -32,7 +35,9 @@ impl<'a> Token<'a> {
 
     /// The actor of a committer.
     pub(super) fn as_committer(&self) -> Option<SignatureRef<'a>>
-        ensures { MatchOption result (¬ IsCommitterToken (commit_token_view self.now)) (λ it. commit_token_view self.now ≡ committer_token (bstr_bytes it.name) (bstr_bytes it.email) (bstr_bytes it.time)) }
+        ensures { MatchOption result (¬ IsCommitterToken (commit_token_view self.now))
+            (λ it. commit_token_view self.now ≡ committer_token (bstr_bytes it.name)
+            (bstr_bytes it.email) (bstr_bytes it.time)) }
     {
         match self {
             Token::Committer { signature } => Some(*signature),
@@ -42,7 +47,9 @@ impl<'a> Token<'a> {
 
     /// The actor of an author or a committer.
     pub(super) fn as_actor(&self) -> Option<SignatureRef<'a>>
-        ensures { MatchOption result (¬ IsActorToken (commit_token_view self.now)) (λ it. IsActorTokenOf (bstr_bytes it.name) (bstr_bytes it.email) (bstr_bytes it.time) (commit_token_view self.now)) }
+        ensures { MatchOption result (¬ IsActorToken (commit_token_view self.now))
+            (λ it. IsActorTokenOf (bstr_bytes it.name) (bstr_bytes it.email) (bstr_bytes it.time)
+            (commit_token_view self.now)) }
     {
         match self {
             Token::Author { signature } | Token::Committer { signature } => Some(*signature),
@@ -52,7 +59,8 @@ impl<'a> Token<'a> {
 
     /// The bytes of a message.
     pub(super) fn as_message(&self) -> Option<BStr<'a>>
-        ensures { MatchOption result (¬ IsMessageToken (commit_token_view self.now)) (λ it. commit_token_view self.now ≡ message_token (bstr_bytes it)) }
+        ensures { MatchOption result (¬ IsMessageToken (commit_token_view self.now))
+            (λ it. commit_token_view self.now ≡ message_token (bstr_bytes it)) }
     {
         match self {
             Token::Message(message) => Some(*message),

@@ -6,10 +6,10 @@ ghost use Rattle.gixobj_commit.specs.Extracting.{GivesSignatureOfCommit, HasNoSi
 ghost use Rattle.gixobj_signature.specs.SignedBytes.{signed_bytes};
 
 use super::CommitRefIter;
+use crate::lines::{Line, State, read_line};
 use crate::signature_field_name;
 use gixobj_hash::decode::Error;
 use gixobj_hash::hash::Kind;
-use crate::lines::{Line, State, read_line};
 use gixobj_signature::signature::SignedData;
 use std::alloc::Global;
 use std::borrow::CowSlice;
@@ -52,7 +52,9 @@ impl<'a> CommitRefIter<'a> {
 
 /// The value of a header of this name, or none of another line.
 fn value_of_line<'a>(line: Line<'a>, name: &[u8]) -> Option<CowSlice<'a, u8>>
-    ensures { MatchOption result (¬ IsNamedLine name.now (line_view line.entry)) (λ value. line_view line.entry ≡ header_line (record { name = name.now; value = cow_slice_items value })) }
+    ensures { MatchOption result (¬ IsNamedLine name.now (line_view line.entry))
+        (λ value. line_view line.entry ≡ header_line
+        (record { name = name.now; value = cow_slice_items value })) }
 {
     match line {
         Line::ExtraHeader((key, value)) => {

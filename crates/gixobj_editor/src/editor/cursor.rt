@@ -22,11 +22,11 @@ ghost use Rattle.gixobj_tree.specs.Mode.{mode_of_kind};
 use super::names::{check_names, copy_names, join_paths};
 use super::{Editor, Error, WriteError, Written};
 use bstr::BString;
-use gixobj_object::Find;
 use gixobj_directories::opening::Unasked;
 use gixobj_directories::write::write_at;
 use gixobj_hash::OutOfMemory;
 use gixobj_hash::hash::ObjectId;
+use gixobj_object::Find;
 use gixobj_tree::Tree;
 use gixobj_tree::tree::{Entry, EntryKind};
 use std::alloc::AllocError;
@@ -94,12 +94,19 @@ impl<S: Find> Editor<S> {
     /// for a copy of the names. A refusal leaves the files as they were; what was opened on the
     /// way stays open.
     pub fn cursor_at(&mut self, path: &[BString]) -> Result<Cursor<'_, S>, Error>
-        ensures* refused { sem 𝓛 (RestsIfErr (the_row S.row) self.entry (λ c. c.editor.ghost_name) result (λ left. ((trees : Trees) → AreTreesOf (S.objects self.old.store) trees → IsRefused trees self.old (inside (prefix_of (names_of path.now))) left)
+        ensures* refused { sem 𝓛 (RestsIfErr (the_row S.row) self.entry (λ c. c.editor.ghost_name)
+            result (λ left. ((trees : Trees) → AreTreesOf (S.objects self.old.store) trees
+            → IsRefused trees self.old (inside (prefix_of (names_of path.now))) left)
             × IfErr result (λ error. IsForAName error → left ≡ self.old))) }
         ensures same_reference { IfOk result (λ c. c.editor.ghost_name ≡ self.entry.ghost_name) }
         ensures prefix { IfOk result (λ c. c.editor.now.prefix ≡ prefix_of (names_of path.now)) }
-        ensures assured { IfOk result (λ c. (trees : Trees) → AreTreesOf (S.objects self.old.store) trees → IsAssured trees self.old (prefix_of (names_of path.now)) c.editor.now) }
-        ensures refusal { IfErr result (λ error. (trees : Trees) → AreTreesOf (S.objects self.old.store) trees → RefusesCursor (S.objects self.old.store) (S.may_fail self.old.store) trees (open_dirs self.old) (prefix_of (names_of path.now)) error) }
+        ensures assured { IfOk result (λ c. (trees : Trees)
+            → AreTreesOf (S.objects self.old.store) trees
+            → IsAssured trees self.old (prefix_of (names_of path.now)) c.editor.now) }
+        ensures refusal { IfErr result (λ error. (trees : Trees)
+            → AreTreesOf (S.objects self.old.store) trees
+            → RefusesCursor (S.objects self.old.store) (S.may_fail self.old.store) trees
+            (open_dirs self.old) (prefix_of (names_of path.now)) error) }
     {
         self.open_prefix(path)?;
         Ok(Cursor {
@@ -112,9 +119,15 @@ impl<S: Find> Editor<S> {
     fn open_prefix(&mut self, path: &[BString]) -> Result<(), Error>
         ensures prefix { OnOk result (self.new.prefix ≡ prefix_of (names_of path.now)) }
         ensures is_open { OnOk result (open_dirs self.new self.new.prefix ≢ None) }
-        ensures assured { OnOk result ((trees : Trees) → AreTreesOf (S.objects self.old.store) trees → IsAssured trees self.old (prefix_of (names_of path.now)) self.new) }
-        ensures refused { OnErr result ((trees : Trees) → AreTreesOf (S.objects self.old.store) trees → IsRefused trees self.old (inside (prefix_of (names_of path.now))) self.new) }
-        ensures refusal { IfErr result (λ error. (trees : Trees) → AreTreesOf (S.objects self.old.store) trees → RefusesCursor (S.objects self.old.store) (S.may_fail self.old.store) trees (open_dirs self.old) (prefix_of (names_of path.now)) error) }
+        ensures assured { OnOk result ((trees : Trees) → AreTreesOf (S.objects self.old.store) trees
+            → IsAssured trees self.old (prefix_of (names_of path.now)) self.new) }
+        ensures refused { OnErr result ((trees : Trees)
+            → AreTreesOf (S.objects self.old.store) trees
+            → IsRefused trees self.old (inside (prefix_of (names_of path.now))) self.new) }
+        ensures refusal { IfErr result (λ error. (trees : Trees)
+            → AreTreesOf (S.objects self.old.store) trees
+            → RefusesCursor (S.objects self.old.store) (S.may_fail self.old.store) trees
+            (open_dirs self.old) (prefix_of (names_of path.now)) error) }
         ensures unasked { IfErr result (λ error. IsForAName error → self.new ≡ self.old) }
     {
         self.assure(without_a_single_empty_name(path))
@@ -122,11 +135,17 @@ impl<S: Find> Editor<S> {
 
     /// Makes the directory at a path, and each one above it, an open directory, and the path the prefix.
     fn assure(&mut self, path: &[BString]) -> Result<(), Error>
-        ensures assured { OnOk result ((trees : Trees) → AreTreesOf (S.objects self.old.store) trees → IsAssured trees self.old (names_of path.now) self.new) }
+        ensures assured { OnOk result ((trees : Trees) → AreTreesOf (S.objects self.old.store) trees
+            → IsAssured trees self.old (names_of path.now) self.new) }
         ensures prefix { OnOk result (self.new.prefix ≡ names_of path.now) }
         ensures is_open { OnOk result (open_dirs self.new self.new.prefix ≢ None) }
-        ensures refused { OnErr result ((trees : Trees) → AreTreesOf (S.objects self.old.store) trees → IsRefused trees self.old (inside (names_of path.now)) self.new) }
-        ensures refusal { IfErr result (λ error. (trees : Trees) → AreTreesOf (S.objects self.old.store) trees → RefusesCursor (S.objects self.old.store) (S.may_fail self.old.store) trees (open_dirs self.old) (names_of path.now) error) }
+        ensures refused { OnErr result ((trees : Trees)
+            → AreTreesOf (S.objects self.old.store) trees
+            → IsRefused trees self.old (inside (names_of path.now)) self.new) }
+        ensures refusal { IfErr result (λ error. (trees : Trees)
+            → AreTreesOf (S.objects self.old.store) trees
+            → RefusesCursor (S.objects self.old.store) (S.may_fail self.old.store) trees
+            (open_dirs self.old) (names_of path.now) error) }
         ensures unasked { IfErr result (λ error. IsForAName error → self.new ≡ self.old) }
     {
         let alloc = self.root.alloc();
@@ -143,17 +162,20 @@ impl<S: Find> Editor<S> {
 impl<S> Editor<S> {
     /// The path from the root of a path from the prefix; one without names stays without.
     fn path_from_root(&self, path: &[BString]) -> Result<Vec<BString>, AllocError>
-        ensures joined { IfOk result (λ it. names_of it.items ≡ from_root self.now.prefix (names_of path.now)) }
+        ensures joined { IfOk result (λ it. names_of it.items ≡ from_root self.now.prefix
+            (names_of path.now)) }
         ensures taken { OnErr result (names_of path.now ≢ []) }
         ensures is_opened { IsOpened (open_dirs self.now) }
-        ensures idle { (at : Path) → open_bases self.now at ≡ opened_bases (open_dirs self.now) (open_dirs self.now) (open_bases self.now) at }
+        ensures idle { (at : Path) → open_bases self.now at ≡ opened_bases (open_dirs self.now)
+            (open_dirs self.now) (open_bases self.now) at }
     {
         join_paths(self.root.alloc(), &self.prefix, path)
     }
 
     /// The entry at a path from the prefix.
     fn get_below(&self, path: &[BString]) -> Option<&Entry>
-        ensures { option_copied result ≡ entry_at (from_root self.now.prefix (names_of path.now)) (open_dirs self.now) }
+        ensures { option_copied result ≡ entry_at (from_root self.now.prefix (names_of path.now))
+            (open_dirs self.now) }
     {
         let Some(directory) = self.root.directory(&self.prefix) else {
             return None;
@@ -166,10 +188,16 @@ impl<S> Editor<S> {
         &mut self,
         out: &mut F,
     ) -> Result<Written, WriteError<E>>
-        requires callable { IsCallableOnTrees F.pre (λ f p g. CalledAt F.FnMut f p.1 (Ok p.0) g) out.old }
+        requires callable { IsCallableOnTrees F.pre (λ f p g. CalledAt F.FnMut f p.1 (Ok p.0) g)
+            out.old }
         requires is_open { open_dirs self.old self.old.prefix ≢ None }
-        ensures written { IfOk result (λ it. IsWrittenBelow (λ f p g. CalledAt F.FnMut f p.1 (Ok p.0) g) out.old self.old self.old.prefix it self.new out.new) }
-        ensures stopped { IfErr result (Stopped (λ f p g. CalledAt F.FnMut f p.1 (Ok p.0) g) (λ f t e g. CalledAt F.FnMut f t (Err e) g) (HandsOutSome (in_path self.old.prefix (open_dirs self.old)) (in_path self.old.prefix (open_bases self.old))) out.old out.new) }
+        ensures written { IfOk result (λ it. IsWrittenBelow
+            (λ f p g. CalledAt F.FnMut f p.1 (Ok p.0) g) out.old self.old self.old.prefix it
+            self.new out.new) }
+        ensures stopped { IfErr result (Stopped (λ f p g. CalledAt F.FnMut f p.1 (Ok p.0) g)
+            (λ f t e g. CalledAt F.FnMut f t (Err e) g)
+            (HandsOutSome (in_path self.old.prefix (open_dirs self.old))
+            (in_path self.old.prefix (open_bases self.old))) out.old out.new) }
         ensures unchanged { OnErr result (self.new ≡ self.old) }
     {
         let alloc = self.root.alloc();
@@ -199,11 +227,20 @@ impl<S: Find> Cursor<'_, S> {
         id: ObjectId,
     ) -> Result<&mut Self, Error>
         ensures same_reference { IfOk result (λ it. it.ghost_name ≡ self.entry.ghost_name) }
-        ensures same_editor { IfOk result (λ it. it.now.editor.ghost_name ≡ self.old.editor.ghost_name) }
+        ensures same_editor { IfOk result
+            (λ it. it.now.editor.ghost_name ≡ self.old.editor.ghost_name) }
         ensures prefix { IfOk result (λ it. it.now.editor.now.prefix ≡ self.old.editor.now.prefix) }
-        ensures upserted { IfOk result (λ it. (trees : Trees) → AreTreesOf (S.objects self.old.editor.now.store) trees → IsUpserted trees self.old.editor.now (from_root self.old.editor.now.prefix (names_of path.now)) (mode_of_kind kind) id it.now.editor.now) }
-        ensures refusal { IfErr result (λ error. (trees : Trees) → AreTreesOf (S.objects self.old.editor.now.store) trees → RefusesFromRoot (names_of path.now)
-            (RefusesUpsert (S.objects self.old.editor.now.store) (S.may_fail self.old.editor.now.store) trees (open_dirs self.old.editor.now) (from_root self.old.editor.now.prefix (names_of path.now))) error) }
+        ensures upserted { IfOk result (λ it. (trees : Trees)
+            → AreTreesOf (S.objects self.old.editor.now.store) trees
+            → IsUpserted trees self.old.editor.now
+            (from_root self.old.editor.now.prefix (names_of path.now)) (mode_of_kind kind) id
+            it.now.editor.now) }
+        ensures refusal { IfErr result (λ error. (trees : Trees)
+            → AreTreesOf (S.objects self.old.editor.now.store) trees
+            → RefusesFromRoot (names_of path.now)
+            (RefusesUpsert (S.objects self.old.editor.now.store)
+            (S.may_fail self.old.editor.now.store) trees (open_dirs self.old.editor.now)
+            (from_root self.old.editor.now.prefix (names_of path.now))) error) }
     {
         self.try_upsert(path, kind, id)?;
         Ok(self)
@@ -221,11 +258,23 @@ impl<S: Find> Cursor<'_, S> {
     ) -> Result<(), Error>
         ensures same_reference { self.new.editor.ghost_name ≡ self.old.editor.ghost_name }
         ensures prefix { self.new.editor.now.prefix ≡ self.old.editor.now.prefix }
-        ensures upserted { OnOk result ((trees : Trees) → AreTreesOf (S.objects self.old.editor.now.store) trees → IsUpserted trees self.old.editor.now (from_root self.old.editor.now.prefix (names_of path.now)) (mode_of_kind kind) id self.new.editor.now) }
-        ensures refused { OnErr result ((trees : Trees) → AreTreesOf (S.objects self.old.editor.now.store) trees → IsRefused trees self.old.editor.now (from_root self.old.editor.now.prefix (names_of path.now)) self.new.editor.now) }
-        ensures refusal { IfErr result (λ error. (trees : Trees) → AreTreesOf (S.objects self.old.editor.now.store) trees → RefusesFromRoot (names_of path.now)
-            (RefusesUpsert (S.objects self.old.editor.now.store) (S.may_fail self.old.editor.now.store) trees (open_dirs self.old.editor.now) (from_root self.old.editor.now.prefix (names_of path.now))) error) }
-        ensures unasked { IfErr result (λ error. IsForAName error → self.new.editor.now ≡ self.old.editor.now) }
+        ensures upserted { OnOk result ((trees : Trees)
+            → AreTreesOf (S.objects self.old.editor.now.store) trees
+            → IsUpserted trees self.old.editor.now
+            (from_root self.old.editor.now.prefix (names_of path.now)) (mode_of_kind kind) id
+            self.new.editor.now) }
+        ensures refused { OnErr result ((trees : Trees)
+            → AreTreesOf (S.objects self.old.editor.now.store) trees
+            → IsRefused trees self.old.editor.now (from_root self.old.editor.now.prefix
+            (names_of path.now)) self.new.editor.now) }
+        ensures refusal { IfErr result (λ error. (trees : Trees)
+            → AreTreesOf (S.objects self.old.editor.now.store) trees
+            → RefusesFromRoot (names_of path.now)
+            (RefusesUpsert (S.objects self.old.editor.now.store)
+            (S.may_fail self.old.editor.now.store) trees (open_dirs self.old.editor.now)
+            (from_root self.old.editor.now.prefix (names_of path.now))) error) }
+        ensures unasked { IfErr result (λ error. IsForAName error
+            → self.new.editor.now ≡ self.old.editor.now) }
     {
         let path = self.editor.path_from_root(path)?;
         self.editor.try_upsert(&path, kind, id)
@@ -236,11 +285,19 @@ impl<S: Find> Cursor<'_, S> {
     /// that one.
     pub fn remove(&mut self, path: &[BString]) -> Result<&mut Self, Error>
         ensures same_reference { IfOk result (λ it. it.ghost_name ≡ self.entry.ghost_name) }
-        ensures same_editor { IfOk result (λ it. it.now.editor.ghost_name ≡ self.old.editor.ghost_name) }
+        ensures same_editor { IfOk result
+            (λ it. it.now.editor.ghost_name ≡ self.old.editor.ghost_name) }
         ensures prefix { IfOk result (λ it. it.now.editor.now.prefix ≡ self.old.editor.now.prefix) }
-        ensures removed { IfOk result (λ it. (trees : Trees) → AreTreesOf (S.objects self.old.editor.now.store) trees → IsRemoved IsNoTree trees self.old.editor.now (from_root self.old.editor.now.prefix (names_of path.now)) it.now.editor.now) }
-        ensures refusal { IfErr result (λ error. (trees : Trees) → AreTreesOf (S.objects self.old.editor.now.store) trees → RefusesFromRoot (names_of path.now)
-            (RefusesRemoval IsNoTree (S.objects self.old.editor.now.store) (S.may_fail self.old.editor.now.store) trees (open_dirs self.old.editor.now) (from_root self.old.editor.now.prefix (names_of path.now))) error) }
+        ensures removed { IfOk result (λ it. (trees : Trees)
+            → AreTreesOf (S.objects self.old.editor.now.store) trees
+            → IsRemoved IsNoTree trees self.old.editor.now
+            (from_root self.old.editor.now.prefix (names_of path.now)) it.now.editor.now) }
+        ensures refusal { IfErr result (λ error. (trees : Trees)
+            → AreTreesOf (S.objects self.old.editor.now.store) trees
+            → RefusesFromRoot (names_of path.now)
+            (RefusesRemoval IsNoTree (S.objects self.old.editor.now.store)
+            (S.may_fail self.old.editor.now.store) trees (open_dirs self.old.editor.now)
+            (from_root self.old.editor.now.prefix (names_of path.now))) error) }
     {
         self.try_remove(path)?;
         Ok(self)
@@ -253,10 +310,20 @@ impl<S: Find> Cursor<'_, S> {
     pub fn try_remove(&mut self, path: &[BString]) -> Result<(), Error>
         ensures same_reference { self.new.editor.ghost_name ≡ self.old.editor.ghost_name }
         ensures prefix { self.new.editor.now.prefix ≡ self.old.editor.now.prefix }
-        ensures removed { OnOk result ((trees : Trees) → AreTreesOf (S.objects self.old.editor.now.store) trees → IsRemoved IsNoTree trees self.old.editor.now (from_root self.old.editor.now.prefix (names_of path.now)) self.new.editor.now) }
-        ensures refused { OnErr result ((trees : Trees) → AreTreesOf (S.objects self.old.editor.now.store) trees → IsRefused trees self.old.editor.now (from_root self.old.editor.now.prefix (names_of path.now)) self.new.editor.now) }
-        ensures refusal { IfErr result (λ error. (trees : Trees) → AreTreesOf (S.objects self.old.editor.now.store) trees → RefusesFromRoot (names_of path.now)
-            (RefusesRemoval IsNoTree (S.objects self.old.editor.now.store) (S.may_fail self.old.editor.now.store) trees (open_dirs self.old.editor.now) (from_root self.old.editor.now.prefix (names_of path.now))) error) }
+        ensures removed { OnOk result ((trees : Trees)
+            → AreTreesOf (S.objects self.old.editor.now.store) trees
+            → IsRemoved IsNoTree trees self.old.editor.now
+            (from_root self.old.editor.now.prefix (names_of path.now)) self.new.editor.now) }
+        ensures refused { OnErr result ((trees : Trees)
+            → AreTreesOf (S.objects self.old.editor.now.store) trees
+            → IsRefused trees self.old.editor.now (from_root self.old.editor.now.prefix
+            (names_of path.now)) self.new.editor.now) }
+        ensures refusal { IfErr result (λ error. (trees : Trees)
+            → AreTreesOf (S.objects self.old.editor.now.store) trees
+            → RefusesFromRoot (names_of path.now)
+            (RefusesRemoval IsNoTree (S.objects self.old.editor.now.store)
+            (S.may_fail self.old.editor.now.store) trees (open_dirs self.old.editor.now)
+            (from_root self.old.editor.now.prefix (names_of path.now))) error) }
     {
         let path = self.editor.path_from_root(path)?;
         self.editor.try_remove(&path)
@@ -267,11 +334,19 @@ impl<S: Find> Cursor<'_, S> {
     /// something calls that one.
     pub fn remove_leaf(&mut self, path: &[BString]) -> Result<&mut Self, Error>
         ensures same_reference { IfOk result (λ it. it.ghost_name ≡ self.entry.ghost_name) }
-        ensures same_editor { IfOk result (λ it. it.now.editor.ghost_name ≡ self.old.editor.ghost_name) }
+        ensures same_editor { IfOk result
+            (λ it. it.now.editor.ghost_name ≡ self.old.editor.ghost_name) }
         ensures prefix { IfOk result (λ it. it.now.editor.now.prefix ≡ self.old.editor.now.prefix) }
-        ensures removed { IfOk result (λ it. (trees : Trees) → AreTreesOf (S.objects self.old.editor.now.store) trees → IsLeafRemoved trees self.old.editor.now (from_root self.old.editor.now.prefix (names_of path.now)) it.now.editor.now) }
-        ensures refusal { IfErr result (λ error. (trees : Trees) → AreTreesOf (S.objects self.old.editor.now.store) trees → RefusesFromRoot (names_of path.now)
-            (RefusesLeafRemoval (S.objects self.old.editor.now.store) (S.may_fail self.old.editor.now.store) trees (open_dirs self.old.editor.now) (from_root self.old.editor.now.prefix (names_of path.now))) error) }
+        ensures removed { IfOk result (λ it. (trees : Trees)
+            → AreTreesOf (S.objects self.old.editor.now.store) trees
+            → IsLeafRemoved trees self.old.editor.now
+            (from_root self.old.editor.now.prefix (names_of path.now)) it.now.editor.now) }
+        ensures refusal { IfErr result (λ error. (trees : Trees)
+            → AreTreesOf (S.objects self.old.editor.now.store) trees
+            → RefusesFromRoot (names_of path.now)
+            (RefusesLeafRemoval (S.objects self.old.editor.now.store)
+            (S.may_fail self.old.editor.now.store) trees (open_dirs self.old.editor.now)
+            (from_root self.old.editor.now.prefix (names_of path.now))) error) }
     {
         self.try_remove_leaf(path)?;
         Ok(self)
@@ -285,10 +360,20 @@ impl<S: Find> Cursor<'_, S> {
     pub fn try_remove_leaf(&mut self, path: &[BString]) -> Result<(), Error>
         ensures same_reference { self.new.editor.ghost_name ≡ self.old.editor.ghost_name }
         ensures prefix { self.new.editor.now.prefix ≡ self.old.editor.now.prefix }
-        ensures removed { OnOk result ((trees : Trees) → AreTreesOf (S.objects self.old.editor.now.store) trees → IsLeafRemoved trees self.old.editor.now (from_root self.old.editor.now.prefix (names_of path.now)) self.new.editor.now) }
-        ensures refused { OnErr result ((trees : Trees) → AreTreesOf (S.objects self.old.editor.now.store) trees → IsRefused trees self.old.editor.now (from_root self.old.editor.now.prefix (names_of path.now)) self.new.editor.now) }
-        ensures refusal { IfErr result (λ error. (trees : Trees) → AreTreesOf (S.objects self.old.editor.now.store) trees → RefusesFromRoot (names_of path.now)
-            (RefusesLeafRemoval (S.objects self.old.editor.now.store) (S.may_fail self.old.editor.now.store) trees (open_dirs self.old.editor.now) (from_root self.old.editor.now.prefix (names_of path.now))) error) }
+        ensures removed { OnOk result ((trees : Trees)
+            → AreTreesOf (S.objects self.old.editor.now.store) trees
+            → IsLeafRemoved trees self.old.editor.now
+            (from_root self.old.editor.now.prefix (names_of path.now)) self.new.editor.now) }
+        ensures refused { OnErr result ((trees : Trees)
+            → AreTreesOf (S.objects self.old.editor.now.store) trees
+            → IsRefused trees self.old.editor.now (from_root self.old.editor.now.prefix
+            (names_of path.now)) self.new.editor.now) }
+        ensures refusal { IfErr result (λ error. (trees : Trees)
+            → AreTreesOf (S.objects self.old.editor.now.store) trees
+            → RefusesFromRoot (names_of path.now)
+            (RefusesLeafRemoval (S.objects self.old.editor.now.store)
+            (S.may_fail self.old.editor.now.store) trees (open_dirs self.old.editor.now)
+            (from_root self.old.editor.now.prefix (names_of path.now))) error) }
     {
         let path = self.editor.path_from_root(path)?;
         self.editor.try_remove_leaf(&path)
@@ -304,7 +389,8 @@ impl<S> Cursor<'_, S> {
 
     /// The editor's store.
     pub fn store_mut(&mut self) -> &mut S
-        ensures* writes_back { sem 𝓛 (Lends (cursor_row (record { mir = named 1; lft = [] }) S.row) S.row self.entry result (with_store_behind self.old)) }
+        ensures* writes_back { sem 𝓛 (Lends (cursor_row (record { mir = named 1; lft = [] }) S.row)
+            S.row self.entry result (with_store_behind self.old)) }
         ensures value { result.now ≡ self.old.editor.now.store }
     {
         self.editor.store_mut()
@@ -313,7 +399,9 @@ impl<S> Cursor<'_, S> {
     /// As [`Editor::get`], at a path that goes on from the prefix; without names there is none.
     pub fn get(&self, path: &[BString]) -> Result<Option<&Entry>, OutOfMemory>
         ensures succeeds { IsOk result }
-        ensures found { IfOk result (λ entry. option_copied entry ≡ entry_at (from_root self.now.editor.now.prefix (names_of path.now)) (open_dirs self.now.editor.now)) }
+        ensures found { IfOk result (λ entry. option_copied entry ≡ entry_at
+            (from_root self.now.editor.now.prefix (names_of path.now))
+            (open_dirs self.now.editor.now)) }
     {
         Ok(self.editor.get_below(path))
     }
@@ -331,8 +419,14 @@ impl<S> Cursor<'_, S> {
         requires { IsCallableOnTrees F.pre (λ f p g. CalledAt F.FnMut f p.1 (Ok p.0) g) out }
         ensures same_reference { self.new.editor.ghost_name ≡ self.old.editor.ghost_name }
         ensures prefix { self.new.editor.now.prefix ≡ self.old.editor.now.prefix }
-        ensures written { IfOk result (λ it. (last : F) × IsWrittenBelow (λ f p g. CalledAt F.FnMut f p.1 (Ok p.0) g) out self.old.editor.now self.old.editor.now.prefix it self.new.editor.now last) }
-        ensures stopped { IfErr result (λ error. (last : F) × Stopped (λ f p g. CalledAt F.FnMut f p.1 (Ok p.0) g) (λ f t e g. CalledAt F.FnMut f t (Err e) g) (HandsOutSome (in_path self.old.editor.now.prefix (open_dirs self.old.editor.now)) (in_path self.old.editor.now.prefix (open_bases self.old.editor.now))) out last error) }
+        ensures written { IfOk result (λ it. (last : F)
+            × IsWrittenBelow (λ f p g. CalledAt F.FnMut f p.1 (Ok p.0) g) out self.old.editor.now
+            self.old.editor.now.prefix it self.new.editor.now last) }
+        ensures stopped { IfErr result (λ error. (last : F)
+            × Stopped (λ f p g. CalledAt F.FnMut f p.1 (Ok p.0) g)
+            (λ f t e g. CalledAt F.FnMut f t (Err e) g)
+            (HandsOutSome (in_path self.old.editor.now.prefix (open_dirs self.old.editor.now))
+            (in_path self.old.editor.now.prefix (open_bases self.old.editor.now))) out last error) }
         ensures unchanged { OnErr result (self.new.editor.now ≡ self.old.editor.now) }
     {
         let mut out = out;
@@ -356,8 +450,14 @@ impl<S> Cursor<'_, S> {
         requires { IsCallableOnTrees F.pre (λ f p g. CalledAt F.FnMut f p.1 (Ok p.0) g) out.old }
         ensures same_reference { self.new.editor.ghost_name ≡ self.old.editor.ghost_name }
         ensures prefix { self.new.editor.now.prefix ≡ self.old.editor.now.prefix }
-        ensures written { IfOk result (λ it. IsWrittenBelow (λ f p g. CalledAt F.FnMut f p.1 (Ok p.0) g) out.old self.old.editor.now self.old.editor.now.prefix it self.new.editor.now out.new) }
-        ensures stopped { IfErr result (Stopped (λ f p g. CalledAt F.FnMut f p.1 (Ok p.0) g) (λ f t e g. CalledAt F.FnMut f t (Err e) g) (HandsOutSome (in_path self.old.editor.now.prefix (open_dirs self.old.editor.now)) (in_path self.old.editor.now.prefix (open_bases self.old.editor.now))) out.old out.new) }
+        ensures written { IfOk result (λ it. IsWrittenBelow
+            (λ f p g. CalledAt F.FnMut f p.1 (Ok p.0) g) out.old self.old.editor.now
+            self.old.editor.now.prefix it self.new.editor.now out.new) }
+        ensures stopped { IfErr result (Stopped (λ f p g. CalledAt F.FnMut f p.1 (Ok p.0) g)
+            (λ f t e g. CalledAt F.FnMut f t (Err e) g)
+            (HandsOutSome (in_path self.old.editor.now.prefix (open_dirs self.old.editor.now))
+            (in_path self.old.editor.now.prefix (open_bases self.old.editor.now))) out.old
+            out.new) }
         ensures unchanged { OnErr result (self.new.editor.now ≡ self.old.editor.now) }
     {
         self.editor.write_below(out)

@@ -18,9 +18,9 @@ ghost use Rattle.gixobj_editor.specs.Removals.{Judges, RefusesDirectoryAt, Refus
 use crate::editor::error::Error;
 use crate::editor::names::{check_names, judged};
 use bstr::BString;
-use gixobj_object::Find;
 use gixobj_directories::open::Open;
 use gixobj_directories::opening::Unasked;
+use gixobj_object::Find;
 use std::alloc::{AllocError, Global};
 
 /// Opens the directories above a path, as far as there are any, and judges each name that it comes to.
@@ -32,13 +32,20 @@ pub(crate) fn open_for_removal<S: Find>(
     lookups: &mut u64,
 ) -> Result<(), Error>
     ensures opened { OnOk result ((trees : Trees) → AreTreesOf (S.objects store.now) trees
-        → (asked : List ObjectId) × Opens (EndsBefore unasked) trees (directory_of (names_of path.now)) (dirs_of root.old) (dirs_of root.new) asked × (lookups.new ≡ counted lookups.old asked)
-        × ((name : List _) → Judges (EndsBefore unasked) trees (dirs_of root.old) (names_of path.now) name → IsEntryName name)) }
-    ensures refused { IfErr result (λ error. (trees : Trees) → AreTreesOf (S.objects store.now) trees
-        → IsOpenedInPart (EndsBefore unasked) trees (names_of path.now) (dirs_of root.old) (dirs_of root.new) lookups.old lookups.new
-        × RefusesRemoval (EndsBefore unasked) (S.objects store.now) (S.may_fail store.now) trees (dirs_of root.old) (names_of path.now) error) }
+        → (asked : List ObjectId) × Opens (EndsBefore unasked) trees
+        (directory_of (names_of path.now)) (dirs_of root.old) (dirs_of root.new) asked
+        × (lookups.new ≡ counted lookups.old asked)
+        × ((name : List _) → Judges (EndsBefore unasked) trees (dirs_of root.old)
+        (names_of path.now) name → IsEntryName name)) }
+    ensures refused { IfErr result (λ error. (trees : Trees)
+        → AreTreesOf (S.objects store.now) trees
+        → IsOpenedInPart (EndsBefore unasked) trees (names_of path.now) (dirs_of root.old)
+        (dirs_of root.new) lookups.old lookups.new
+        × RefusesRemoval (EndsBefore unasked) (S.objects store.now) (S.may_fail store.now) trees
+        (dirs_of root.old) (names_of path.now) error) }
     ensures still_opened { IsOpened (dirs_of root.old) → IsOpened (dirs_of root.new) }
-    ensures bases { (at : Path) → bases_of root.new at ≡ opened_bases (dirs_of root.old) (dirs_of root.new) (bases_of root.old) at }
+    ensures bases { (at : Path) → bases_of root.new at ≡ opened_bases (dirs_of root.old)
+        (dirs_of root.new) (bases_of root.old) at }
 {
     let alloc = root.alloc();
     let (directory, refused) = judged(path);
@@ -48,8 +55,11 @@ pub(crate) fn open_for_removal<S: Find>(
 
 /// Refuses the first of these names that no entry may have, where the directory above them is open.
 fn check_reached(root: &Open, directory: &[BString], names: &[BString]) -> Result<(), Error>
-    ensures accepted { OnOk result ((dirs_of root.now (names_of directory.now) ≡ None) ⊎ AreNames (names_of names.now)) }
-    ensures refusal { IfErr result (λ error. (entries : List EntryView) × (dirs_of root.now (names_of directory.now) ≡ Some entries) × RefusesNames (names_of names.now) error) }
+    ensures accepted { OnOk result ((dirs_of root.now (names_of directory.now) ≡ None)
+        ⊎ AreNames (names_of names.now)) }
+    ensures refusal { IfErr result (λ error. (entries : List EntryView)
+        × (dirs_of root.now (names_of directory.now) ≡ Some entries)
+        × RefusesNames (names_of names.now) error) }
 {
     let Some(_reached) = root.tree(directory) else {
         return Ok(());
@@ -59,8 +69,11 @@ fn check_reached(root: &Open, directory: &[BString], names: &[BString]) -> Resul
 
 /// Refuses a path at which a directory is.
 pub(crate) fn check_leaf(root: &Open, path: &[BString]) -> Result<(), Error>
-    ensures accepted { OnOk result ((e : EntryView) → entry_at (names_of path.now) (dirs_of root.now) ≡ Some e → is_tree_mode e.mode ≡ false) }
-    ensures refusal { IfErr result (λ error. (e : EntryView) × (entry_at (names_of path.now) (dirs_of root.now) ≡ Some e) × (is_tree_mode e.mode ≡ true) × RefusesDirectoryAt (names_of path.now) error) }
+    ensures accepted { OnOk result ((e : EntryView)
+        → entry_at (names_of path.now) (dirs_of root.now) ≡ Some e → is_tree_mode e.mode ≡ false) }
+    ensures refusal { IfErr result (λ error. (e : EntryView)
+        × (entry_at (names_of path.now) (dirs_of root.now) ≡ Some e) × (is_tree_mode e.mode ≡ true)
+        × RefusesDirectoryAt (names_of path.now) error) }
 {
     let Some(entry) = root.get(path) else {
         return Ok(());

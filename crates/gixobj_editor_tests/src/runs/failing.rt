@@ -4,8 +4,8 @@ ghost use Rattle.gixobj_find.specs.Memory.{memory_objects};
 use bstr::BString;
 use gixobj_base::Tree;
 use gixobj_base::hash::{ObjectId, oid};
-use gixobj_object::{Data, Find, Store, find};
 use gixobj_find::{Keep, KeepError, Memory};
+use gixobj_object::{Data, Find, Store, find};
 use std::alloc::Global;
 use std::cell::Cell;
 

@@ -6,8 +6,8 @@ use crate::runs::samples::{TEN_LINES, commands_of, editor_over, run_on};
 use crate::samples::names;
 use gixobj_base::encode;
 use gixobj_editor::editor::{Editor, Error, WriteError, Written};
-use gixobj_find::{Keep, KeepError};
 use gixobj_editor::{EditReply, Reply};
+use gixobj_find::{Keep, KeepError};
 use std::alloc::{AllocError, Global};
 use std::test::Fail;
 

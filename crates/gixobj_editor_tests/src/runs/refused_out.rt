@@ -5,9 +5,9 @@ use crate::runs::samples::{commands_of, editor_over};
 use crate::samples::id_of;
 use gixobj_base::Tree;
 use gixobj_base::hash::{Kind as HashKind, ObjectId};
-use gixobj_script::edit_on;
 use gixobj_editor::editor::{Editor, WriteError};
 use gixobj_editor::{EditReply, Reply, run};
+use gixobj_script::edit_on;
 use std::alloc::Global;
 
 /// Why a tree gets no id.

@@ -4,9 +4,9 @@ use crate::runs::failing::Failing;
 use crate::samples::id_of;
 use gixobj_base::hash::Kind as HashKind;
 use gixobj_base::{OutOfMemory, Tree, encode};
-use gixobj_script::{edit_on, read_script};
 use gixobj_editor::editor::Editor;
 use gixobj_editor::{Command, Reply, run};
+use gixobj_script::{edit_on, read_script};
 use std::alloc::{AllocError, Global};
 use std::test::Fail;
 

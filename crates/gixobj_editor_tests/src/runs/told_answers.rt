@@ -3,9 +3,9 @@
 use bstr::BString;
 use gixobj_base::encode;
 use gixobj_base::hash::ObjectId;
-use gixobj_script::{Answer, Refusal, answer_lines, answers_of};
 use gixobj_editor::editor::{Error, WriteError};
 use gixobj_editor::{EditReply, Reply};
+use gixobj_script::{Answer, Refusal, answer_lines, answers_of};
 use std::test::Fail;
 
 const ID: &[u8] = b"0155eb4229851634a0f03eb265b69f5a2d56f341";

@@ -5,9 +5,9 @@ use crate::runs::samples::{editor_over, replies_to, tells};
 use crate::samples::names;
 use gixobj_base::encode;
 use gixobj_base::hash::ObjectId;
-use gixobj_object::Find;
-use gixobj_find::KeepError;
 use gixobj_editor::{EditReply, Reply};
+use gixobj_find::KeepError;
+use gixobj_object::Find;
 use std::alloc::Global;
 use std::test::Fail;
 

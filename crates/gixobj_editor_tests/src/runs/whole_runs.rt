@@ -7,8 +7,8 @@ use crate::samples::number_of;
 use gixobj_base::encode;
 use gixobj_base::hash::ObjectId;
 use gixobj_editor::editor::Error;
-use gixobj_find::KeepError;
 use gixobj_editor::{Command, EditReply, Reply};
+use gixobj_find::KeepError;
 use std::alloc::{AllocError, Global};
 use std::test::Fail;
 

@@ -1,6 +1,6 @@
 //! Why no object, or no header, is found.
-use gixobj_object::find;
 use gixobj_hash::hash::ObjectId;
+use gixobj_object::find;
 
 /// The refusal of [`FindExt::find`](crate::FindExt::find) and [`HeaderExt::header`](crate::HeaderExt::header).
 #[derive(Debug, Drop, thiserror::Error)]

@@ -1,7 +1,7 @@
 //! Why no object is found that is told piece by piece.
-use gixobj_object::find;
 use gixobj_hash::Kind;
 use gixobj_hash::hash::ObjectId;
+use gixobj_object::find;
 
 /// The refusal of the lookups of [`FindExt`](crate::FindExt) that give a reader.
 #[derive(Debug, Drop, thiserror::Error)]

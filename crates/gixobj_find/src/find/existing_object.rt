@@ -1,7 +1,7 @@
 //! Why no object of a kind is found.
-use gixobj_object::find;
 use gixobj_hash::hash::ObjectId;
 use gixobj_hash::{Kind, decode};
+use gixobj_object::find;
 
 /// The refusal of the lookups of [`FindExt`](crate::FindExt) that give an object.
 #[derive(Debug, Drop, thiserror::Error)]

@@ -7,8 +7,8 @@ ghost use Rattle.gixobj_hash.specs.Hash.Borrowed.{borrowed_id};
 mod header;
 mod write;
 
-use gixobj_object::{Data, Exists, Find, Store, find};
 use gixobj_hash::hash::oid;
+use gixobj_object::{Data, Exists, Find, Store, find};
 
 /// A store that keeps nothing and finds nothing. What is written into it gets its id, by SHA-1.
 #[derive(Clone, Copy, Debug)]
@@ -40,7 +40,8 @@ impl Find for Never {
 impl Exists for Never {
     #[tactic(auto, using(crate::proofs::Nothing::not_there))]
     fn exists(&self, id: oid<'_>) -> bool
-        ensures meaning { IsFalse false → result ≡ is_some (named map.empty (borrowed_id id.entry)) }
+        ensures meaning { IsFalse false → result ≡ is_some
+            (named map.empty (borrowed_id id.entry)) }
         ensures none { result ≡ false }
     {
         false

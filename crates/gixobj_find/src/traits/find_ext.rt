@@ -21,9 +21,9 @@ ghost use Rattle.gixobj_tree.specs.TreeViews.{tree_entries};
 
 use crate::find::{existing, existing_iter, existing_object};
 use gixobj_commit::{CommitRef, CommitRefIter};
-use gixobj_object::{Data, Find, ObjectRef, TreeRefIter};
 use gixobj_hash::Kind;
 use gixobj_hash::hash::{ObjectId, oid};
+use gixobj_object::{Data, Find, ObjectRef, TreeRefIter};
 use gixobj_tag::{TagRef, TagRefIter};
 use gixobj_tree::{BlobRef, TreeRef};
 use std::alloc::Global;
@@ -40,8 +40,10 @@ pub trait FindExt: Find {
         id: oid<'_>,
         buffer: &'a mut Vec<u8>,
     ) -> Result<Data<'a>, existing::Error>
-        ensures found { IfOk result (λ it. Names (Self.objects self.now) (borrowed_id id.entry) (stored it)) }
-        ensures refusal { IfErr result (RefusesExisting (Self.objects self.now) (Self.may_fail self.now) (borrowed_id id.entry)) }
+        ensures found { IfOk result (λ it. Names (Self.objects self.now) (borrowed_id id.entry)
+            (stored it)) }
+        ensures refusal { IfErr result (RefusesExisting (Self.objects self.now)
+            (Self.may_fail self.now) (borrowed_id id.entry)) }
     {
         match self.try_find(id, buffer)? {
             Some(it) => Ok(it),
@@ -58,9 +60,14 @@ pub trait FindExt: Find {
         buffer: &'a mut Vec<u8>,
     ) -> Result<BlobRef<'a>, existing_object::Error>
         ensures empty { IsEmptyId object.Blob (borrowed_id id.entry) → IsOk result }
-        ensures empty_bytes { IsEmptyId object.Blob (borrowed_id id.entry) → IfOk result (λ blob. blob.bytes.now ≡ []) }
-        ensures found { ¬ IsEmptyId object.Blob (borrowed_id id.entry) → IfOk result (λ blob. NamesSuch (Self.objects self.now) (borrowed_id id.entry) object.Blob (λ hash text. blob.bytes.now ≡ text)) }
-        ensures refusal { ¬ IsEmptyId object.Blob (borrowed_id id.entry) → IfErr result (RefusesObject (Self.objects self.now) (Self.may_fail self.now) object.Blob (borrowed_id id.entry)) }
+        ensures empty_bytes { IsEmptyId object.Blob (borrowed_id id.entry)
+            → IfOk result (λ blob. blob.bytes.now ≡ []) }
+        ensures found { ¬ IsEmptyId object.Blob (borrowed_id id.entry)
+            → IfOk result (λ blob. NamesSuch (Self.objects self.now) (borrowed_id id.entry)
+            object.Blob (λ hash text. blob.bytes.now ≡ text)) }
+        ensures refusal { ¬ IsEmptyId object.Blob (borrowed_id id.entry)
+            → IfErr result (RefusesObject (Self.objects self.now) (Self.may_fail self.now)
+            object.Blob (borrowed_id id.entry)) }
     {
         if id.to_owned() == ObjectId::empty_blob(id.kind()) {
             return Ok(BlobRef::from_bytes(b""));
@@ -80,9 +87,14 @@ pub trait FindExt: Find {
         buffer: &'a mut Vec<u8>,
     ) -> Result<TreeRef<'a>, existing_object::Error>
         ensures empty { IsEmptyId object.Tree (borrowed_id id.entry) → IsOk result }
-        ensures no_entries { IsEmptyId object.Tree (borrowed_id id.entry) → IfOk result (λ tree. tree_entries tree ≡ []) }
-        ensures found { ¬ IsEmptyId object.Tree (borrowed_id id.entry) → IfOk result (λ tree. NamesSuch (Self.objects self.now) (borrowed_id id.entry) object.Tree (λ hash text. IsTreeText hash text (tree_entries tree))) }
-        ensures refusal { ¬ IsEmptyId object.Tree (borrowed_id id.entry) → IfErr result (RefusesObject (Self.objects self.now) (Self.may_fail self.now) object.Tree (borrowed_id id.entry)) }
+        ensures no_entries { IsEmptyId object.Tree (borrowed_id id.entry)
+            → IfOk result (λ tree. tree_entries tree ≡ []) }
+        ensures found { ¬ IsEmptyId object.Tree (borrowed_id id.entry)
+            → IfOk result (λ tree. NamesSuch (Self.objects self.now) (borrowed_id id.entry)
+            object.Tree (λ hash text. IsTreeText hash text (tree_entries tree))) }
+        ensures refusal { ¬ IsEmptyId object.Tree (borrowed_id id.entry)
+            → IfErr result (RefusesObject (Self.objects self.now) (Self.may_fail self.now)
+            object.Tree (borrowed_id id.entry)) }
     {
         if id.is_empty_tree() {
             return Ok(TreeRef::empty(alloc));
@@ -101,9 +113,12 @@ pub trait FindExt: Find {
         id: oid<'_>,
         buffer: &'a mut Vec<u8>,
     ) -> Result<CommitRef<'a>, existing_object::Error>
-        ensures found { IfOk result (λ commit. NamesSuch (Self.objects self.now) (borrowed_id id.entry) object.Commit (λ hash text. IsCommitText hash text (commit_lines commit))) }
+        ensures found { IfOk result (λ commit. NamesSuch (Self.objects self.now)
+            (borrowed_id id.entry) object.Commit (λ hash text.
+            IsCommitText hash text (commit_lines commit))) }
         ensures has_ids { IfOk result (λ commit. HasIds (commit_lines commit)) }
-        ensures refusal { IfErr result (RefusesObject (Self.objects self.now) (Self.may_fail self.now) object.Commit (borrowed_id id.entry)) }
+        ensures refusal { IfErr result (RefusesObject (Self.objects self.now)
+            (Self.may_fail self.now) object.Commit (borrowed_id id.entry)) }
     {
         match decoded(self, alloc, id, buffer)? {
             ObjectRef::Commit(commit) => Ok(commit),
@@ -119,9 +134,11 @@ pub trait FindExt: Find {
         id: oid<'_>,
         buffer: &'a mut Vec<u8>,
     ) -> Result<TagRef<'a>, existing_object::Error>
-        ensures found { IfOk result (λ tag. NamesSuch (Self.objects self.now) (borrowed_id id.entry) object.Tag (λ hash text. IsTagText hash text (tag_lines tag))) }
+        ensures found { IfOk result (λ tag. NamesSuch (Self.objects self.now) (borrowed_id id.entry)
+            object.Tag (λ hash text. IsTagText hash text (tag_lines tag))) }
         ensures has_id { IfOk result (λ tag. IsHexOfAnId (tag_lines tag).target) }
-        ensures refusal { IfErr result (RefusesObject (Self.objects self.now) (Self.may_fail self.now) object.Tag (borrowed_id id.entry)) }
+        ensures refusal { IfErr result (RefusesObject (Self.objects self.now)
+            (Self.may_fail self.now) object.Tag (borrowed_id id.entry)) }
     {
         match decoded(self, alloc, id, buffer)? {
             ObjectRef::Tag(tag) => Ok(tag),
@@ -136,8 +153,11 @@ pub trait FindExt: Find {
         id: oid<'_>,
         buffer: &'a mut Vec<u8>,
     ) -> Result<CommitRefIter<'a>, existing_iter::Error>
-        ensures found { IfOk result (λ reader. NamesSuch (Self.objects self.now) (borrowed_id id.entry) object.Commit (λ hash text. IsAtStartOfCommit hash text reader)) }
-        ensures refusal { IfErr result (RefusesReader (Self.objects self.now) (Self.may_fail self.now) object.Commit (borrowed_id id.entry)) }
+        ensures found { IfOk result (λ reader. NamesSuch (Self.objects self.now)
+            (borrowed_id id.entry) object.Commit (λ hash text.
+            IsAtStartOfCommit hash text reader)) }
+        ensures refusal { IfErr result (RefusesReader (Self.objects self.now)
+            (Self.may_fail self.now) object.Commit (borrowed_id id.entry)) }
     {
         let it = undecoded(self, id, buffer)?;
         match it.try_into_commit_iter(alloc) {
@@ -152,8 +172,10 @@ pub trait FindExt: Find {
         id: oid<'_>,
         buffer: &'a mut Vec<u8>,
     ) -> Result<TreeRefIter<'a>, existing_iter::Error>
-        ensures found { IfOk result (λ reader. NamesSuch (Self.objects self.now) (borrowed_id id.entry) object.Tree (λ hash text. IsAtEntry hash text reader)) }
-        ensures refusal { IfErr result (RefusesReader (Self.objects self.now) (Self.may_fail self.now) object.Tree (borrowed_id id.entry)) }
+        ensures found { IfOk result (λ reader. NamesSuch (Self.objects self.now)
+            (borrowed_id id.entry) object.Tree (λ hash text. IsAtEntry hash text reader)) }
+        ensures refusal { IfErr result (RefusesReader (Self.objects self.now)
+            (Self.may_fail self.now) object.Tree (borrowed_id id.entry)) }
     {
         let it = undecoded(self, id, buffer)?;
         match it.try_into_tree_iter() {
@@ -168,8 +190,10 @@ pub trait FindExt: Find {
         id: oid<'_>,
         buffer: &'a mut Vec<u8>,
     ) -> Result<TagRefIter<'a>, existing_iter::Error>
-        ensures found { IfOk result (λ reader. NamesSuch (Self.objects self.now) (borrowed_id id.entry) object.Tag (λ hash text. IsAtStartOfTag hash text reader)) }
-        ensures refusal { IfErr result (RefusesReader (Self.objects self.now) (Self.may_fail self.now) object.Tag (borrowed_id id.entry)) }
+        ensures found { IfOk result (λ reader. NamesSuch (Self.objects self.now)
+            (borrowed_id id.entry) object.Tag (λ hash text. IsAtStartOfTag hash text reader)) }
+        ensures refusal { IfErr result (RefusesReader (Self.objects self.now)
+            (Self.may_fail self.now) object.Tag (borrowed_id id.entry)) }
     {
         let it = undecoded(self, id, buffer)?;
         match it.try_into_tag_iter() {
@@ -190,7 +214,8 @@ fn decoded<'a, S: Find>(
 ) -> Result<ObjectRef<'a>, existing_object::Error>
     ensures found { IfOk result (NamesText (S.objects store.now) (borrowed_id id.entry)) }
     ensures has_ids { IfOk result HasObjectIds }
-    ensures refusal { IfErr result (IsUnread (S.objects store.now) (S.may_fail store.now) (borrowed_id id.entry)) }
+    ensures refusal { IfErr result (IsUnread (S.objects store.now) (S.may_fail store.now)
+        (borrowed_id id.entry)) }
 {
     let oid = id.to_owned();
     let Some(it) = store.try_find(id, buffer)? else {
@@ -208,8 +233,10 @@ fn undecoded<'a, S: Find>(
     id: oid<'_>,
     buffer: &'a mut Vec<u8>,
 ) -> Result<Data<'a>, existing_iter::Error>
-    ensures found { IfOk result (λ it. Names (S.objects store.now) (borrowed_id id.entry) (stored it)) }
-    ensures refusal { IfErr result (IsMissing (S.objects store.now) (S.may_fail store.now) (borrowed_id id.entry)) }
+    ensures found { IfOk result (λ it. Names (S.objects store.now) (borrowed_id id.entry)
+        (stored it)) }
+    ensures refusal { IfErr result (IsMissing (S.objects store.now) (S.may_fail store.now)
+        (borrowed_id id.entry)) }
 {
     match store.try_find(id, buffer)? {
         Some(it) => Ok(it),

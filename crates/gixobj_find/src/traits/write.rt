@@ -34,7 +34,8 @@ pub trait Write {
     /// the text. Any other error is that of [`Write::write_stream`].
     fn write<T: WriteTo>(&self, alloc: Global, object: &T) -> Result<ObjectId, Error>
         requires { T.can_write object.now }
-        ensures { IsWrittenObject (answers self.now) (T.object_kind object.now) (T.refuses object.now) (T.text object.now) result }
+        ensures { IsWrittenObject (answers self.now) (T.object_kind object.now)
+            (T.refuses object.now) (T.text object.now) result }
     {
         let mut text = Vec::new(alloc);
         object.write_to_vec(alloc, &mut text)?;

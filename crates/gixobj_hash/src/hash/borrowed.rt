@@ -77,14 +77,16 @@ impl<'a> oid<'a> {
 
     /// Whether this is the id of the tree without entries.
     pub fn is_empty_tree(self) -> bool
-        ensures { IsTrue result ↔ (borrowed_id self.entry ≡ id_of (id_kind (borrowed_id self.entry)) Tree []) }
+        ensures { IsTrue result ↔ (borrowed_id self.entry ≡ id_of (id_kind (borrowed_id self.entry))
+            Tree []) }
     {
         self.to_owned().is_empty_tree()
     }
 
     /// Writes the id as hex digits in lower case, 40 or 64 of them. The error is the writer's.
     pub fn write_hex_to<W: Write>(self, out: &mut W) -> io::Result<()>
-        ensures { OnOk result (Appends (W.contents out.old) (W.contents out.new) (hex_text (borrowed_id self.entry))) }
+        ensures { OnOk result (Appends (W.contents out.old) (W.contents out.new)
+            (hex_text (borrowed_id self.entry))) }
     {
         self.to_owned().write_hex_to(out)
     }
@@ -92,7 +94,8 @@ impl<'a> oid<'a> {
     /// Refuses an id that differs from the expected one, with both.
     pub fn verify(self, expected: oid<'_>) -> Result<(), verify::Error>
         ensures accepts { IsOk result ↔ (borrowed_id self.entry ≡ borrowed_id expected.entry) }
-        ensures refusal { IfErr result (λ e. (e.actual ≡ borrowed_id self.entry) × (e.expected ≡ borrowed_id expected.entry)) }
+        ensures refusal { IfErr result (λ e. (e.actual ≡ borrowed_id self.entry)
+            × (e.expected ≡ borrowed_id expected.entry)) }
     {
         self.to_owned().verify(expected)
     }

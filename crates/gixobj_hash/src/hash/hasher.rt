@@ -28,7 +28,8 @@ impl Hasher {
 
     /// Adds bytes at the end of the message.
     pub fn update(&mut self, bytes: &[u8])
-        ensures { (kind : Kind) (message : List ℕ) → HoldsMessage kind self.old message → HoldsMessage kind self.new (message ++ bytes.now) }
+        ensures { (kind : Kind) (message : List ℕ) → HoldsMessage kind self.old message
+            → HoldsMessage kind self.new (message ++ bytes.now) }
     {
         match self {
             Hasher::Sha1(hasher) => hasher.update(bytes),
@@ -38,7 +39,8 @@ impl Hasher {
 
     /// The id that the message's digest is.
     pub fn finalize(self) -> ObjectId
-        ensures { (kind : Kind) (message : List ℕ) → HoldsMessage kind self message → result ≡ id_from kind (digest_of kind message) }
+        ensures { (kind : Kind) (message : List ℕ) → HoldsMessage kind self message
+            → result ≡ id_from kind (digest_of kind message) }
     {
         match self {
             Hasher::Sha1(hasher) => ObjectId::Sha1(hasher.finalize()),

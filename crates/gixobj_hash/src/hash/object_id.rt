@@ -119,7 +119,8 @@ impl ObjectId {
 
     /// Writes the id as hex digits in lower case, 40 or 64 of them. The error is the writer's.
     pub fn write_hex_to<W: Write>(&self, out: &mut W) -> io::Result<()>
-        ensures { OnOk result (Appends (W.contents out.old) (W.contents out.new) (hex_text self.now)) }
+        ensures { OnOk result (Appends (W.contents out.old) (W.contents out.new)
+            (hex_text self.now)) }
     {
         let mut buffer = [0u8; 64];
         out.write_all(self.hex_to_buf(&mut buffer).as_bytes())
@@ -143,7 +144,8 @@ impl ObjectId {
     /// Refuses an id that differs from the expected one, with both.
     pub fn verify(&self, expected: oid<'_>) -> Result<(), verify::Error>
         ensures accepts { IsOk result ↔ (self.now ≡ borrowed_id expected.entry) }
-        ensures refusal { IfErr result (λ e. (e.actual ≡ self.now) × (e.expected ≡ borrowed_id expected.entry)) }
+        ensures refusal { IfErr result (λ e. (e.actual ≡ self.now)
+            × (e.expected ≡ borrowed_id expected.entry)) }
     {
         let expected = expected.to_owned();
         if *self == expected {

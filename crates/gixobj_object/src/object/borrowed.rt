@@ -41,7 +41,8 @@ impl<'a> ObjectRef<'a> {
 
     /// The tree, or none where the object is of another kind.
     pub fn as_tree(&self) -> Option<&TreeRef<'a>>
-        ensures { MatchOption result (borrowed_kind self.now ≢ Kind.Tree) (λ tree. self.now ≡ ObjectRef.Tree tree.now) }
+        ensures { MatchOption result (borrowed_kind self.now ≢ Kind.Tree)
+            (λ tree. self.now ≡ ObjectRef.Tree tree.now) }
     {
         match self {
             ObjectRef::Tree(tree) => Some(tree),
@@ -51,7 +52,8 @@ impl<'a> ObjectRef<'a> {
 
     /// The blob, or none where the object is of another kind.
     pub fn as_blob(&self) -> Option<&BlobRef<'a>>
-        ensures { MatchOption result (borrowed_kind self.now ≢ Kind.Blob) (λ blob. self.now ≡ ObjectRef.Blob blob.now) }
+        ensures { MatchOption result (borrowed_kind self.now ≢ Kind.Blob)
+            (λ blob. self.now ≡ ObjectRef.Blob blob.now) }
     {
         match self {
             ObjectRef::Blob(blob) => Some(blob),
@@ -61,7 +63,8 @@ impl<'a> ObjectRef<'a> {
 
     /// The commit, or none where the object is of another kind.
     pub fn as_commit(&self) -> Option<&CommitRef<'a>>
-        ensures { MatchOption result (borrowed_kind self.now ≢ Kind.Commit) (λ commit. self.now ≡ ObjectRef.Commit commit.now) }
+        ensures { MatchOption result (borrowed_kind self.now ≢ Kind.Commit)
+            (λ commit. self.now ≡ ObjectRef.Commit commit.now) }
     {
         match self {
             ObjectRef::Commit(commit) => Some(commit),
@@ -71,7 +74,8 @@ impl<'a> ObjectRef<'a> {
 
     /// The tag, or none where the object is of another kind.
     pub fn as_tag(&self) -> Option<&TagRef<'a>>
-        ensures { MatchOption result (borrowed_kind self.now ≢ Kind.Tag) (λ tag. self.now ≡ ObjectRef.Tag tag.now) }
+        ensures { MatchOption result (borrowed_kind self.now ≢ Kind.Tag)
+            (λ tag. self.now ≡ ObjectRef.Tag tag.now) }
     {
         match self {
             ObjectRef::Tag(tag) => Some(tag),
@@ -81,28 +85,32 @@ impl<'a> ObjectRef<'a> {
 
     /// The tree by itself, or none where the object is of another kind.
     pub fn into_tree(self) -> Option<TreeRef<'a>>
-        ensures { MatchOption result (borrowed_kind self.entry ≢ Kind.Tree) (λ tree. self.entry ≡ ObjectRef.Tree tree) }
+        ensures { MatchOption result (borrowed_kind self.entry ≢ Kind.Tree)
+            (λ tree. self.entry ≡ ObjectRef.Tree tree) }
     {
         TreeRef::try_from(self).ok()
     }
 
     /// The blob by itself, or none where the object is of another kind.
     pub fn into_blob(self) -> Option<BlobRef<'a>>
-        ensures { MatchOption result (borrowed_kind self.entry ≢ Kind.Blob) (λ blob. self.entry ≡ ObjectRef.Blob blob) }
+        ensures { MatchOption result (borrowed_kind self.entry ≢ Kind.Blob)
+            (λ blob. self.entry ≡ ObjectRef.Blob blob) }
     {
         BlobRef::try_from(self).ok()
     }
 
     /// The commit by itself, or none where the object is of another kind.
     pub fn into_commit(self) -> Option<CommitRef<'a>>
-        ensures { MatchOption result (borrowed_kind self.entry ≢ Kind.Commit) (λ commit. self.entry ≡ ObjectRef.Commit commit) }
+        ensures { MatchOption result (borrowed_kind self.entry ≢ Kind.Commit)
+            (λ commit. self.entry ≡ ObjectRef.Commit commit) }
     {
         CommitRef::try_from(self).ok()
     }
 
     /// The tag by itself, or none where the object is of another kind.
     pub fn into_tag(self) -> Option<TagRef<'a>>
-        ensures { MatchOption result (borrowed_kind self.entry ≢ Kind.Tag) (λ tag. self.entry ≡ ObjectRef.Tag tag) }
+        ensures { MatchOption result (borrowed_kind self.entry ≢ Kind.Tag)
+            (λ tag. self.entry ≡ ObjectRef.Tag tag) }
     {
         TagRef::try_from(self).ok()
     }

@@ -12,7 +12,8 @@ use gixobj_tree::{Blob, BlobRef, Tree};
 impl Object {
     /// The blob, borrowed, or none where the object is of another kind.
     pub fn try_into_blob_ref(&self) -> Option<BlobRef<'_>>
-        ensures { MatchOption result (owned_kind self.now ≢ Kind.Blob) (λ blob. (b : Blob) × (self.now ≡ Object.Blob b) × (blob.bytes.now ≡ b.bytes.items)) }
+        ensures { MatchOption result (owned_kind self.now ≢ Kind.Blob)
+            (λ blob. (b : Blob) × (self.now ≡ Object.Blob b) × (blob.bytes.now ≡ b.bytes.items)) }
     {
         match self {
             Object::Blob(blob) => Some(blob.to_ref()),
@@ -22,7 +23,8 @@ impl Object {
 
     /// The tree, or the object back where it is of another kind.
     pub fn try_into_tree(self) -> Result<Tree, Object>
-        ensures { MatchResult result (λ tree. self ≡ Object.Tree tree) (λ back. (back ≡ self) × (owned_kind self ≢ Kind.Tree)) }
+        ensures { MatchResult result (λ tree. self ≡ Object.Tree tree)
+            (λ back. (back ≡ self) × (owned_kind self ≢ Kind.Tree)) }
     {
         match self {
             Object::Tree(tree) => Ok(tree),
@@ -32,7 +34,8 @@ impl Object {
 
     /// The blob, or the object back where it is of another kind.
     pub fn try_into_blob(self) -> Result<Blob, Object>
-        ensures { MatchResult result (λ blob. self ≡ Object.Blob blob) (λ back. (back ≡ self) × (owned_kind self ≢ Kind.Blob)) }
+        ensures { MatchResult result (λ blob. self ≡ Object.Blob blob)
+            (λ back. (back ≡ self) × (owned_kind self ≢ Kind.Blob)) }
     {
         match self {
             Object::Blob(blob) => Ok(blob),
@@ -42,7 +45,8 @@ impl Object {
 
     /// The commit, or the object back where it is of another kind.
     pub fn try_into_commit(self) -> Result<Commit, Object>
-        ensures { MatchResult result (λ commit. self ≡ Object.Commit commit) (λ back. (back ≡ self) × (owned_kind self ≢ Kind.Commit)) }
+        ensures { MatchResult result (λ commit. self ≡ Object.Commit commit)
+            (λ back. (back ≡ self) × (owned_kind self ≢ Kind.Commit)) }
     {
         match self {
             Object::Commit(commit) => Ok(commit),
@@ -52,7 +56,8 @@ impl Object {
 
     /// The tag, or the object back where it is of another kind.
     pub fn try_into_tag(self) -> Result<Tag, Object>
-        ensures { MatchResult result (λ tag. self ≡ Object.Tag tag) (λ back. (back ≡ self) × (owned_kind self ≢ Kind.Tag)) }
+        ensures { MatchResult result (λ tag. self ≡ Object.Tag tag)
+            (λ back. (back ≡ self) × (owned_kind self ≢ Kind.Tag)) }
     {
         match self {
             Object::Tag(tag) => Ok(tag),

@@ -15,8 +15,8 @@ use crate::traits::Find;
 use crate::tree::TreeRefIter;
 use bstr::BString;
 use gixobj_hash::hash::ObjectId;
-use gixobj_hash::{Kind, OutOfMemory};
 use gixobj_hash::texts::split_at_byte;
+use gixobj_hash::{Kind, OutOfMemory};
 use gixobj_tree::tree::{Entry, EntryRef};
 use std::alloc::Global;
 use std::ops::ControlFlow;
@@ -31,9 +31,12 @@ pub fn next_entry<'a>(
     components: &mut &[BString],
     tree: Data<'a>,
 ) -> ControlFlow<Option<EntryRef<'a>>, ObjectId>
-    ensures no_tree { tree.entry.kind ≢ object.Tree → (result ≡ Break None) × (components.new.now ≡ components.old.now) }
-    ensures one_name { tree.entry.kind ≡ object.Tree → components.new.now ≡ drop 1 components.old.now }
-    ensures step { tree.entry.kind ≡ object.Tree → IsStep (stored tree.entry) (map bstring_bytes components.old.now) result }
+    ensures no_tree { tree.entry.kind ≢ object.Tree → (result ≡ Break None)
+        × (components.new.now ≡ components.old.now) }
+    ensures one_name { tree.entry.kind ≡ object.Tree
+        → components.new.now ≡ drop 1 components.old.now }
+    ensures step { tree.entry.kind ≡ object.Tree → IsStep (stored tree.entry)
+        (map bstring_bytes components.old.now) result }
 {
     let Some(reader) = tree.try_into_tree_iter() else {
         return ControlFlow::Break(None);
@@ -56,8 +59,10 @@ pub fn next_entry<'a>(
 impl<'a> TreeRefIter<'a> {
     /// The first entry of this name that is left, before any damaged one. It takes no memory.
     fn first_named(self, name: &[u8]) -> Option<EntryRef<'a>>
-        ensures found { IfSome result (λ entry. HasFirstNamed self.entry.hash_kind (bytes_left self.entry) name.now (entry_view entry)) }
-        ensures none { IfNone result (HasNoEntryNamed self.entry.hash_kind (bytes_left self.entry) name.now) }
+        ensures found { IfSome result (λ entry. HasFirstNamed self.entry.hash_kind
+            (bytes_left self.entry) name.now (entry_view entry)) }
+        ensures none { IfNone result (HasNoEntryNamed self.entry.hash_kind (bytes_left self.entry)
+            name.now) }
     {
         for item in self {
             match item {
@@ -83,8 +88,10 @@ impl<'a> TreeRefIter<'a> {
         buffer: &mut Vec<u8>,
         path: &[BString],
     ) -> Result<Option<Entry>, Error>
-        ensures found { IfOk result (IsAtPath (S.objects store.now) (Some (tree_left self.now)) (map bstring_bytes path.now)) }
-        ensures refusal { IfErr result (RefusesPath (S.objects store.now) (S.may_fail store.now) (Some (tree_left self.now)) (map bstring_bytes path.now)) }
+        ensures found { IfOk result (IsAtPath (S.objects store.now) (Some (tree_left self.now))
+            (map bstring_bytes path.now)) }
+        ensures refusal { IfErr result (RefusesPath (S.objects store.now) (S.may_fail store.now)
+            (Some (tree_left self.now)) (map bstring_bytes path.now)) }
     {
         let mut names = path;
         let tree = Data::new(self.bytes, Kind::Tree, self.hash_kind);
@@ -114,8 +121,11 @@ impl<'a> TreeRefIter<'a> {
         buffer: &mut Vec<u8>,
         path: &[u8],
     ) -> Result<Option<Entry>, Error>
-        ensures found { IfOk result (λ found. (names : List Name) × AreNamesOf path.now names × IsAtPath (S.objects store.now) (Some (tree_left self.now)) names found) }
-        ensures refusal { IfErr result (λ error. (names : List Name) × AreNamesOf path.now names × RefusesPathText (S.objects store.now) (S.may_fail store.now) (Some (tree_left self.now)) names error) }
+        ensures found { IfOk result (λ found. (names : List Name) × AreNamesOf path.now names
+            × IsAtPath (S.objects store.now) (Some (tree_left self.now)) names found) }
+        ensures refusal { IfErr result (λ error. (names : List Name) × AreNamesOf path.now names
+            × RefusesPathText (S.objects store.now) (S.may_fail store.now)
+            (Some (tree_left self.now)) names error) }
     {
         let names = names_of(alloc, path)?;
         self.lookup_entry(alloc, store, buffer, &names)
@@ -138,7 +148,8 @@ fn owned(alloc: Global, found: Option<EntryRef<'_>>) -> Result<Option<Entry>, Ou
 /// `OutOfMemory` only where there is a name.
 fn names_of(alloc: Global, path: &[u8]) -> Result<Vec<BString>, OutOfMemory>
     ensures found { IfOk result (λ names. AreNamesOf path.now (map bstring_bytes names.items)) }
-    ensures refusal { OnErr result ((names : List Name) × AreNamesOf path.now names × (names ≢ [])) }
+    ensures refusal { OnErr result ((names : List Name) × AreNamesOf path.now names
+        × (names ≢ [])) }
 {
     let mut names = Vec::new(alloc);
     let mut rest = path;
@@ -152,7 +163,8 @@ fn names_of(alloc: Global, path: &[u8]) -> Result<Vec<BString>, OutOfMemory>
 
 /// Puts a part of a path at the end, if it has a byte. Where it fails the names are as before.
 fn put_name(names: &mut Vec<BString>, alloc: Global, part: &[u8]) -> Result<(), OutOfMemory>
-    ensures put { OnOk result (map bstring_bytes names.new.items ≡ map bstring_bytes names.old.items ++ named_parts (part.now ∷ [])) }
+    ensures put { OnOk result (map bstring_bytes names.new.items ≡ map bstring_bytes
+        names.old.items ++ named_parts (part.now ∷ [])) }
     ensures refusal { OnErr result (part.now ≢ []) }
 {
     if !part.is_empty() {

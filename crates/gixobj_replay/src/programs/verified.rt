@@ -8,9 +8,9 @@ use crate::reports::level_of;
 use bstr::{BStr, BString};
 use gixobj_base::date::parse_header;
 use gixobj_codec::{CommitRefIter, TagRefIter};
-use gixobj_text::signature::Format;
 use gixobj_signature::signature::SignedData;
 use gixobj_signature::signature::verify::{Error, Options, Outcome};
+use gixobj_text::signature::Format;
 use std::alloc::{AllocError, Global};
 
 /// What comes of verifying the signature of an object.

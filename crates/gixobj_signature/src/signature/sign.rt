@@ -111,7 +111,8 @@ pub fn sign_payload<R: Runner>(
     options: Options,
     runner: &mut R,
 ) -> Result<BString, Error>
-    ensures { Signs R.runs (sign_plan (options_view options) payload.now) runner.old result runner.new }
+    ensures { Signs R.runs (sign_plan (options_view options) payload.now) runner.old result
+        runner.new }
 {
     if options.signing_key.is_empty() {
         return Err(Error::MissingSigningKey);
@@ -129,7 +130,8 @@ fn sign_gpg<R: Runner>(
     options: Options,
     runner: &mut R,
 ) -> Result<BString, Error>
-    ensures { Signs R.runs (gpg_plan (options_view options) payload.now) runner.old result runner.new }
+    ensures { Signs R.runs (gpg_plan (options_view options) payload.now) runner.old result
+        runner.new }
 {
     let call = gpg_call_of(alloc, payload, &options)?;
     let output = match runner.run(&call) {
@@ -152,7 +154,8 @@ fn sign_ssh<R: Runner>(
     options: Options,
     runner: &mut R,
 ) -> Result<BString, Error>
-    ensures { Signs R.runs (ssh_plan (options_view options) payload.now) runner.old result runner.new }
+    ensures { Signs R.runs (ssh_plan (options_view options) payload.now) runner.old result
+        runner.new }
 {
     let call = ssh_call_of(alloc, payload, &options)?;
     let output = match runner.run(&call) {
@@ -167,7 +170,8 @@ fn sign_ssh<R: Runner>(
 
 /// The signature in the file that a program of SSH left.
 fn left_signature_of(alloc: Global, left: Option<Vec<u8>>) -> Result<BString, Error>
-    ensures { MatchOption (sign_view result) ⊤ (λ it. it ≡ left_signature (option_map (λ v. v.items) left)) }
+    ensures { MatchOption (sign_view result) ⊤ (λ it.
+        it ≡ left_signature (option_map (λ v. v.items) left)) }
 {
     match left {
         Some(bytes) => Ok(without_returns_of(alloc, &bytes)?),

@@ -8,11 +8,13 @@ ghost use Rattle.gixobj_signature.specs.Calls.{call_view};
 mod gpg;
 mod ssh;
 
+pub use crate::signature::report::{
+    Outcome, Status, TrustLevel, parse_gpg_output, parse_ssh_output,
+};
 use crate::signature::{Call, Output, RunError, Runner, SignedData};
 use bstr::{BStr, BString};
 use gixobj_actor::date::Time;
 use gixobj_hash::OutOfMemory;
-pub use crate::signature::report::{Outcome, Status, TrustLevel, parse_gpg_output, parse_ssh_output};
 use gixobj_text::signature::Format;
 use gpg::{verify_open_pgp, verify_x509};
 use ssh::verify_if_ssh;
@@ -179,7 +181,8 @@ fn verify_as<R: Runner>(
     options: Options,
     runner: &mut R,
 ) -> Result<Outcome, Error>
-    ensures { ComesOf R.runs (verify_plan (options_view options) signature.now (signed_bytes signed.now) (Some format)) runner.old result runner.new }
+    ensures { ComesOf R.runs (verify_plan (options_view options) signature.now
+        (signed_bytes signed.now) (Some format)) runner.old result runner.new }
 {
     match options {
         Options::OpenPgp {

@@ -44,7 +44,8 @@ pub(super) fn first_fault(name: &[u8]) -> Option<RefNameFault>
 /// Whether a part begins with `.`: the first one, or one behind a slash.
 #[tactic(auto, using(crate::proofs::Names::dot_first, crate::proofs::Names::dot_later))]
 fn has_dot_start(name: &[u8]) -> bool
-    ensures { MatchBool result (HasFault fault.DotStart name.now) (¬ HasFault fault.DotStart name.now) }
+    ensures { MatchBool result (HasFault fault.DotStart name.now)
+        (¬ HasFault fault.DotStart name.now) }
 {
     name.starts_with(b".") || name.contains_str(b"/.")
 }
@@ -52,7 +53,8 @@ fn has_dot_start(name: &[u8]) -> bool
 /// Whether a part ends with `.lock`: the last one, or one before a slash.
 #[tactic(auto, using(crate::proofs::Names::lock_last, crate::proofs::Names::lock_earlier))]
 fn has_lock_suffix(name: &[u8]) -> bool
-    ensures { MatchBool result (HasFault fault.LockSuffix name.now) (¬ HasFault fault.LockSuffix name.now) }
+    ensures { MatchBool result (HasFault fault.LockSuffix name.now)
+        (¬ HasFault fault.LockSuffix name.now) }
 {
     name.ends_with(b".lock") || name.contains_str(b".lock/")
 }
@@ -60,7 +62,8 @@ fn has_lock_suffix(name: &[u8]) -> bool
 /// Whether two dots follow each other.
 #[tactic(auto, using(crate::proofs::Names::holds_told))]
 fn has_double_dot(name: &[u8]) -> bool
-    ensures { MatchBool result (HasFault fault.DoubleDot name.now) (¬ HasFault fault.DoubleDot name.now) }
+    ensures { MatchBool result (HasFault fault.DoubleDot name.now)
+        (¬ HasFault fault.DoubleDot name.now) }
 {
     name.contains_str(b"..")
 }
@@ -68,21 +71,24 @@ fn has_double_dot(name: &[u8]) -> bool
 /// Whether `@{` stands in the name.
 #[tactic(auto, using(crate::proofs::Names::holds_told))]
 fn has_at_brace(name: &[u8]) -> bool
-    ensures { MatchBool result (HasFault fault.AtBrace name.now) (¬ HasFault fault.AtBrace name.now) }
+    ensures { MatchBool result (HasFault fault.AtBrace name.now)
+        (¬ HasFault fault.AtBrace name.now) }
 {
     name.contains_str(b"@{")
 }
 
 /// Whether there is a backslash.
 fn has_backslash(name: &[u8]) -> bool
-    ensures { MatchBool result (HasFault fault.Backslash name.now) (¬ HasFault fault.Backslash name.now) }
+    ensures { MatchBool result (HasFault fault.Backslash name.now)
+        (¬ HasFault fault.Backslash name.now) }
 {
     has_byte(name, b'\\')
 }
 
 /// Whether there is a byte that no name may have.
 fn has_invalid_byte(name: &[u8]) -> bool
-    ensures { MatchBool result (HasFault fault.InvalidByte name.now) (¬ HasFault fault.InvalidByte name.now) }
+    ensures { MatchBool result (HasFault fault.InvalidByte name.now)
+        (¬ HasFault fault.InvalidByte name.now) }
 {
     name.iter().any(|byte| is_forbidden(*byte))
 }
@@ -97,7 +103,8 @@ fn is_forbidden(byte: u8) -> bool
 /// Whether a slash is first or last, or two follow each other.
 #[tactic(auto, using(crate::proofs::Names::slash_last, crate::proofs::Names::slash_doubled))]
 fn has_bad_slash(name: &[u8]) -> bool
-    ensures { MatchBool result (HasFault fault.BadSlash name.now) (¬ HasFault fault.BadSlash name.now) }
+    ensures { MatchBool result (HasFault fault.BadSlash name.now)
+        (¬ HasFault fault.BadSlash name.now) }
 {
     name.starts_with(b"/") || name.ends_with(b"/") || name.contains_str(b"//")
 }

@@ -5,8 +5,8 @@ ghost use Rattle.gixobj_tag.specs.TagExtracting.{GivesSignatureOfTag};
 
 use super::TagRefIter;
 use bstr::BStr;
-use gixobj_text::signature::{SignatureRef, find};
 use gixobj_signature::signature::SignedData;
+use gixobj_text::signature::{SignatureRef, find};
 
 /// Signatures
 impl<'a> TagRefIter<'a> {

@@ -54,7 +54,8 @@ fn owned_tagger(
     alloc: Global,
     tagger: Option<SignatureRef<'_>>,
 ) -> Result<Option<Signature>, OutOfMemory>
-    ensures { IfOk result (λ it. (line : Option (List ℕ)) → IsTagger line tagger.entry → IsOwnedTagger line it) }
+    ensures { IfOk result (λ it. (line : Option (List ℕ)) → IsTagger line tagger.entry
+        → IsOwnedTagger line it) }
 {
     match tagger {
         Some(actor) => Ok(Some(owned_actor(alloc, actor)?)),

@@ -32,7 +32,8 @@ impl Tag {
         runner: &mut R,
     ) -> Result<Tag, Error>
         ensures signed { IfOk result (IsSignedTag R.runs options self runner.old runner.new) }
-        ensures refusal { IfErr result (RefusesSigningTag R.runs options self runner.old runner.new) }
+        ensures refusal { IfErr result (RefusesSigningTag R.runs options self runner.old
+            runner.new) }
     {
         let unsigned = without_signature(self);
         match payload_of(alloc, &unsigned) {
@@ -55,8 +56,10 @@ impl TagRef<'_> {
         runner: &mut R,
     ) -> Result<Tag, Error>
         requires { IsHexOfAnId (tag_lines self).target }
-        ensures signed { IfOk result (IsSignedTagCopy R.runs options (tag_lines self.entry) runner.old runner.new) }
-        ensures refusal { IfErr result (RefusesSigningTagCopy R.runs options (tag_lines self.entry) runner.old runner.new) }
+        ensures signed { IfOk result (IsSignedTagCopy R.runs options (tag_lines self.entry)
+            runner.old runner.new) }
+        ensures refusal { IfErr result (RefusesSigningTagCopy R.runs options (tag_lines self.entry)
+            runner.old runner.new) }
     {
         match self.into_owned(alloc) {
             Ok(tag) => tag.sign(alloc, options, runner),
@@ -76,7 +79,8 @@ fn without_signature(tag: Tag) -> Tag
 
 /// The tag with this signature.
 fn with_signature(tag: Tag, signature: BString) -> Tag
-    ensures { owned_tag_lines result ≡ signed_as (Some (bstring_bytes signature)) (owned_tag_lines tag) }
+    ensures { owned_tag_lines result ≡ signed_as (Some (bstring_bytes signature))
+        (owned_tag_lines tag) }
 {
     let mut tag = tag;
     tag.signature = Some(signature);
@@ -85,7 +89,8 @@ fn with_signature(tag: Tag, signature: BString) -> Tag
 
 /// What is signed of a tag that has no signature.
 fn payload_of(alloc: Global, tag: &Tag) -> Result<Vec<u8>, Error>
-    ensures text { IfOk result (λ text. text.items ≡ tag_text (owned_tag_lines tag.now) ++ newline ∷ []) }
+    ensures text { IfOk result (λ text. text.items ≡ tag_text
+        (owned_tag_lines tag.now) ++ newline ∷ []) }
     ensures writable { OnOk result (RefusesNothing (RefusesOwnedTag tag.now)) }
     ensures refusal { IfErr result (HasNoPayload tag.now) }
 {
@@ -123,8 +128,11 @@ fn sign_written<R: Runner>(
     options: Options,
     runner: &mut R,
 ) -> Result<Tag, Error>
-    ensures signed { IfOk result (GetsTagSignature R.runs options payload.now unsigned runner.old runner.new) }
-    ensures refusal { IfErr result (λ error. Goes R.runs (sign_plan (options_view options) payload.now) runner.old (signer_refusal error) runner.new) }
+    ensures signed { IfOk result (GetsTagSignature R.runs options payload.now unsigned runner.old
+        runner.new) }
+    ensures refusal { IfErr result (λ error. Goes R.runs
+        (sign_plan (options_view options) payload.now) runner.old (signer_refusal error)
+        runner.new) }
 {
     match sign_payload(alloc, payload, options, runner) {
         Ok(bytes) => Ok(with_signature(unsigned, bytes)),

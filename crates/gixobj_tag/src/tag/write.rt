@@ -14,6 +14,7 @@ mod owned;
 
 use super::TagRef;
 use super::decode::are_newlines;
+pub use crate::name::{Error, validated_name};
 use bstr::BStr;
 use gixobj_actor::actor::Signature;
 use gixobj_actor::encode::{size_with_signature, trusted_header_signature};
@@ -24,7 +25,6 @@ use gixobj_fields::encode::{
 use gixobj_fields::streams::{Sink, put_parts};
 use gixobj_hash::Kind;
 use gixobj_hash::hash::ObjectId;
-pub use crate::name::{Error, validated_name};
 use std::alloc::Global;
 use std::io;
 
@@ -84,9 +84,19 @@ fn put_tag<'a, T: Target, A: Tagger, S: Sink>(
     signature: Option<BStr<'a>>,
     sink: &mut S,
 ) -> Result<(), encode::Error>
-    ensures written { OnOk result (Puts (S.view sink.old) (S.view sink.new) (T.target_line target.now ++ field_text (codes "type") (kind_word target_kind) ++ field_text (codes "tag") (bstr_bytes name.entry) ++ A.tagger_line tagger.now ++ body_text (bstr_bytes message.entry) (bytes_if_some signature.entry))) }
-    ensures nothing_refused { OnOk result (RefusesNothing (RefusesParts (T.target_line target.now ++ field_text (codes "type") (kind_word target_kind)) (bstr_bytes name.entry) (A.refuses tagger.now))) }
-    ensures refusal { IfErr result (RefusesWriting (RefusesParts (T.target_line target.now ++ field_text (codes "type") (kind_word target_kind)) (bstr_bytes name.entry) (A.refuses tagger.now)) (S.view sink.old) (S.view sink.new) (T.target_line target.now ++ field_text (codes "type") (kind_word target_kind) ++ field_text (codes "tag") (bstr_bytes name.entry) ++ A.tagger_line tagger.now ++ body_text (bstr_bytes message.entry) (bytes_if_some signature.entry))) }
+    ensures written { OnOk result (Puts (S.view sink.old) (S.view sink.new)
+        (T.target_line target.now ++ field_text (codes "type") (kind_word target_kind) ++ field_text
+        (codes "tag") (bstr_bytes name.entry) ++ A.tagger_line tagger.now ++ body_text
+        (bstr_bytes message.entry) (bytes_if_some signature.entry))) }
+    ensures nothing_refused { OnOk result (RefusesNothing
+        (RefusesParts (T.target_line target.now ++ field_text (codes "type")
+        (kind_word target_kind)) (bstr_bytes name.entry) (A.refuses tagger.now))) }
+    ensures refusal { IfErr result (RefusesWriting
+        (RefusesParts (T.target_line target.now ++ field_text (codes "type")
+        (kind_word target_kind)) (bstr_bytes name.entry) (A.refuses tagger.now)) (S.view sink.old)
+        (S.view sink.new) (T.target_line target.now ++ field_text (codes "type")
+        (kind_word target_kind) ++ field_text (codes "tag") (bstr_bytes name.entry) ++ A.tagger_line
+        tagger.now ++ body_text (bstr_bytes message.entry) (bytes_if_some signature.entry))) }
     ensures same_loan { S.loan sink.new ≡ S.loan sink.old }
 {
     put_target(target, target_kind, sink)?;
@@ -105,7 +115,9 @@ fn tag_size<T: Target, A: Tagger>(
     message: BStr<'_>,
     signature: Option<BStr<'_>>,
 ) -> Option<u64>
-    ensures { IsSize result (T.target_line target.now ++ field_text (codes "type") (kind_word target_kind) ++ field_text (codes "tag") (bstr_bytes name.entry) ++ A.tagger_line tagger.now ++ body_text (bstr_bytes message.entry) (bytes_if_some signature.entry)) }
+    ensures { IsSize result (T.target_line target.now ++ field_text (codes "type")
+        (kind_word target_kind) ++ field_text (codes "tag") (bstr_bytes name.entry) ++ A.tagger_line
+        tagger.now ++ body_text (bstr_bytes message.entry) (bytes_if_some signature.entry)) }
 {
     let target = size_with_field(target.size_with_target(0)?, b"type", target_kind.as_bytes())?;
     let named = size_with_field(target, b"tag", name.as_bytes())?;
@@ -122,7 +134,8 @@ trait Target {
 
     /// Puts its line.
     fn put_target_line<S: Sink>(&self, sink: &mut S) -> io::Result<()>
-        ensures put { PutsOrFails result (S.view sink.old) (S.view sink.new) (target_line self.now) }
+        ensures put { PutsOrFails result (S.view sink.old) (S.view sink.new)
+            (target_line self.now) }
         ensures same_loan { S.loan sink.new ≡ S.loan sink.old };
 
     /// The size with that of its line, or none past 64 bits.
@@ -176,9 +189,11 @@ trait Tagger {
 
     /// Puts its line.
     fn put_tagger<S: Sink>(&self, sink: &mut S) -> Result<(), encode::Error>
-        ensures written { OnOk result (Puts (S.view sink.old) (S.view sink.new) (tagger_line self.now)) }
+        ensures written { OnOk result (Puts (S.view sink.old) (S.view sink.new)
+            (tagger_line self.now)) }
         ensures nothing_refused { OnOk result (RefusesNothing (refuses self.now)) }
-        ensures refusal { IfErr result (RefusesWriting (refuses self.now) (S.view sink.old) (S.view sink.new) (tagger_line self.now)) }
+        ensures refusal { IfErr result (RefusesWriting (refuses self.now) (S.view sink.old)
+            (S.view sink.new) (tagger_line self.now)) }
         ensures same_loan { S.loan sink.new ≡ S.loan sink.old };
 
     /// The size with that of its line, or none past 64 bits.
@@ -240,7 +255,8 @@ impl Tagger for Option<Signature> {
 /// Puts the lines of the target and of its kind.
 #[tactic(auto, using(gixobj_fields::proofs::Puts::front_first, gixobj_fields::proofs::Puts::puts_or_fails_more))]
 fn put_target<T: Target, S: Sink>(target: &T, kind: Kind, sink: &mut S) -> io::Result<()>
-    ensures put { PutsOrFails result (S.view sink.old) (S.view sink.new) (T.target_line target.now ++ field_text (codes "type") (kind_word kind)) }
+    ensures put { PutsOrFails result (S.view sink.old) (S.view sink.new)
+        (T.target_line target.now ++ field_text (codes "type") (kind_word kind)) }
     ensures same_loan { S.loan sink.new ≡ S.loan sink.old }
 {
     target.put_target_line(sink)?;
@@ -250,9 +266,11 @@ fn put_target<T: Target, S: Sink>(target: &T, kind: Kind, sink: &mut S) -> io::R
 /// Puts the line of a name that a tag may have.
 #[tactic(auto, using(gixobj_fields::proofs::Puts::puts_nothing))]
 fn put_name<S: Sink>(name: BStr<'_>, sink: &mut S) -> Result<(), encode::Error>
-    ensures written { OnOk result (Puts (S.view sink.old) (S.view sink.new) (field_text (codes "tag") (bstr_bytes name.entry))) }
+    ensures written { OnOk result (Puts (S.view sink.old) (S.view sink.new)
+        (field_text (codes "tag") (bstr_bytes name.entry))) }
     ensures valid { OnOk result (IsTagName (bstr_bytes name.entry)) }
-    ensures refusal { IfErr result (RefusesWriting (RefusesNameLine (bstr_bytes name.entry)) (S.view sink.old) (S.view sink.new) (field_text (codes "tag") (bstr_bytes name.entry))) }
+    ensures refusal { IfErr result (RefusesWriting (RefusesNameLine (bstr_bytes name.entry))
+        (S.view sink.old) (S.view sink.new) (field_text (codes "tag") (bstr_bytes name.entry))) }
     ensures same_loan { S.loan sink.new ≡ S.loan sink.old }
 {
     let name = validated_name(name)?;
@@ -262,7 +280,8 @@ fn put_name<S: Sink>(name: BStr<'_>, sink: &mut S) -> Result<(), encode::Error>
 
 /// Puts the message and the signature.
 fn put_body<S: Sink>(message: BStr<'_>, signature: Option<BStr<'_>>, sink: &mut S) -> io::Result<()>
-    ensures put { PutsOrFails result (S.view sink.old) (S.view sink.new) (body_text (bstr_bytes message.entry) (bytes_if_some signature.entry)) }
+    ensures put { PutsOrFails result (S.view sink.old) (S.view sink.new)
+        (body_text (bstr_bytes message.entry) (bytes_if_some signature.entry)) }
     ensures same_loan { S.loan sink.new ≡ S.loan sink.old }
 {
     let opening = opening(message);
@@ -288,7 +307,8 @@ fn opening(message: BStr<'_>) -> &[u8]
 
 /// The size with that of the message and of the signature, or none past 64 bits.
 fn size_with_body(size: u64, message: BStr<'_>, signature: Option<BStr<'_>>) -> Option<u64>
-    ensures { AddsSize result size (body_text (bstr_bytes message.entry) (bytes_if_some signature.entry)) }
+    ensures { AddsSize result size (body_text (bstr_bytes message.entry)
+        (bytes_if_some signature.entry)) }
 {
     let opened = size.checked_add(opening(message).len() as u64)?;
     let with_message = opened.checked_add(message.as_bytes().len() as u64)?;

@@ -12,5 +12,6 @@ pub fn signatures_have_one_format()
 /// A text has one marker place at most, with one format.
 pub fn texts_have_one_marker_place()
     ensures { (bytes : List ℕ) (place place' : ℕ) (format format' : Format) →
-        IsMarkerPlace bytes place format → IsMarkerPlace bytes place' format' → (place ≡ place') × (format ≡ format') }
+        IsMarkerPlace bytes place format → IsMarkerPlace bytes place' format' → (place ≡ place')
+        × (format ≡ format') }
 {}

@@ -60,7 +60,8 @@ pub fn parts_are_the_body()
 /// order.
 pub fn readers_give_all()
     ensures blocks { (before : MessageBlocks) (blocks : List MessageBlock) →
-        Drains GivesBlock before blocks → AreBlocksFrom (first_start before) (blocks_text before) (map block_view blocks) }
+        Drains GivesBlock before blocks → AreBlocksFrom (first_start before) (blocks_text before)
+        (map block_view blocks) }
     ensures trailers { (before : Trailers) (trailers : List TrailerRef) →
         Drains GivesTrailer before (map (λ it. Ok it) trailers) →
         map trailer_view trailers ≡ trailers_left before }

@@ -15,9 +15,9 @@ mod entry_ref;
 mod owned;
 mod write;
 
+use crate::tree::name_order;
 use bstr::BStr;
 pub use entry_ref::EntryRef;
-use crate::tree::name_order;
 use std::alloc::Global;
 
 /// A tree, borrowed: the entries of a directory as they stand in its text.
@@ -46,9 +46,14 @@ impl<'a> TreeRef<'a> {
     /// In a well-formed tree and for a name without `/` it is the entry with that name and a `/` behind a
     /// directory's. Else it is some entry that [`name_order`] finds equal, or none. It takes no memory.
     pub fn bisect_entry(&self, name: BStr<'_>, is_dir: bool) -> Option<EntryRef<'a>>
-        ensures found { IfSome result (λ e. Contains (tree_entries self.now) (entry_view e) × (name_cmp (entry_view e).name (is_tree_mode (entry_view e).mode) (bstr_bytes name.entry) is_dir ≡ Equal)) }
-        ensures by_key { IsWellFormed (tree_entries self.now) → IsFree slash (bstr_bytes name.entry) →
-            MatchOption result (¬ HasKey (tree_entries self.now) (key_of (bstr_bytes name.entry) is_dir)) (λ e. entry_key (entry_view e) ≡ key_of (bstr_bytes name.entry) is_dir) }
+        ensures found { IfSome result (λ e. Contains (tree_entries self.now) (entry_view e)
+            × (name_cmp (entry_view e).name (is_tree_mode (entry_view e).mode)
+            (bstr_bytes name.entry) is_dir ≡ Equal)) }
+        ensures by_key { IsWellFormed (tree_entries self.now) → IsFree slash (bstr_bytes name.entry)
+            →
+            MatchOption result (¬ HasKey (tree_entries self.now)
+            (key_of (bstr_bytes name.entry) is_dir))
+            (λ e. entry_key (entry_view e) ≡ key_of (bstr_bytes name.entry) is_dir) }
     {
         let name = name.as_bytes();
         let sought = self.entries.binary_search_by(|entry| {

@@ -92,7 +92,9 @@ impl EntryMode {
 
     /// Whether this is a file or a symbolic link.
     pub fn is_blob_or_symlink(&self) -> bool
-        ensures { IsTrue result ↔ ((kind_of_mode (mode_bits self.now) ≡ EntryKind.Blob) ⊎ (kind_of_mode (mode_bits self.now) ≡ EntryKind.BlobExecutable) ⊎ (kind_of_mode (mode_bits self.now) ≡ EntryKind.Link)) }
+        ensures { IsTrue result ↔ ((kind_of_mode (mode_bits self.now) ≡ EntryKind.Blob)
+            ⊎ (kind_of_mode (mode_bits self.now) ≡ EntryKind.BlobExecutable)
+            ⊎ (kind_of_mode (mode_bits self.now) ≡ EntryKind.Link)) }
     {
         matches!(
             self.kind(),
@@ -143,8 +145,10 @@ impl EntryMode {
     /// octal digits, their number modulo 65536. `040000` is kept apart from `40000`. Where byte 6 is
     /// a space and byte 5 isn't, there are exactly six digits. None for no bytes.
     pub fn from_bytes(i: &[u8]) -> Option<EntryMode>
-        ensures found { IfSome result (λ mode. (rest : List ℕ) × BeginsWithMode i.now (mode_bits mode) rest) }
-        ensures none { IfNone result ((mode : ℕ) (rest : List ℕ) → ¬ BeginsWithMode i.now mode rest) }
+        ensures found { IfSome result (λ mode. (rest : List ℕ)
+            × BeginsWithMode i.now (mode_bits mode) rest) }
+        ensures none { IfNone result ((mode : ℕ) (rest : List ℕ)
+            → ¬ BeginsWithMode i.now mode rest) }
     {
         match EntryMode::extract_from_bytes(i) {
             Some((mode, _)) => Some(mode),
@@ -155,8 +159,10 @@ impl EntryMode {
     /// The mode in front of the bytes, as [`EntryMode::from_bytes`] reads it, and what stands behind
     /// its digits.
     pub fn extract_from_bytes(i: &[u8]) -> Option<(EntryMode, &[u8])>
-        ensures found { IfSome result (λ parts. BeginsWithMode i.now (mode_bits parts.0) parts.1.now) }
-        ensures none { IfNone result ((mode : ℕ) (rest : List ℕ) → ¬ BeginsWithMode i.now mode rest) }
+        ensures found { IfSome result (λ parts. BeginsWithMode i.now (mode_bits parts.0)
+            parts.1.now) }
+        ensures none { IfNone result ((mode : ℕ) (rest : List ℕ)
+            → ¬ BeginsWithMode i.now mode rest) }
     {
         if i.is_empty() {
             return None;
@@ -239,14 +245,16 @@ fn split_digits(i: &[u8]) -> (&[u8], &[u8])
 
 /// Whether byte 6 asks for six digits, and there are more or fewer.
 fn breaks_byte_six(i: &[u8], digits: usize) -> bool
-    ensures { IsTrue result ↔ ((slice_index i.now 6 ≡ space) × (slice_index i.now 5 ≢ space) × (digits ≢ 6)) }
+    ensures { IsTrue result ↔ ((slice_index i.now 6 ≡ space) × (slice_index i.now 5 ≢ space)
+        × (digits ≢ 6)) }
 {
     i.get(6) == Some(&b' ') && i.get(5) != Some(&b' ') && digits != 6
 }
 
 /// The mode that digits spell, where they are at most seven and octal.
 fn mode_from_digits(digits: &[u8]) -> Option<u16>
-    ensures { SomeIff result (AllDigits 8 digits.now × (length digits.now ≤ 7)) (mode_of_digits digits.now) }
+    ensures { SomeIff result (AllDigits 8 digits.now × (length digits.now ≤ 7))
+        (mode_of_digits digits.now) }
 {
     if digits.len() > 7 || !are_octal(digits) {
         return None;

@@ -16,7 +16,9 @@ use std::cmp::Ordering;
 /// memory.
 pub fn name_order(left: &[u8], left_is_tree: bool, right: &[u8], right_is_tree: bool) -> Ordering
     ensures rule { result ≡ name_cmp left.now left_is_tree right.now right_is_tree }
-    ensures by_keys { IsFree slash left.now → IsFree slash right.now → result ≡ slice_cmp nat_cmp (key_of left.now left_is_tree) (key_of right.now right_is_tree) }
+    ensures by_keys { IsFree slash left.now → IsFree slash right.now
+        → result ≡ slice_cmp nat_cmp (key_of left.now left_is_tree)
+        (key_of right.now right_is_tree) }
 {
     let mut rest = left;
     let mut other_rest = right;
@@ -68,7 +70,8 @@ fn short_order(left: &[u8], left_is_tree: bool, right: &[u8], right_is_tree: boo
 ///
 /// It differs from [`name_order`] only where a name has a `/`. It takes no memory.
 pub fn key_order(left: &[u8], left_is_tree: bool, right: &[u8], right_is_tree: bool) -> Ordering
-    ensures { result ≡ slice_cmp nat_cmp (key_of left.now left_is_tree) (key_of right.now right_is_tree) }
+    ensures { result ≡ slice_cmp nat_cmp (key_of left.now left_is_tree)
+        (key_of right.now right_is_tree) }
 {
     let names = name_order(left, left_is_tree, right, right_is_tree);
     let lengths = key_len(left, left_is_tree).cmp(&key_len(right, right_is_tree));

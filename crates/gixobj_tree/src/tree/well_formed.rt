@@ -35,7 +35,8 @@ fn is_entry_name(name: &[u8]) -> bool
 
 /// Whether each entry comes before those behind it.
 fn ascend(entries: &[Entry]) -> bool
-    ensures { MatchBool result (EachLater ComesBefore entries.now) (¬ EachLater ComesBefore entries.now) }
+    ensures { MatchBool result (EachLater ComesBefore entries.now)
+        (¬ EachLater ComesBefore entries.now) }
 {
     entries.is_sorted_by(|entry, next| entry.key_order(next).is_lt())
 }
@@ -52,7 +53,8 @@ fn are_apart(entries: &[Entry]) -> bool
 /// Whether the entry is a directory, and a file has its name.
 fn has_namesake(entries: &[Entry], entry: &Entry) -> bool
     requires { EachLater ComesBefore entries.now }
-    ensures { MatchBool result (HasNamesake entries.now entry.now) (¬ HasNamesake entries.now entry.now) }
+    ensures { MatchBool result (HasNamesake entries.now entry.now)
+        (¬ HasNamesake entries.now entry.now) }
 {
     entry.mode.is_tree() && has_key(entries, entry.filename.as_bytes())
 }

@@ -54,9 +54,11 @@ impl WriteTo for Tree {
 
 /// Puts one entry.
 fn put_owned<S: Sink>(alloc: Global, entry: &Entry, sink: &mut S) -> Result<(), Error>
-    ensures written { OnOk result (Puts (S.view sink.old) (S.view sink.new) (entry_text entry.now)) }
+    ensures written { OnOk result (Puts (S.view sink.old) (S.view sink.new)
+        (entry_text entry.now)) }
     ensures free { OnOk result (IsFree 0 entry.now.name) }
-    ensures refusal { IfErr result (RefusesWriting (RefusesEntry entry.now) (S.view sink.old) (S.view sink.new) (entry_text entry.now)) }
+    ensures refusal { IfErr result (RefusesWriting (RefusesEntry entry.now) (S.view sink.old)
+        (S.view sink.new) (entry_text entry.now)) }
     ensures same_loan { S.loan sink.new ≡ S.loan sink.old }
 {
     let name = entry.filename.as_bytes();
@@ -75,9 +77,13 @@ pub fn put_entry<S: Sink>(
     id: oid<'_>,
     sink: &mut S,
 ) -> Result<(), Error>
-    ensures written { OnOk result (Puts (S.view sink.old) (S.view sink.new) (entry_text (entry_of (mode_bits mode) name.now (borrowed_id id.entry)))) }
+    ensures written { OnOk result (Puts (S.view sink.old) (S.view sink.new)
+        (entry_text (entry_of (mode_bits mode) name.now (borrowed_id id.entry)))) }
     ensures free { OnOk result (IsFree 0 name.now) }
-    ensures refusal { IfErr result (RefusesWriting (RefusesEntry (entry_of (mode_bits mode) name.now (borrowed_id id.entry))) (S.view sink.old) (S.view sink.new) (entry_text (entry_of (mode_bits mode) name.now (borrowed_id id.entry)))) }
+    ensures refusal { IfErr result (RefusesWriting
+        (RefusesEntry (entry_of (mode_bits mode) name.now (borrowed_id id.entry))) (S.view sink.old)
+        (S.view sink.new) (entry_text (entry_of (mode_bits mode) name.now
+        (borrowed_id id.entry)))) }
     ensures same_loan { S.loan sink.new ≡ S.loan sink.old }
 {
     let mut backing = [0; 6];
@@ -101,7 +107,8 @@ fn size_with_owned(size: u64, entry: &Entry) -> Option<u64>
 
 /// The size and that of the entry of this mode, name and id, or none past 64 bits.
 pub fn size_with(size: u64, mode: EntryMode, name: &[u8], id: oid<'_>) -> Option<u64>
-    ensures { AddsSize result size (entry_text (entry_of (mode_bits mode) name.now (borrowed_id id.entry))) }
+    ensures { AddsSize result size (entry_text (entry_of (mode_bits mode) name.now
+        (borrowed_id id.entry))) }
 {
     let mut backing = [0; 6];
     let digits = mode.as_bytes(&mut backing).as_bytes().len() as u64;

@@ -5,9 +5,9 @@ ghost use Rattle.gixobj_object.specs.Stores.{IsHeaderFound, RefusesFind};
 ghost use Rattle.gixobj_hash.specs.Hash.Borrowed.{borrowed_id};
 
 use super::Never;
-use gixobj_object::{FindHeader, find};
 use gixobj_hash::Header;
 use gixobj_hash::hash::oid;
+use gixobj_object::{FindHeader, find};
 
 /// It finds none, and takes no memory.
 impl FindHeader for Never {

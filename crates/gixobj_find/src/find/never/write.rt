@@ -25,9 +25,12 @@ impl Write for Never {
     /// `Encode` where the object can't be written, and nothing else.
     fn write<T: WriteTo>(&self, alloc: Global, object: &T) -> Result<ObjectId, Error>
         requires { T.can_write object.now }
-        ensures written { IsWrittenObject AnswersId (T.object_kind object.now) (T.refuses object.now) (T.text object.now) result }
-        ensures id { IfOk result (λ id. id ≡ id_of Sha1 (T.object_kind object.now) (T.text object.now)) }
-        ensures refusal { IfErr result (λ _. CannotEncode (T.refuses object.now) (T.text object.now) result) }
+        ensures written { IsWrittenObject AnswersId (T.object_kind object.now)
+            (T.refuses object.now) (T.text object.now) result }
+        ensures id { IfOk result (λ id. id ≡ id_of Sha1 (T.object_kind object.now)
+            (T.text object.now)) }
+        ensures refusal { IfErr result (λ _. CannotEncode (T.refuses object.now) (T.text object.now)
+            result) }
     {
         let mut text = Vec::new(alloc);
         object.write_to_vec(alloc, &mut text)?;
@@ -67,8 +70,10 @@ impl Write for Never {
         from: &mut R,
     ) -> Result<ObjectId, Error>
         ensures answer { AnswersId kind size (R.remaining from.old) result }
-        ensures read { IfOk result (ReadsObject Sha1 kind (R.remaining from.old) (R.remaining from.new) size) }
-        ensures refusal { IfErr result (RefusesRead (R.remaining from.old) (R.remaining from.new) size) }
+        ensures read { IfOk result (ReadsObject Sha1 kind (R.remaining from.old)
+            (R.remaining from.new) size) }
+        ensures refusal { IfErr result (RefusesRead (R.remaining from.old) (R.remaining from.new)
+            size) }
     {
         Ok(compute_stream_hash(hash::Kind::Sha1, kind, from, size)?)
     }
@@ -84,8 +89,10 @@ impl Write for Never {
     ) -> Result<ObjectId, Error>
         ensures answer { AnswersKnownId known kind size (R.remaining from.old) result }
         ensures id { IfOk result (λ it. it ≡ known) }
-        ensures read { IfOk result (λ _. SkipsExactly (R.remaining from.old) (R.remaining from.new) size) }
-        ensures refusal { IfErr result (RefusesRead (R.remaining from.old) (R.remaining from.new) size) }
+        ensures read { IfOk result (λ _. SkipsExactly (R.remaining from.old) (R.remaining from.new)
+            size) }
+        ensures refusal { IfErr result (RefusesRead (R.remaining from.old) (R.remaining from.new)
+            size) }
     {
         skip_stream(from, size)?;
         Ok(known)

@@ -3,10 +3,10 @@ ghost use Rattle.std.specs.Prelude.{◌≡◌, ◌≢◌, IfErr, IfOk};
 ghost use Rattle.gixobj_object.specs.BorrowedObjects.{HasObjectIds, IsOwnedObject, RefusesOwningObject, borrowed_kind};
 
 use super::ObjectRef;
+use crate::Object;
 use gixobj_commit::CommitRef;
 use gixobj_commit::commit::owned_copy;
 use gixobj_hash::decode::Error;
-use crate::Object;
 use gixobj_tag::TagRef;
 use gixobj_tree::{BlobRef, TreeRef};
 use std::alloc::Global;

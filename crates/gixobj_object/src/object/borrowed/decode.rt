@@ -98,7 +98,8 @@ impl<'a> ObjectRef<'a> {
 /// The content of this size at the front of what follows a header, or the refusal where fewer bytes follow, or
 /// the size passes every address.
 fn content_of(behind: &[u8], size: u64) -> Result<&[u8], LooseDecodeError>
-    ensures found { IfOk result (λ content. (size ≤ length behind.now) × (content.now ≡ take size behind.now)) }
+    ensures found { IfOk result (λ content. (size ≤ length behind.now)
+        × (content.now ≡ take size behind.now)) }
     ensures refusal { IfErr result (RefusesContentSize behind.now size) }
 {
     let Ok(len) = usize::try_from(size) else {

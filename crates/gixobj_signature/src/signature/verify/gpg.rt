@@ -11,11 +11,11 @@ ghost use Rattle.gixobj_signature.specs.VerifyingCalls.{open_pgp_call, open_pgp_
 ghost use Rattle.gixobj_signature.specs.Verifying.{ComesOf, gpg_verified, gpg_verify_plan, reported, verify_plan};
 
 use super::{Error, Program, ask_one};
+use crate::signature::report::{Outcome, judge, parse_gpg_output};
+use crate::signature::words::{environment_of, text, words_of};
 use crate::signature::{Call, Output, Runner, SignedData, Word};
 use bstr::{BString, ByteSlice};
 use gixobj_hash::OutOfMemory;
-use crate::signature::report::{Outcome, judge, parse_gpg_output};
-use crate::signature::words::{environment_of, text, words_of};
 use gixobj_text::signature::Format;
 use std::alloc::Global;
 
@@ -28,7 +28,8 @@ pub(crate) fn verify_open_pgp<R: Runner>(
     signed: &SignedData<'_>,
     runner: &mut R,
 ) -> Result<Outcome, Error>
-    ensures { ComesOf R.runs (verify_plan (by_open_pgp (program_of by.now)) signature.now (signed_bytes signed.now) (Some format)) runner.old result runner.new }
+    ensures { ComesOf R.runs (verify_plan (by_open_pgp (program_of by.now)) signature.now
+        (signed_bytes signed.now) (Some format)) runner.old result runner.new }
 {
     match format {
         Format::OpenPgp => by_open_pgp_call(alloc, by, signature, signed, runner),
@@ -48,7 +49,8 @@ pub(crate) fn verify_x509<R: Runner>(
     signed: &SignedData<'_>,
     runner: &mut R,
 ) -> Result<Outcome, Error>
-    ensures { ComesOf R.runs (verify_plan (by_x509 (program_of by.now)) signature.now (signed_bytes signed.now) (Some format)) runner.old result runner.new }
+    ensures { ComesOf R.runs (verify_plan (by_x509 (program_of by.now)) signature.now
+        (signed_bytes signed.now) (Some format)) runner.old result runner.new }
 {
     match format {
         Format::X509 => by_x509_call(alloc, by, signature, signed, runner),
@@ -67,7 +69,9 @@ fn by_open_pgp_call<R: Runner>(
     signed: &SignedData<'_>,
     runner: &mut R,
 ) -> Result<Outcome, Error>
-    ensures { ComesOf R.runs (gpg_verify_plan format.OpenPgp (program_of by.now) (open_pgp_call (program_of by.now) signature.now (signed_bytes signed.now))) runner.old result runner.new }
+    ensures { ComesOf R.runs (gpg_verify_plan format.OpenPgp (program_of by.now)
+        (open_pgp_call (program_of by.now) signature.now (signed_bytes signed.now))) runner.old
+        result runner.new }
 {
     let call = open_pgp_call_of(alloc, by, signature, signed)?;
     let output = ask_one(&call, runner)?;
@@ -82,7 +86,9 @@ fn by_x509_call<R: Runner>(
     signed: &SignedData<'_>,
     runner: &mut R,
 ) -> Result<Outcome, Error>
-    ensures { ComesOf R.runs (gpg_verify_plan format.X509 (program_of by.now) (x509_call (program_of by.now) signature.now (signed_bytes signed.now))) runner.old result runner.new }
+    ensures { ComesOf R.runs (gpg_verify_plan format.X509 (program_of by.now)
+        (x509_call (program_of by.now) signature.now (signed_bytes signed.now))) runner.old result
+        runner.new }
 {
     let call = x509_call_of(alloc, by, signature, signed)?;
     let output = ask_one(&call, runner)?;
@@ -96,7 +102,8 @@ fn outcome_of(
     by: &Program,
     output: Output,
 ) -> Result<Outcome, OutOfMemory>
-    ensures { IfOk result (λ it. reported (outcome_view it) ≡ gpg_verified format (program_of by.now) (output_view output)) }
+    ensures { IfOk result (λ it. reported (outcome_view it) ≡ gpg_verified format
+        (program_of by.now) (output_view output)) }
 {
     let success = output.success;
     let told = BString::new(output.stderr);
@@ -113,7 +120,8 @@ fn open_pgp_call_of(
     signature: &[u8],
     signed: &SignedData<'_>,
 ) -> Result<Call, OutOfMemory>
-    ensures { IfOk result (λ it. call_view it ≡ open_pgp_call (program_of by.now) signature.now (signed_bytes signed.now)) }
+    ensures { IfOk result (λ it. call_view it ≡ open_pgp_call (program_of by.now) signature.now
+        (signed_bytes signed.now)) }
 {
     let words = open_pgp_words_of(alloc, by)?;
     let files = vec![in alloc; BString::from_slice(alloc, signature)?]?;
@@ -142,7 +150,8 @@ fn x509_call_of(
     signature: &[u8],
     signed: &SignedData<'_>,
 ) -> Result<Call, OutOfMemory>
-    ensures { IfOk result (λ it. call_view it ≡ x509_call (program_of by.now) signature.now (signed_bytes signed.now)) }
+    ensures { IfOk result (λ it. call_view it ≡ x509_call (program_of by.now) signature.now
+        (signed_bytes signed.now)) }
 {
     let words = x509_words_of(alloc, by)?;
     let files = two_files(alloc, signature, signed)?;
@@ -175,7 +184,8 @@ fn two_files(
     signature: &[u8],
     signed: &SignedData<'_>,
 ) -> Result<Vec<BString>, OutOfMemory>
-    ensures { IfOk result (λ it. map bstring_bytes it.items ≡ signature.now ∷ signed_bytes signed.now ∷ []) }
+    ensures { IfOk result (λ it. map bstring_bytes it.items ≡ signature.now ∷ signed_bytes
+        signed.now ∷ []) }
 {
     let mut files = vec![in alloc; BString::from_slice(alloc, signature)?]?;
     files.push(signed.to_bstring(alloc)?)?;
@@ -190,7 +200,9 @@ fn call_of(
     files: Vec<BString>,
     input: Option<BString>,
 ) -> Result<Call, OutOfMemory>
-    ensures { IfOk result (λ it. call_view it ≡ whole_call (program_of by.now) (map word_view words.items) (map bstring_bytes files.items) (option_map bstring_bytes input)) }
+    ensures { IfOk result (λ it. call_view it ≡ whole_call (program_of by.now)
+        (map word_view words.items) (map bstring_bytes files.items)
+        (option_map bstring_bytes input)) }
 {
     let environment = environment_of(alloc, &by.environment)?;
     let program = BString::from_slice(alloc, by.program.as_bytes())?;

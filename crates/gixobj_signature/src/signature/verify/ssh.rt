@@ -14,11 +14,11 @@ ghost use Rattle.gixobj_hash.specs.Texts.{is_filled};
 mod calls;
 
 use super::{Error, SshProgram, ask_one};
+use crate::signature::report::{Outcome, TrustLevel, judge, parse_ssh_output};
 use crate::signature::{Output, Runner, SignedData};
 use bstr::{BString, ByteSlice};
 use calls::{novalidate_call_of, principal_call_of, principals_call_of};
 use gixobj_hash::OutOfMemory;
-use crate::signature::report::{Outcome, TrustLevel, judge, parse_ssh_output};
 use gixobj_text::signature::Format;
 use std::alloc::Global;
 
@@ -31,7 +31,8 @@ pub(crate) fn verify_if_ssh<R: Runner>(
     signed: &SignedData<'_>,
     runner: &mut R,
 ) -> Result<Outcome, Error>
-    ensures { ComesOf R.runs (verify_plan (by_ssh (ssh_program_of by.now) (ssh_of by.now)) signature.now (signed_bytes signed.now) (Some format)) runner.old result runner.new }
+    ensures { ComesOf R.runs (verify_plan (by_ssh (ssh_program_of by.now) (ssh_of by.now))
+        signature.now (signed_bytes signed.now) (Some format)) runner.old result runner.new }
 {
     match format {
         Format::Ssh => verify_ssh(alloc, by, signature, signed, runner),
@@ -50,7 +51,8 @@ fn verify_ssh<R: Runner>(
     signed: &SignedData<'_>,
     runner: &mut R,
 ) -> Result<Outcome, Error>
-    ensures { ComesOf R.runs (ssh_verify_plan (ssh_program_of by.now) (ssh_of by.now) signature.now (signed_bytes signed.now)) runner.old result runner.new }
+    ensures { ComesOf R.runs (ssh_verify_plan (ssh_program_of by.now) (ssh_of by.now) signature.now
+        (signed_bytes signed.now)) runner.old result runner.new }
 {
     let found = ask_principals(alloc, by, signature, runner)?;
     if !found.success {
@@ -67,7 +69,8 @@ fn ask_principals<R: Runner>(
     signature: &[u8],
     runner: &mut R,
 ) -> Result<Output, Error>
-    ensures { Asked R.runs (principals_call (ssh_program_of by.now) (ssh_of by.now) signature.now) runner.old result runner.new }
+    ensures { Asked R.runs (principals_call (ssh_program_of by.now) (ssh_of by.now) signature.now)
+        runner.old result runner.new }
 {
     let call = principals_call_of(alloc, by, signature)?;
     ask_one(&call, runner)
@@ -82,7 +85,9 @@ fn try_each<R: Runner>(
     signed: &SignedData<'_>,
     runner: &mut R,
 ) -> Result<Outcome, Error>
-    ensures { ComesOf R.runs (tries (ssh_program_of by.now) (ssh_of by.now) signature.now (signed_bytes signed.now) (map bstring_bytes principals.now) None) runner.old result runner.new }
+    ensures { ComesOf R.runs (tries (ssh_program_of by.now) (ssh_of by.now) signature.now
+        (signed_bytes signed.now) (map bstring_bytes principals.now) None) runner.old result
+        runner.new }
 {
     let mut last: Option<Output> = None;
     for principal in principals {
@@ -104,7 +109,8 @@ fn ask_for<R: Runner>(
     signed: &SignedData<'_>,
     runner: &mut R,
 ) -> Result<Output, Error>
-    ensures { Asked R.runs (principal_call (ssh_program_of by.now) (ssh_of by.now) signature.now (signed_bytes signed.now) (bstring_bytes principal.now)) runner.old result runner.new }
+    ensures { Asked R.runs (principal_call (ssh_program_of by.now) (ssh_of by.now) signature.now
+        (signed_bytes signed.now) (bstring_bytes principal.now)) runner.old result runner.new }
 {
     let call = principal_call_of(alloc, by, principal.as_bytes(), signature, signed)?;
     ask_one(&call, runner)
@@ -117,7 +123,8 @@ fn accepted_by(
     principal: &BString,
     output: Output,
 ) -> Result<Outcome, OutOfMemory>
-    ensures { IfOk result (λ it. reported (outcome_view it) ≡ ssh_verified (ssh_program_of by.now) output.success trust.Fully (Some (bstring_bytes principal.now)) (output_view output)) }
+    ensures { IfOk result (λ it. reported (outcome_view it) ≡ ssh_verified (ssh_program_of by.now)
+        output.success trust.Fully (Some (bstring_bytes principal.now)) (output_view output)) }
 {
     let signer = copy_of(alloc, principal)?;
     let success = output.success;
@@ -133,7 +140,8 @@ fn end_with<R: Runner>(
     signed: &SignedData<'_>,
     runner: &mut R,
 ) -> Result<Outcome, Error>
-    ensures { ComesOf R.runs (rest_plan (ssh_program_of by.now) (ssh_of by.now) signature.now (signed_bytes signed.now) (option_map output_view last)) runner.old result runner.new }
+    ensures { ComesOf R.runs (rest_plan (ssh_program_of by.now) (ssh_of by.now) signature.now
+        (signed_bytes signed.now) (option_map output_view last)) runner.old result runner.new }
 {
     if let Some(output) = last {
         return Ok(rejected_by(alloc, by, output)?);
@@ -144,7 +152,8 @@ fn end_with<R: Runner>(
 
 /// The outcome of a call that accepted no principal.
 fn rejected_by(alloc: Global, by: &SshProgram, output: Output) -> Result<Outcome, OutOfMemory>
-    ensures { IfOk result (λ it. reported (outcome_view it) ≡ ssh_verified (ssh_program_of by.now) output.success trust.Fully None (output_view output)) }
+    ensures { IfOk result (λ it. reported (outcome_view it) ≡ ssh_verified (ssh_program_of by.now)
+        output.success trust.Fully None (output_view output)) }
 {
     let success = output.success;
     outcome_of(alloc, by, success, TrustLevel::Fully, None, output)
@@ -158,7 +167,8 @@ fn ask_without<R: Runner>(
     signed: &SignedData<'_>,
     runner: &mut R,
 ) -> Result<Output, Error>
-    ensures { Asked R.runs (novalidate_call (ssh_program_of by.now) (ssh_of by.now) signature.now (signed_bytes signed.now)) runner.old result runner.new }
+    ensures { Asked R.runs (novalidate_call (ssh_program_of by.now) (ssh_of by.now) signature.now
+        (signed_bytes signed.now)) runner.old result runner.new }
 {
     let call = novalidate_call_of(alloc, by, signature, signed)?;
     ask_one(&call, runner)
@@ -187,7 +197,8 @@ fn outcome_of(
     signer: Option<BString>,
     output: Output,
 ) -> Result<Outcome, OutOfMemory>
-    ensures { IfOk result (λ it. reported (outcome_view it) ≡ ssh_verified (ssh_program_of by.now) success trust (option_map bstring_bytes signer) (output_view output)) }
+    ensures { IfOk result (λ it. reported (outcome_view it) ≡ ssh_verified (ssh_program_of by.now)
+        success trust (option_map bstring_bytes signer) (output_view output)) }
 {
     let told = human_of(output)?;
     let report = parse_ssh_output(alloc, told, signer, trust)?;
@@ -221,7 +232,8 @@ fn push_principal(
     line: &[u8],
     principals: &mut Vec<BString>,
 ) -> Result<(), OutOfMemory>
-    ensures { OnOk result (map bstring_bytes principals.new.items ≡ map bstring_bytes principals.old.items ++ map lossy (filter is_filled (line.now ∷ []))) }
+    ensures { OnOk result (map bstring_bytes principals.new.items ≡ map bstring_bytes
+        principals.old.items ++ map lossy (filter is_filled (line.now ∷ []))) }
 {
     if line.is_empty() {
         return Ok(());

@@ -3,10 +3,10 @@ ghost use Rattle.gixobj_tree.specs.EntryOrder.{entry_cmp, entry_feed, same_entry
 ghost use Rattle.gixobj_tree.specs.EntryOrderLaws.{entry_cmp_total, entry_equiv, entry_ties};
 ghost use Rattle.gixobj_tree.specs.TreeViews.{entry_view};
 
-use bstr::BStr;
-use gixobj_hash::hash::oid;
 use crate::tree::EntryMode;
 use crate::tree::order::key_order;
+use bstr::BStr;
+use gixobj_hash::hash::oid;
 use std::cmp::Ordering;
 use std::hash::{Hash, Hasher};
 

@@ -3,9 +3,9 @@ ghost use Rattle.std.specs.Prelude.{◌≡◌, ◌≢◌, [], IfErr, IfOk, OnOk}
 ghost use Rattle.gixobj_tree.specs.TreeViews.{entry_view, tree_entries};
 
 use super::{EntryRef, TreeRef};
+use crate::tree::{Entry, Tree};
 use bstr::{BStr, BString};
 use gixobj_hash::OutOfMemory;
-use crate::tree::{Entry, Tree};
 use std::alloc::Global;
 
 impl EntryRef<'_> {

@@ -7,11 +7,11 @@ ghost use Rattle.gixobj_tree.specs.TreeText.{RefusesEntry, entry_text};
 ghost use Rattle.gixobj_tree.specs.TreeViews.{entry_view, tree_entries};
 
 use super::{EntryRef, TreeRef};
+use crate::tree::write::{put_entry, size_with};
 use gixobj_fields::WriteTo;
 use gixobj_fields::encode::Error;
 use gixobj_fields::streams::Sink;
 use gixobj_hash::Kind;
-use crate::tree::write::{put_entry, size_with};
 use std::alloc::Global;
 
 /// A tree is written as its entries in the order in which they stand, whatever that is.
@@ -49,9 +49,11 @@ impl WriteTo for TreeRef<'_> {
 
 /// Puts one entry.
 fn put_borrowed<S: Sink>(alloc: Global, entry: &EntryRef<'_>, sink: &mut S) -> Result<(), Error>
-    ensures written { OnOk result (Puts (S.view sink.old) (S.view sink.new) (entry_text (entry_view entry.now))) }
+    ensures written { OnOk result (Puts (S.view sink.old) (S.view sink.new)
+        (entry_text (entry_view entry.now))) }
     ensures free { OnOk result (IsFree 0 (entry_view entry.now).name) }
-    ensures refusal { IfErr result (RefusesWriting (RefusesEntry (entry_view entry.now)) (S.view sink.old) (S.view sink.new) (entry_text (entry_view entry.now))) }
+    ensures refusal { IfErr result (RefusesWriting (RefusesEntry (entry_view entry.now))
+        (S.view sink.old) (S.view sink.new) (entry_text (entry_view entry.now))) }
     ensures same_loan { S.loan sink.new ≡ S.loan sink.old }
 {
     let name = entry.filename.as_bytes();
