@@ -41,7 +41,8 @@ mod of_data {
 
 mod of_decode {
     pub use gix_object::decode::{
-        Error, LooseHeaderDecodeError, ParseIntegerErrorKind, loose_header,
+        Error, LooseContentError, LooseHeaderDecodeError, ParseIntegerErrorKind, loose_content,
+        loose_header,
     };
 }
 

@@ -1,4 +1,4 @@
-//! The order of kinds, and of headers.
+//! Kinds by their words, and the order of kinds and of headers.
 
 use gixobj_base::Header;
 use gixobj_base::kind::Kind;
@@ -21,6 +21,16 @@ fn headers_in_order(rt: HostRuntime) {
             size: 7
         } < small
     );
+}
+
+#[test]
+fn kinds_of_words(rt: HostRuntime) {
+    assert!(rt; Kind::of_word(b"tree") == Some(Kind::Tree));
+    assert!(rt; Kind::of_word(b"blob") == Some(Kind::Blob));
+    assert!(rt; Kind::of_word(b"commit") == Some(Kind::Commit));
+    assert!(rt; Kind::of_word(b"tag") == Some(Kind::Tag));
+    assert!(rt; Kind::of_word(b"Tag").is_none());
+    assert!(rt; Kind::of_word(b"").is_none());
 }
 
 #[test]

@@ -19,6 +19,8 @@ mod hash;
 mod kind;
 pub mod limited;
 #[cfg(test)]
+mod loose;
+#[cfg(test)]
 mod memory;
 #[cfg(test)]
 mod parse;

@@ -15,7 +15,8 @@ mod of_actors {
 
 mod of_decode {
     pub use gixobj_base::decode::{
-        Error, LooseHeaderDecodeError, ParseIntegerErrorKind, loose_header,
+        Error, LooseContentError, LooseHeaderDecodeError, ParseIntegerErrorKind, loose_content,
+        loose_header,
     };
 }
 

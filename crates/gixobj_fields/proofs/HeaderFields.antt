@@ -23,7 +23,6 @@ use Rattle.gixobj_hash.specs.declared.decode.Error.{Error}
 use Rattle.gixobj_hash.specs.declared.decode.Error.TheVariants.{Malformed, OutOfMemory}
 use Rattle.gixobj_hash.specs.declared.hash.kind.Kind.{Kind}
 use Rattle.gixobj_hash.specs.declared.hash.kind.Kind.TheVariants as hash
-use Rattle.gixobj_hash.specs.declared.kind.Kind.TheVariants as object
 
 -- ---- fronts
 
@@ -86,12 +85,6 @@ digits_are_one_line (byte ∷ text) digits =
 
 pub no_kind_of_field : (name input value rest : List ℕ) → HasField name input value rest → IsNoKindWord value → HasNoKind name input
 no_kind_of_field name input value rest field bad kind behind second = bad kind (one_field name input value rest (kind_word kind) behind field second).0
-
-pub no_kind_word : (word : List ℕ) → (word ≢ kind_word object.Tree) → (word ≢ kind_word object.Blob) → (word ≢ kind_word object.Commit) → (word ≢ kind_word object.Tag) → IsNoKindWord word
-no_kind_word word tree blob commit tag object.Tree = tree
-no_kind_word word tree blob commit tag object.Blob = blob
-no_kind_word word tree blob commit tag object.Commit = commit
-no_kind_word word tree blob commit tag object.Tag = tag
 
 -- ---- the hex text of an id, whose newline stands where its length says
 

@@ -1,11 +1,11 @@
 //! Header fields, read (gitdatamodel, "commits"; gitformat-signature, "Commit signatures").
-ghost use Rattle.std.specs.Prelude.{◌≡◌, ◌≢◌, ◌↔◌, ◌++◌, ◌∷◌, [], ℕ, List, IfErr, IfOk, IfSome, IfNone, IsTrue, MatchBool, MatchOption, length, slice_index};
+ghost use Rattle.std.specs.Prelude.{◌≡◌, ◌≢◌, ◌++◌, ◌∷◌, [], ℕ, List, IfErr, IfOk, IfSome, IfNone, MatchBool, MatchOption, length, slice_index};
 ghost use Rattle.bstr.specs.BStr.{bstr_bytes};
 ghost use Rattle.gixobj_fields.specs.HeaderReading.{BorrowsOneLine, HasId, HasNoId, HasNoKind, HasNoLines, IsUnfolded, RefusesHeaderField, header_of};
 ghost use Rattle.gixobj_fields.specs.HeaderText.{EndsHeader, HasField, HasHeader, HasNoField, IsHeaderName, LacksName};
 ghost use Rattle.gixobj_hash.specs.Texts.{IsFree};
 ghost use Rattle.gixobj_hash.specs.declared.decode.Error.TheVariants.{Malformed};
-ghost use Rattle.gixobj_hash.specs.Kind.{IsNoKindWord, kind_word};
+ghost use Rattle.gixobj_hash.specs.Kind.{kind_word};
 ghost use Rattle.gixobj_hash.specs.Bytes.{newline, space};
 
 use bstr::BStr;
@@ -76,35 +76,10 @@ pub fn header_kind<'a>(input: &'a [u8], name: &[u8]) -> Option<(ObjectKind, &'a 
     let Some((word, rest)) = header_field(input, name) else {
         return None;
     };
-    let Some(kind) = kind_of_word(word) else {
+    let Some(kind) = ObjectKind::of_word(word) else {
         return None;
     };
     Some((kind, rest))
-}
-
-/// The kind of objects that the word names, or none.
-#[tactic(auto, using(crate::proofs::HeaderFields::no_kind_word))]
-fn kind_of_word(word: &[u8]) -> Option<ObjectKind>
-    ensures { MatchOption result (IsNoKindWord word.now) (λ kind. word.now ≡ kind_word kind) }
-{
-    if is_word(word, ObjectKind::Tree) {
-        Some(ObjectKind::Tree)
-    } else if is_word(word, ObjectKind::Blob) {
-        Some(ObjectKind::Blob)
-    } else if is_word(word, ObjectKind::Commit) {
-        Some(ObjectKind::Commit)
-    } else if is_word(word, ObjectKind::Tag) {
-        Some(ObjectKind::Tag)
-    } else {
-        None
-    }
-}
-
-/// Whether the word names this kind of objects.
-fn is_word(word: &[u8], kind: ObjectKind) -> bool
-    ensures { IsTrue result ↔ (word.now ≡ kind_word kind) }
-{
-    word == kind.as_bytes()
 }
 
 /// What stands after the name and a space at the front of the input.

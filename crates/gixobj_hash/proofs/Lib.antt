@@ -1,3 +1,4 @@
+mod Contents
 pub mod Digits
 mod EmptyObjects
 pub mod Headers

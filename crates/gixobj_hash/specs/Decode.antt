@@ -3,6 +3,8 @@ pub mod Errors
 use Rattle.std.specs.Prelude.{◌≡◌, ◌≢◌, ◌≤◌, ◌<◌, ◌^◌, ◌⊎◌, ℕ, List, [], ◌∷◌, ◌++◌, IsTrue, IsFalse, length, take}
 use Rattle.std.specs.Str.Parse.{IsNumeral, digits_value, starts_with_minus, without_leading_sign}
 use Rattle.bstr.specs.Owned.{bstring_bytes}
+use Rattle.gixobj_hash.specs.declared.decode.LooseContentError.{LooseContentError}
+use Rattle.gixobj_hash.specs.declared.decode.LooseContentError.TheVariants.{Header, Short}
 use Rattle.gixobj_hash.specs.declared.decode.LooseHeaderDecodeError.{LooseHeaderDecodeError}
 use Rattle.gixobj_hash.specs.declared.decode.LooseHeaderDecodeError.TheVariants.{InvalidHeader, ObjectHeader, OutOfMemory, ParseIntegerError}
 use Rattle.gixobj_hash.specs.declared.decode.ParseIntegerErrorKind.{ParseIntegerErrorKind}
@@ -47,6 +49,18 @@ pub record IsLooseHeader (text : List ℕ) (kind : Kind) (size : ℕ) : Type 0 w
   pub joined : text ≡ kind_word kind ++ space ∷ size_text ++ 0 ∷ []
   pub reads : IsSizeText size_text size
 
+-- the input begins with a loose header of this kind and size, and the rest follows
+abbrev pub BeginsWithHeader : List ℕ → Kind → ℕ → List ℕ → Type 0
+BeginsWithHeader input kind size rest = (header : List ℕ) × (input ≡ header ++ rest) × IsLooseHeader header kind size
+
+-- the input begins with a loose object of this kind and content: a header that says its length, and then it; any bytes may follow
+abbrev pub HasContent : List ℕ → Kind → List ℕ → Type 0
+HasContent input kind content = (rest : List ℕ) × BeginsWithHeader input kind (length content) (content ++ rest)
+
+-- fewer bytes follow the header than it says
+abbrev pub IsShort : List ℕ → Type 0
+IsShort input = (kind : Kind) × (size : ℕ) × (rest : List ℕ) × BeginsWithHeader input kind size rest × (length rest < size)
+
 -- the input begins with a loose header, which takes this many bytes
 abbrev pub HasLooseHeader : List ℕ → Kind → ℕ → ℕ → Type 0
 HasLooseHeader input kind size used = (used ≤ length input) × IsLooseHeader (take used input) kind size
@@ -73,3 +87,8 @@ RefusesHeader input (ObjectHeader word.OutOfMemory) = ⊥
 RefusesHeader input (ParseIntegerError fault message copy) = HasFaultySize input (bstring_bytes copy) fault
 RefusesHeader input OutOfMemory =
     ((word : List ℕ) × HasUnknownKind input word) ⊎ ((text : List ℕ) × (fault : ParseIntegerErrorKind) × HasFaultySize input text fault)
+
+-- why an input begins with no loose object: why it begins with no header, or fewer bytes follow than this size, which the header says
+abbrev pub RefusesLooseContent : List ℕ → LooseContentError → Type 0
+RefusesLooseContent input (Header error) = RefusesHeader input error
+RefusesLooseContent input (Short size) = (kind : Kind) × (rest : List ℕ) × BeginsWithHeader input kind size rest × (length rest < size)

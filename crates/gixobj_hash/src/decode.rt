@@ -1,10 +1,10 @@
-//! The header of a loose object, read (`gitformat-loose`, "Loose object format").
+//! Loose objects, read: the header, and the content behind it (`gitformat-loose`, "Loose object format").
 ghost use Rattle.std.specs.Prelude.{◌≡◌, ◌↔◌, ◌<◌, ◌^◌, ℕ, IsTrue, IfOk, IfErr, Ok, MatchResult};
 ghost use Rattle.std.specs.Option.{SomeIff};
 ghost use Rattle.std.specs.Str.Parse.{AllDigits, IsNumeral, digits_value, starts_with_minus};
 ghost use Rattle.gixobj_hash.specs.declared.decode.Error.TheVariants.{OutOfMemory};
 ghost use Rattle.gixobj_hash.specs.declared.kind.Kind.{Kind};
-ghost use Rattle.gixobj_hash.specs.Decode.{HasLooseHeader, HasSizeFault, IsSizeText, RefusesHeader, RefusesSize, size_digits};
+ghost use Rattle.gixobj_hash.specs.Decode.{HasContent, HasLooseHeader, HasSizeFault, IsSizeText, RefusesHeader, RefusesLooseContent, RefusesSize, size_digits};
 
 use crate::texts::{are_digits, number_from_digits, split_at_byte};
 use crate::{Kind, kind};
@@ -111,6 +111,47 @@ impl From<AllocError> for LooseHeaderDecodeError {
     fn from(_e: AllocError) -> LooseHeaderDecodeError {
         LooseHeaderDecodeError::OutOfMemory
     }
+}
+
+/// The refusal of [`loose_content`].
+#[derive(Debug, Drop, thiserror::Error)]
+pub enum LooseContentError {
+    /// The input begins with no loose header.
+    #[error("{0}")]
+    Header(LooseHeaderDecodeError),
+    /// Fewer bytes follow the header than it says.
+    #[error("fewer than {size} bytes behind the header of an object")]
+    Short {
+        /// How many bytes the header says.
+        size: u64,
+    },
+}
+
+impl From<LooseHeaderDecodeError> for LooseContentError {
+    ghost use Rattle.gixobj_hash.specs.declared.decode.LooseContentError.TheVariants.{Header};
+
+    ghost from_gives = { λ error it. it ≡ Header error };
+
+    fn from(error: LooseHeaderDecodeError) -> LooseContentError {
+        LooseContentError::Header(error)
+    }
+}
+
+/// The kind and the content of the loose object that the input begins with: a loose header, and then
+/// as many bytes as it says. Bytes behind these are ignored.
+///
+/// `Header` where the input begins with no loose header, as [`loose_header`] says; `Short` where
+/// fewer bytes follow it. Memory is taken by [`loose_header`] alone.
+pub fn loose_content(alloc: Global, input: &[u8]) -> Result<(Kind, &[u8]), LooseContentError>
+    ensures found { IfOk result (λ it. HasContent input.now it.0 it.1.now) }
+    ensures refusal { IfErr result (RefusesLooseContent input.now) }
+{
+    let (kind, size, used) = loose_header(alloc, input)?;
+    let behind = &input[used..];
+    if size > behind.len() as u64 {
+        return Err(LooseContentError::Short { size });
+    }
+    Ok((kind, &behind[..size as usize]))
 }
 
 /// The loose header that the input begins with: the kind, the size in bytes of what follows, and how

@@ -1,7 +1,7 @@
 //! The kinds of objects, and the words that name them (`gitformat-loose`, "Loose object format").
-ghost use Rattle.std.specs.Prelude.{◌≡◌, ◌↔◌, ◌≤◌, IsTrue, IfOk, IfErr, Ok, length};
+ghost use Rattle.std.specs.Prelude.{◌≡◌, ◌↔◌, ◌≤◌, IsTrue, IfOk, IfErr, MatchOption, Ok, length};
 ghost use Rattle.gixobj_hash.specs.declared.kind.Kind.{Kind};
-ghost use Rattle.gixobj_hash.specs.Kind.{kind_word};
+ghost use Rattle.gixobj_hash.specs.Kind.{IsNoKindWord, kind_word};
 
 use bstr::BString;
 use std::alloc::{AllocError, Global};
@@ -48,7 +48,21 @@ impl From<AllocError> for Error {
 impl Kind {
     ghost use Rattle.gixobj_hash.specs.Kind.Refusal.{RefusesWord};
 
-    /// The kind that a word names: `tree`, `blob`, `commit` or `tag`.
+    /// The kind that a word names: `tree`, `blob`, `commit` or `tag`, or none for any other bytes. It
+    /// takes no memory.
+    pub fn of_word(word: &[u8]) -> Option<Kind>
+        ensures { MatchOption result (IsNoKindWord word.now) (λ kind. word.now ≡ kind_word kind) }
+    {
+        match word {
+            b"tree" => Some(Kind::Tree),
+            b"blob" => Some(Kind::Blob),
+            b"commit" => Some(Kind::Commit),
+            b"tag" => Some(Kind::Tag),
+            _ => None,
+        }
+    }
+
+    /// The kind that a word names, as [`Kind::of_word`] says.
     ///
     /// Any other bytes are refused, with a copy of them: `InvalidObjectKind`, or `OutOfMemory` where
     /// the copy finds no memory.
@@ -57,12 +71,9 @@ impl Kind {
         ensures found { IfOk result (λ kind. s.now ≡ kind_word kind) }
         ensures refusal { IfErr result (RefusesWord s.now) }
     {
-        match s {
-            b"tree" => Ok(Kind::Tree),
-            b"blob" => Ok(Kind::Blob),
-            b"commit" => Ok(Kind::Commit),
-            b"tag" => Ok(Kind::Tag),
-            _ => Err(Error::InvalidObjectKind {
+        match Kind::of_word(s) {
+            Some(kind) => Ok(kind),
+            None => Err(Error::InvalidObjectKind {
                 kind: BString::from_slice(alloc, s)?,
             }),
         }

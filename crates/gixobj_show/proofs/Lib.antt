@@ -1,3 +1,4 @@
+mod Contents
 pub mod FewItems
 mod FirstEntry
 mod Refused

@@ -1,13 +1,14 @@
 -- A run of the program: what it reads, what it writes, and its status.
 use Rattle.std.specs.Prelude.{◌≡◌, ◌⊎◌, ℕ, List, Option}
 use Rattle.std.specs.Io.KnownBytes.{Consumes, IsAtEnd}
+use Rattle.gixobj_base.specs.Decode.{IsShort}
 use Rattle.gixobj_base.specs.Streams.{Puts, PutsFront, SinkView}
 use Rattle.gixobj_base.specs.hash.hash.kind.Kind as hash
 use Rattle.gixobj_base.specs.hash.hash.object_id.ObjectId.{ObjectId}
 use Rattle.gixobj_base.specs.hash.kind.Kind.{Kind}
 use Rattle.gixobj_show.specs.Listing.{IsBadTree, IsListed, IsOfAnotherKind, RefusesListing}
-use Rattle.gixobj_show.specs.Object.{HasNoLooseHeader, IsShort, RefusesObject}
-use Rattle.gixobj_show.specs.Show.{IsShown, show_line}
+use Rattle.gixobj_show.specs.Refusal.{HasNoLooseHeader}
+use Rattle.gixobj_show.specs.Show.{IsShown, RefusesShow, show_line}
 use Rattle.gixobj_show.specs.Words.{AsksFor, AsksForNothing}
 use Rattle.gixobj_show.specs.declared.refusal.Refusal.{Refusal}
 use Rattle.gixobj_show.specs.declared.refusal.Refusal.TheVariants.{Usage, InputFailed, OutputFailed, OutOfMemory, BadHeader, ShortData, NotATree, BadTree}
@@ -26,7 +27,7 @@ IsTextFor Tree hash input text = IsListed hash input text
 
 -- why the command makes nothing of the input
 abbrev pub RefusesCommandText : Command → hash.Kind → List ℕ → Refusal → Type 0
-RefusesCommandText Show hash input refusal = RefusesObject input refusal
+RefusesCommandText Show hash input refusal = RefusesShow input refusal
 RefusesCommandText Tree hash input refusal = RefusesListing hash input refusal
 
 -- this text answers the words

@@ -2,6 +2,7 @@
 use Rattle.std.specs.Prelude.{◌≡◌, ◌≢◌, ◌⊎◌, ℕ, List, [], ◌∷◌, ◌++◌}
 use Rattle.std.specs.List.{flat_map}
 use Rattle.gixobj_base.specs.Bytes.{newline, space}
+use Rattle.gixobj_base.specs.Decode.{HasContent, IsShort}
 use Rattle.gixobj_base.specs.Entries.{EntryView}
 use Rattle.gixobj_base.specs.Hash.{hex_text}
 use Rattle.gixobj_base.specs.Mode.{entry_word, kind_of_mode, mode_text}
@@ -9,7 +10,7 @@ use Rattle.gixobj_base.specs.hash.hash.kind.Kind as hash
 use Rattle.gixobj_base.specs.hash.kind.Kind.{Kind}
 use Rattle.gixobj_base.specs.hash.kind.Kind.TheVariants.{Tree}
 use Rattle.gixobj_tree.specs.TreeReading.{BeginsWithEntry, IsNoTreeText, IsTreeText}
-use Rattle.gixobj_show.specs.Object.{BeginsWithObject, HasNoLooseHeader, IsShort}
+use Rattle.gixobj_show.specs.Refusal.{HasNoLooseHeader}
 use Rattle.gixobj_show.specs.declared.refusal.Refusal.{Refusal}
 use Rattle.gixobj_show.specs.declared.refusal.Refusal.TheVariants.{BadHeader, BadTree, NotATree, OutOfMemory, ShortData}
 
@@ -26,23 +27,23 @@ listing_of entries = flat_map entry_line entries
 abbrev pub IsListed : hash.Kind → List ℕ → List ℕ → Type 0
 IsListed hash input text =
     (content : List ℕ) × (entries : List EntryView)
-    × BeginsWithObject input Tree content × IsTreeText hash content entries × (text ≡ listing_of entries)
+    × HasContent input Tree content × IsTreeText hash content entries × (text ≡ listing_of entries)
 
 -- the input begins with a loose object of another kind
 pub record IsOfAnotherKind (input : List ℕ) : Type 0 where
   pub kind : Kind
   pub content : List ℕ
-  pub object : BeginsWithObject input kind content
+  pub object : HasContent input kind content
   pub other : kind ≢ Tree
 
 -- the input begins with a loose object of a tree's kind, whose content is the text of no tree with ids of this kind
 abbrev pub IsBadTree : hash.Kind → List ℕ → Type 0
-IsBadTree hash input = (content : List ℕ) × BeginsWithObject input Tree content × IsNoTreeText hash content
+IsBadTree hash input = (content : List ℕ) × HasContent input Tree content × IsNoTreeText hash content
 
 -- the input begins with a loose object of a tree's kind, whose content begins with an entry
 abbrev pub HasFirstEntry : hash.Kind → List ℕ → Type 0
 HasFirstEntry hash input =
-    (content : List ℕ) × (e : EntryView) × (rest : List ℕ) × BeginsWithObject input Tree content × BeginsWithEntry hash content e rest
+    (content : List ℕ) × (e : EntryView) × (rest : List ℕ) × HasContent input Tree content × BeginsWithEntry hash content e rest
 
 -- why the input begins with no loose object of a tree's kind. Only what a bad header hands back takes memory
 abbrev pub RefusesListedTree : List ℕ → Refusal → Type 0

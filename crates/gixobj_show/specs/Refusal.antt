@@ -1,8 +1,23 @@
--- What the program says where it gives no answer.
+-- Why the program gives no answer, and what it says of it.
 use Rattle.std.specs.Prelude.{ℕ, List, [], ◌∷◌, ◌++◌, codes}
+use Rattle.gixobj_base.specs.Decode.{HasLooseHeader}
+use Rattle.gixobj_base.specs.hash.decode.LooseContentError.{LooseContentError}
+use Rattle.gixobj_base.specs.hash.decode.LooseContentError.TheVariants.{Header, Short}
+use Rattle.gixobj_base.specs.hash.decode.LooseHeaderDecodeError.TheVariants as header
+use Rattle.gixobj_base.specs.hash.kind.Kind.{Kind}
 use Rattle.gixobj_show.specs.declared.refusal.Refusal.{Refusal}
 use Rattle.gixobj_show.specs.declared.refusal.Refusal.TheVariants.{Usage, InputFailed, OutputFailed, OutOfMemory, BadHeader, ShortData, NotATree, BadTree}
 use Rattle.gixobj_base.specs.Bytes.{newline}
+
+-- the input begins with no loose header
+abbrev pub HasNoLooseHeader : List ℕ → Type 0
+HasNoLooseHeader input = (kind : Kind) (size used : ℕ) → ¬ HasLooseHeader input kind size used
+
+-- the refusal of a loose object, as the program's: why a header is bad isn't told
+abbrev pub content_refusal : LooseContentError → Refusal
+content_refusal (Header header.OutOfMemory) = OutOfMemory
+content_refusal (Header error) = BadHeader
+content_refusal (Short size) = ShortData
 
 -- a text and a newline
 abbrev pub line : List ℕ → List ℕ

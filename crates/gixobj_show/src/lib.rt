@@ -4,7 +4,6 @@
 
 pub mod engine;
 pub mod input;
-pub mod object;
 pub mod refusal;
 pub mod show;
 pub mod tree;

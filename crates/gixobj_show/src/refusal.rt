@@ -2,6 +2,7 @@
 ghost use Rattle.std.specs.Prelude.{◌≡◌};
 ghost use Rattle.gixobj_show.specs.Refusal.{line_of, exit_status_of};
 
+use gixobj_base::decode::{LooseContentError, LooseHeaderDecodeError};
 use gixobj_base::streams::Sink;
 
 /// Why the program gives no answer.
@@ -23,6 +24,20 @@ pub enum Refusal {
     NotATree,
     /// The content of the tree isn't that of one with ids of the kind that is asked for.
     BadTree,
+}
+
+impl From<LooseContentError> for Refusal {
+    ghost use Rattle.gixobj_show.specs.Refusal.{content_refusal};
+
+    ghost from_gives = { λ error refusal. refusal ≡ content_refusal error };
+
+    fn from(error: LooseContentError) -> Refusal {
+        match error {
+            LooseContentError::Header(LooseHeaderDecodeError::OutOfMemory) => Refusal::OutOfMemory,
+            LooseContentError::Header(_) => Refusal::BadHeader,
+            LooseContentError::Short { .. } => Refusal::ShortData,
+        }
+    }
 }
 
 impl Refusal {

@@ -1,10 +1,9 @@
 //! `show`: the kind, the size and the id of a loose object.
 ghost use Rattle.std.specs.Prelude.{◌≡◌, IfOk, IfErr};
-ghost use Rattle.gixobj_show.specs.Object.{RefusesObject};
-ghost use Rattle.gixobj_show.specs.Show.{IsShown, show_line};
+ghost use Rattle.gixobj_show.specs.Show.{IsShown, RefusesShow, show_line};
 
-use crate::object::loose_object;
 use crate::refusal::Refusal;
+use gixobj_base::decode::loose_content;
 use gixobj_base::hash::ObjectId;
 use gixobj_base::{Kind, compute_hash, hash};
 use itoa::Buffer;
@@ -23,16 +22,20 @@ pub struct Shown {
 }
 
 /// What `show` tells of the loose object that the input begins with, its id by this kind of digest.
-/// The refusals are those of [`loose_object`].
+/// Bytes past the object are ignored.
+///
+/// The refusals are `BadHeader`, where the input begins with no loose header; `ShortData`, where
+/// fewer bytes follow than the header says; and `OutOfMemory`, where the input begins with no loose
+/// header and there is no memory to say why.
 pub fn show(alloc: Global, hash: hash::Kind, input: &[u8]) -> Result<Shown, Refusal>
     ensures found { IfOk result (λ shown. IsShown hash input.now shown.kind shown.size shown.id) }
-    ensures refusal { IfErr result (RefusesObject input.now) }
+    ensures refusal { IfErr result (RefusesShow input.now) }
 {
-    let object = loose_object(alloc, input)?;
+    let (kind, content) = loose_content(alloc, input)?;
     Ok(Shown {
-        kind: object.kind,
-        size: object.size,
-        id: compute_hash(hash, object.kind, object.content),
+        kind,
+        size: content.len() as u64,
+        id: compute_hash(hash, kind, content),
     })
 }
 

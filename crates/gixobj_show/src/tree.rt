@@ -1,13 +1,12 @@
 //! `tree`: the entries of a loose tree, a line each.
 ghost use Rattle.std.specs.Prelude.{◌≡◌, ◌≢◌, [], ◌++◌, IfOk, IfErr, OnErr, OnOk};
+ghost use Rattle.gixobj_base.specs.Decode.{HasContent};
 ghost use Rattle.gixobj_base.specs.hash.kind.Kind.TheVariants.{Tree};
 ghost use Rattle.gixobj_show.specs.Listing.{IsListed, RefusesListing, RefusesListedTree, entry_line, listing_of};
-ghost use Rattle.gixobj_show.specs.Object.{BeginsWithObject};
 ghost use Rattle.gixobj_tree.specs.TreeViews.{entry_view, tree_entries};
 
-use crate::object::loose_object;
 use crate::refusal::Refusal;
-use gixobj_base::decode::Error;
+use gixobj_base::decode::{Error, loose_content};
 use gixobj_base::{Kind, hash};
 use gixobj_tree::TreeRef;
 use gixobj_tree::tree::EntryRef;
@@ -16,7 +15,7 @@ use std::alloc::{AllocError, Global};
 /// A line for each entry of the loose tree that the input begins with, whose ids are of this kind:
 /// `<mode> <kind> <id> <name>`, the name's bytes as they are. Bytes past the tree are ignored.
 ///
-/// The refusals are those of [`loose_object`], and then `NotATree` for an object of another kind,
+/// The refusals are those of [`show`](crate::show::show), and then `NotATree` for an object of another kind,
 /// `BadTree` where the content is no tree's text with ids of this kind, and `OutOfMemory`, where an
 /// entry was read and there is no memory for the entries or their lines.
 pub fn listing(alloc: Global, hash: hash::Kind, input: &[u8]) -> Result<Vec<u8>, Refusal>
@@ -36,12 +35,12 @@ pub fn listing(alloc: Global, hash: hash::Kind, input: &[u8]) -> Result<Vec<u8>,
 
 /// The content of the loose tree that the input begins with.
 fn tree_content(alloc: Global, input: &[u8]) -> Result<&[u8], Refusal>
-    ensures found { IfOk result (λ content. BeginsWithObject input.now Tree content.now) }
+    ensures found { IfOk result (λ content. HasContent input.now Tree content.now) }
     ensures refusal { IfErr result (RefusesListedTree input.now) }
 {
-    let object = loose_object(alloc, input)?;
-    match object.kind {
-        Kind::Tree => Ok(object.content),
+    let (kind, content) = loose_content(alloc, input)?;
+    match kind {
+        Kind::Tree => Ok(content),
         _ => Err(Refusal::NotATree),
     }
 }

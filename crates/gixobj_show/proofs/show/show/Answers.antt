@@ -1,5 +1,13 @@
-use Rattle.std.proofs.Common.{rules}
+-- What refuses a loose object refuses what is told of it.
+use Rattle.std.proofs.Common.{refl}
+use Rattle.std.proofs.lemmas.Result.{err_from_is_err_and}
+use Rattle.gixobj_show.proofs.Contents.{refused_content}
 use Rattle.gixobj_show.proofs.show.show.Goals as goal
 
+pub returns-in_err-kind-clause-refusal : goal.returns-in_err-kind-clause-refusal
+returns-in_err-kind-clause-refusal c =
+    let made = err_from_is_err_and c.from_residual.result c.from_residual.ensures.1 in
+    rw (made.1, made.2) (refused_content _ c.in_err-kind.field-0.0 c.in_err-kind.ensures.refusal)
+
 pub returns-clause-found : goal.returns-clause-found
-returns-clause-found c = search rules
+returns-clause-found c = (c.in_ok-kind.content.now, c.in_ok-kind.ensures.found, refl, c.compute_hash.ensures)

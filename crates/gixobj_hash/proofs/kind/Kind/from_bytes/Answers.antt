@@ -1,5 +1,8 @@
-use Rattle.std.proofs.Common.{rules}
+-- A word is that of one kind at most.
+use Rattle.std.proofs.Common.{ap, sym, ◌∙◌}
+use Rattle.std.specs.Prelude.{Ok}
+use Rattle.gixobj_hash.proofs.Headers.{one_kind}
 use Rattle.gixobj_hash.proofs.kind.Kind.from_bytes.Goals as goal
 
-pub returns-in-blob-clause-accepts : goal.returns-in-blob-clause-accepts
-returns-in-blob-clause-accepts c = search rules
+pub returns-in-Some-clause-accepts : goal.returns-in-Some-clause-accepts
+returns-in-Some-clause-accepts c = λ kind named. ap Ok (one_kind c.in-Some.kind kind (sym c.in-Some.ensures ∙ named))

@@ -1,0 +1,45 @@
+//! The content of loose objects, by the rule of gitformat-loose: `<kind> <size>`, a zero byte, and as many bytes.
+
+use gixobj_base::Kind;
+use gixobj_base::decode::{LooseContentError, LooseHeaderDecodeError, loose_content};
+use std::test::Fail;
+
+#[test]
+fn contents(rt: HostRuntime) -> Result<(), Fail> {
+    let alloc = rt.alloc();
+    let rows: [(&[u8], Kind, &[u8]); 3] = [
+        (b"blob 6\0hello\n", Kind::Blob, b"hello\n"),
+        (b"blob 6\0hello\nand more", Kind::Blob, b"hello\n"),
+        (b"tree 0\0", Kind::Tree, b""),
+    ];
+    for (input, kind, content) in rows {
+        let read = loose_content(alloc, input)?;
+        assert!(rt; read == (kind, content), "{input:?}");
+    }
+    Ok(())
+}
+
+#[test]
+fn refusals(rt: HostRuntime) -> Result<(), Fail> {
+    let alloc = rt.alloc();
+    let short = loose_content(alloc, b"blob 7\0hello\n")
+        .err()
+        .ok_or("short")?;
+    assert!(rt; matches!(&short, LooseContentError::Short { size: 7 }));
+    let told = short.to_string(alloc)?;
+    assert!(rt; told.as_str() == "fewer than 7 bytes behind the header of an object");
+    let largest = loose_content(alloc, b"blob 18446744073709551615\0")
+        .err()
+        .ok_or("short")?;
+    assert!(rt; matches!(&largest, LooseContentError::Short { size: u64::MAX }));
+    let header = loose_content(alloc, b"blob 6").err().ok_or("no zero byte")?;
+    assert!(rt;
+        matches!(
+            &header,
+            LooseContentError::Header(LooseHeaderDecodeError::InvalidHeader { .. })
+        )
+    );
+    let of_memory = LooseContentError::from(LooseHeaderDecodeError::OutOfMemory);
+    assert!(rt; of_memory.to_string(alloc)?.as_str() == "out of memory");
+    Ok(())
+}

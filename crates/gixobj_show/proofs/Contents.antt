@@ -1,0 +1,36 @@
+-- What refuses a loose object refuses what the commands make of it.
+use Rattle.std.proofs.Common.{ℕ, List}
+use Rattle.gixobj_base.specs.Decode.{IsShort, RefusesHeader, RefusesLooseContent}
+use Rattle.gixobj_base.specs.hash.decode.LooseContentError.{LooseContentError}
+use Rattle.gixobj_base.specs.hash.decode.LooseContentError.TheVariants.{Header, Short}
+use Rattle.gixobj_base.specs.hash.decode.LooseHeaderDecodeError.{LooseHeaderDecodeError}
+use Rattle.gixobj_base.specs.hash.decode.LooseHeaderDecodeError.TheVariants as header
+use Rattle.gixobj_hash.proofs.Headers.{not_refused, parts_of}
+use Rattle.gixobj_show.specs.Listing.{RefusesListedTree}
+use Rattle.gixobj_show.specs.Refusal.{HasNoLooseHeader, content_refusal}
+use Rattle.gixobj_show.specs.Show.{RefusesShow}
+use Rattle.gixobj_show.specs.declared.refusal.Refusal.{Refusal}
+use Rattle.gixobj_show.specs.declared.refusal.Refusal.TheVariants.{Usage, InputFailed, OutputFailed, OutOfMemory, BadHeader, ShortData, NotATree, BadTree}
+
+no_header : (input : List ℕ) (error : LooseHeaderDecodeError) → RefusesHeader input error → HasNoLooseHeader input
+no_header input error refused kind size used header = not_refused input kind size used error (parts_of input kind size used header) refused
+
+pub refused_content : (input : List ℕ) (error : LooseContentError) → RefusesLooseContent input error → RefusesShow input (content_refusal error)
+refused_content input (Header header.OutOfMemory) refused = no_header input header.OutOfMemory refused
+refused_content input (Header (header.InvalidHeader message)) refused = no_header input (header.InvalidHeader message) refused
+refused_content input (Header (header.ObjectHeader word)) refused = no_header input (header.ObjectHeader word) refused
+refused_content input (Header (header.ParseIntegerError fault message copy)) refused = no_header input (header.ParseIntegerError fault message copy) refused
+refused_content input (Short size) (kind, rest, begins, less) = (kind, size, rest, begins, less)
+
+tree_refused : (input : List ℕ) (refusal : Refusal) → RefusesShow input refusal → RefusesListedTree input refusal
+tree_refused input Usage refused = absurd refused
+tree_refused input InputFailed refused = absurd refused
+tree_refused input OutputFailed refused = absurd refused
+tree_refused input OutOfMemory refused = refused
+tree_refused input BadHeader refused = refused
+tree_refused input ShortData refused = refused
+tree_refused input NotATree refused = absurd refused
+tree_refused input BadTree refused = absurd refused
+
+pub refused_tree : (input : List ℕ) (error : LooseContentError) → RefusesLooseContent input error → RefusesListedTree input (content_refusal error)
+refused_tree input error refused = tree_refused input (content_refusal error) (refused_content input error refused)
