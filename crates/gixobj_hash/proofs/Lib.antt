@@ -1,3 +1,4 @@
+pub mod Cuts
 pub mod Digits
 mod EmptyObjects
 pub mod Headers
