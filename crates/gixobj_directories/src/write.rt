@@ -3,13 +3,12 @@ ghost use Rattle.std.specs.Prelude.{◌≡◌, ◌≢◌, ◌↔◌, ◌+◌, �
 ghost use Rattle.std.specs.Fn.{CalledAt};
 ghost use Rattle.std.specs.List.{FoldsTo};
 ghost use Rattle.std.specs.Option.{option_copied};
-ghost use Rattle.gixobj_tree.specs.Entries.{EntryView};
+ghost use Rattle.gixobj_tree.specs.Entries.{EntryView, Pair};
 ghost use Rattle.gixobj_files.specs.Bases.{edited_bases};
 ghost use Rattle.gixobj_files.specs.Edits.{only, raised, with_path};
 ghost use Rattle.gixobj_files.specs.Files.{Path};
 ghost use Rattle.gixobj_files.specs.HandingOut.{HandsOutSome, Leaves, Saves, entry_with};
 ghost use Rattle.gixobj_files.specs.Opening.{in_path};
-ghost use Rattle.gixobj_files.specs.Tables.{Pair};
 ghost use Rattle.gixobj_directories.specs.Calls.{IsCallableOnTrees, IsStorable, names_of};
 ghost use Rattle.gixobj_directories.specs.Handing.{Stopped, Visits, pairs_behind_next, child_side, kept_with, next_child};
 ghost use Rattle.gixobj_directories.specs.Nested.{base_side, bases_of, dirs_of, entries_side, opened};

@@ -1,12 +1,11 @@
 use Rattle.std.proofs.Common.{◌≡◌, ◌≢◌, ◌∙◌, ◌+◌, ◌<◌, ℕ, [], ◌∷◌, ◌++◌, List, Option, Some, None, Ok, Err, drop, length, refl, rules, sym, ap, subst, arith, append_assoc, append-nil}
 use Rattle.std.specs.Fn.{CalledAt}
 use Rattle.std.specs.Option.{option_copied}
-use Rattle.gixobj_tree.specs.Entries.{EntryView, IsWellFormed}
+use Rattle.gixobj_tree.specs.Entries.{EntryView, IsWellFormed, Pair}
 use Rattle.gixobj_hash.specs.declared.hash.object_id.ObjectId.{ObjectId}
 use Rattle.gixobj_directories.specs.Calls.{IsStorable}
 use Rattle.gixobj_directories.specs.Handing.{Stopped, Visits, child_side, kept_with}
 use Rattle.gixobj_files.specs.HandingOut.{Leaves, entry_with, leaves}
-use Rattle.gixobj_files.specs.Tables.{Pair}
 use Rattle.gixobj_directories.specs.Nested.{base_side, bases_of, dirs_of, entries_side, parts}
 use Rattle.gixobj_directories.specs.OwnTrees.{so_far}
 use Rattle.gixobj_directories.specs.declared.open.Child.{Child}
