@@ -97,7 +97,7 @@ fn leaves<E, F: FnMut(&Tree) -> Result<ObjectId, E>>(
         let (child, behind) = next_of(left, entry);
         left = behind;
         let id = visit(alloc, entry, child, out, pairs, saved)?;
-        keep(alloc, &mut own, base, entry, id)?;
+        keep_subtree(alloc, &mut own, base, entry, id)?;
     }
     Ok(own)
 }
@@ -232,7 +232,7 @@ fn hand<E, F: FnMut(&Tree) -> Result<ObjectId, E>>(
 }
 
 /// Adds the entry with the id that it gets, unless there is none or it is null.
-fn keep(
+fn keep_subtree(
     alloc: Global,
     own: &mut OwnTree,
     base: &[Entry],
