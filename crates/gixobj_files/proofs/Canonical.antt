@@ -46,6 +46,13 @@ one_entry (e ∷ es) apart x y (inl s) (inr k) q = absurd (differs e es y apart.
 one_entry (e ∷ es) apart x y (inr h) (inl t) q = absurd (differs e es x apart.0 h (ap (λ (w : EntryView). w.name) t ∙ sym q))
 one_entry (e ∷ es) apart x y (inr h) (inr k) q = one_entry es apart.1 x y h k q
 
+-- entries of one mode, one name and one id are one
+same_entry : (mode other : ℕ) (name its_name : List ℕ) (id its_id : ObjectId) → mode ≡ other → name ≡ its_name → id ≡ its_id → entry_of mode name id ≡ entry_of other its_name its_id
+same_entry mode other name its_name id its_id m n i = cc (m, n, i)
+
+pub named_alike : (x y : EntryView) → x.mode ≡ y.mode → x.name ≡ y.name → x.id ≡ y.id → x ≡ y
+named_alike x y m n i = same_entry x.mode y.mode x.name y.name x.id y.id m n i
+
 -- a well-formed list without null ids
 pub record IsClean (entries : List EntryView) : Type 0 where
   pub formed : IsWellFormed entries
@@ -116,12 +123,6 @@ module _ (T : Table) (pairs : List Pair) (known : AgreesWithPairs T pairs) where
   -- entries of one name in trees of the same files are one, where their trees are one
   abbrev Same : List EntryView → List EntryView → Type 0
   Same xs ys = (n : ℕ) → SameFiles (Files T n xs) (Files T n ys)
-
-  same_entry : (mode other : ℕ) (name its_name : List ℕ) (id its_id : ObjectId) → mode ≡ other → name ≡ its_name → id ≡ its_id → entry_of mode name id ≡ entry_of other its_name its_id
-  same_entry mode other name its_name id its_id m n i = cc (m, n, i)
-
-  named_alike : (x y : EntryView) → x.mode ≡ y.mode → x.name ≡ y.name → x.id ≡ y.id → x ≡ y
-  named_alike x y m n i = same_entry x.mode y.mode x.name y.name x.id y.id m n i
 
   both : (one : HasOneId pairs) (xs ys : List EntryView) → IsClean xs → IsClean ys → Same xs ys → (x y : EntryView) → Has xs x → Has ys y → x.name ≡ y.name
       → (is_tree_mode x.mode ≡ true → x.mode ≡ tree_type) → (is_tree_mode y.mode ≡ true → y.mode ≡ tree_type)
