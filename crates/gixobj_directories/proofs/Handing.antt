@@ -13,7 +13,7 @@ use Rattle.gixobj_hash.specs.declared.hash.object_id.ObjectId.{ObjectId}
 use denote.Ref.{Bor}
 use Rattle.gixobj_directories.specs.Calls.{IsCallableOnTrees, IsStorable}
 use Rattle.gixobj_files.specs.Editing.{same_name}
-use Rattle.gixobj_files.specs.Edits.{raised}
+use Rattle.gixobj_files.specs.Edits.{greatest_count, raised}
 use Rattle.gixobj_files.specs.Files.{Path, is_null}
 use Rattle.gixobj_directories.specs.Handing.{Stopped, Visits, child_side}
 use Rattle.gixobj_hash.specs.declared.hash.object_id.ObjectId.TheVariants.{Sha1}
@@ -36,7 +36,7 @@ raised_on : (n first then : ℕ) → raised (raised n first) then ≡ raised n (
 raised_on n zero then = let is : then ≡ 0 + then = omega arith in ap (λ k. raised n k) is
 raised_on n (suc first) then =
     let is : suc (first + then) ≡ suc first + then = omega arith in
-    raised_on (min (n + 1) 18446744073709551615) first then ∙ ap (λ k. raised n k) is
+    raised_on (min (n + 1) greatest_count) first then ∙ ap (λ k. raised n k) is
 
 pub raised_then : (old between new first then : ℕ) → between ≡ raised old first → new ≡ raised between then → new ≡ raised old (first + then)
 raised_then old between new first then before after = after ∙ ap (λ n. raised n then) before ∙ raised_on old first then
