@@ -3,7 +3,7 @@ use Rattle.std.proofs.Common.{◌≡◌, ◌∙◌, ◌++◌, ℕ, List, [], ◌
 use Rattle.std.specs.FinMap as map
 use Rattle.std.specs.Prelude.{MatchOption}
 use Rattle.std.proofs.lemmas.List.Elements.{All-contains, Contains-push}
-use Rattle.gixobj_base.specs.Entries.{EntryView}
+use Rattle.gixobj_base.specs.Entries.{EntryView, Pair}
 use Rattle.gixobj_callers.specs.Imports.{AreDone, Decides, IsWriteBehind, import_steps}
 use Rattle.gixobj_callers.proofs.Alone.{root_files}
 use Rattle.gixobj_callers.proofs.Histories.{history_append, same_history, same_refl, same_sym, same_trans}
@@ -17,7 +17,7 @@ use Rattle.gixobj_files.specs.Files.{Files, NamedFiles, SameFiles, Table, Trees}
 use Rattle.gixobj_files.specs.History.{History}
 use Rattle.gixobj_files.specs.Opening.{OpenFiles}
 use Rattle.gixobj_files.specs.State.{DirMap, EditorFiles, State, open_bases, open_dirs}
-use Rattle.gixobj_files.specs.Tables.{AgreesWithPairs, AgreesWithStore, Pair}
+use Rattle.gixobj_files.specs.Tables.{AgreesWithPairs, AgreesWithStore}
 use Rattle.gixobj_find.specs.Keeping.{with_trees}
 use Rattle.gixobj_editor.specs.Commands.{at_root}
 use Rattle.gixobj_editor.specs.Replies.{Answers, IsEditReply, Meaning}

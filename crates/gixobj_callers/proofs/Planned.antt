@@ -1,7 +1,7 @@
 -- A stored root, an editor of it, and the files of what is named once an entry was put in.
 use Rattle.std.proofs.Common.{◌≡◌, ◌≢◌, ◌⊎◌, ◌∙◌, ℕ, true, false, List, [], Some, ⊎_elim, ap, inl, inr, refl, subst, sym}
 use Rattle.std.specs.Prelude.{IsFalse, MatchOption, Option}
-use Rattle.gixobj_base.specs.Entries.{EntryView}
+use Rattle.gixobj_base.specs.Entries.{EntryView, Pair}
 use Rattle.gixobj_base.specs.Hash.{id_kind, id_of}
 use Rattle.gixobj_base.specs.hash.hash.kind.Kind.{Kind}
 use Rattle.gixobj_base.specs.hash.hash.object_id.ObjectId.{ObjectId}
@@ -17,7 +17,7 @@ use Rattle.gixobj_editor.specs.declared.editor.error.Error.{Error}
 use Rattle.gixobj_files.specs.Bases.{HasBases}
 use Rattle.gixobj_files.specs.Files.{Files, NamedFiles, Path, SameFiles, Table, Trees, Upserted, is_null}
 use Rattle.gixobj_files.specs.State.{EditorFiles, State, open_bases, open_dirs, root_alone}
-use Rattle.gixobj_files.specs.Tables.{AgreesWithPairs, AgreesWithStore, Pair}
+use Rattle.gixobj_files.specs.Tables.{AgreesWithPairs, AgreesWithStore}
 use Rattle.gixobj_find.specs.Existing.{IsEmptyId}
 use Rattle.gixobj_editor.specs.Replies.{Meaning}
 use Rattle.gixobj_editor.specs.RunTables.{OfTrees}

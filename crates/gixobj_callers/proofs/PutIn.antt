@@ -2,7 +2,7 @@
 use Rattle.std.proofs.Common.{◌≡◌, ◌∙◌, ◌≤◌, ◌<◌, ◌+◌, ℕ, List, [], ◌∷◌, ◌++◌, Err, Ok, Result, ap, drop, get_or, inl, inr, length, map, refl, subst, sym, take}
 use Rattle.std.specs.Prelude.{IfErr, OnOk}
 use Rattle.std.proofs.lemmas.List.{drop_more, take-append-drop, take_all, take_more}
-use Rattle.gixobj_base.specs.Entries.{EntryView}
+use Rattle.gixobj_base.specs.Entries.{EntryView, Pair}
 use Rattle.gixobj_base.specs.Mode.{mode_of_kind}
 use Rattle.gixobj_base.specs.hash.hash.kind.Kind.{Kind}
 use Rattle.gixobj_callers.specs.Checkouts.{AreNotPutIn, ArePutIn, IsCheckedOut, IsFilled, IsMade, IsNotFilled, IsNotPutInAt, IsPutInAt, put_at, steps_of_checkout}
@@ -19,7 +19,7 @@ use Rattle.gixobj_files.specs.Bases.{HasBases}
 use Rattle.gixobj_files.specs.Files.{Assured, Files, NamedFiles, Path, SameFiles, Table, Trees, Upserted}
 use Rattle.gixobj_files.specs.History.{History}
 use Rattle.gixobj_files.specs.State.{EditorFiles, State, open_bases, open_dirs}
-use Rattle.gixobj_files.specs.Tables.{AgreesWithPairs, AgreesWithStore, Pair}
+use Rattle.gixobj_files.specs.Tables.{AgreesWithPairs, AgreesWithStore}
 use Rattle.gixobj_editor.specs.Replies.{Meaning}
 use Rattle.gixobj_editor.specs.RunTables.{OfTrees}
 

@@ -1,6 +1,6 @@
 -- Checkouts: entries that are put into a directory of a root, and what goes out then.
 use Rattle.std.specs.Prelude.{◌≡◌, ◌⊎◌, List, [], ◌∷◌, map}
-use Rattle.gixobj_base.specs.Entries.{EntryView}
+use Rattle.gixobj_base.specs.Entries.{EntryView, Pair}
 use Rattle.gixobj_base.specs.Mode.{mode_of_kind}
 use Rattle.gixobj_callers.specs.declared.checkout.CheckoutError.{CheckoutError}
 use Rattle.gixobj_callers.specs.declared.checkout.CheckoutError.TheVariants as checkout
@@ -16,7 +16,6 @@ use Rattle.gixobj_files.specs.Files.{Path}
 use Rattle.gixobj_files.specs.HandingOut.{HandsOutSome}
 use Rattle.gixobj_files.specs.History.{Step, assure, upsert}
 use Rattle.gixobj_files.specs.State.{State, open_bases, open_dirs}
-use Rattle.gixobj_files.specs.Tables.{Pair}
 use Rattle.gixobj_editor.specs.Replies.{Meaning}
 use Rattle.gixobj_editor.specs.RunTables.{OfTrees}
 

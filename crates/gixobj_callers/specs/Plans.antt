@@ -1,6 +1,6 @@
 -- Plans: an entry that is put into a stored root, and what goes out then.
 use Rattle.std.specs.Prelude.{◌≡◌, ◌≢◌, ℕ, Bool, List, []}
-use Rattle.gixobj_base.specs.Entries.{EntryView, IsWellFormed}
+use Rattle.gixobj_base.specs.Entries.{EntryView, IsWellFormed, Pair}
 use Rattle.gixobj_base.specs.Hash.{id_kind}
 use Rattle.gixobj_base.specs.hash.hash.kind.Kind as hash
 use Rattle.gixobj_base.specs.hash.hash.object_id.ObjectId.{ObjectId}
@@ -16,7 +16,6 @@ use Rattle.gixobj_editor.specs.declared.editor.error.Error.{Error}
 use Rattle.gixobj_files.specs.Files.{Path}
 use Rattle.gixobj_files.specs.HandingOut.{HandsOutSome}
 use Rattle.gixobj_files.specs.State.{State, open_bases, open_dirs, root_alone}
-use Rattle.gixobj_files.specs.Tables.{Pair}
 use Rattle.gixobj_find.specs.Existing.{IsEmptyId, NamesSuch, RefusesObject}
 use Rattle.gixobj_editor.specs.Replies.{Meaning}
 use Rattle.gixobj_editor.specs.RunTables.{OfTrees}

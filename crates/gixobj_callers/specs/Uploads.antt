@@ -1,6 +1,6 @@
 -- Uploads: which open directories of an editor go out, and which are there already.
 use Rattle.std.specs.Prelude.{◌≡◌, ◌≢◌, ◌⊎◌, ◌++◌, ◌∷◌, ℕ, All, Contains, IsFalse, List, [], Some, length, map}
-use Rattle.gixobj_base.specs.Entries.{EachLater, EntryView}
+use Rattle.gixobj_base.specs.Entries.{EachLater, EntryView, Pair}
 use Rattle.gixobj_base.specs.Mode.{is_tree_mode}
 use Rattle.gixobj_base.specs.hash.hash.object_id.ObjectId.{ObjectId}
 use Rattle.gixobj_callers.specs.declared.upload.Upload.{Upload}
@@ -10,7 +10,7 @@ use Rattle.gixobj_files.specs.Files.{FileSet, NamedFiles, Path, SameFiles, Table
 use Rattle.gixobj_files.specs.HandingOut.{Leaves}
 use Rattle.gixobj_files.specs.Opening.{Dirs, IsOpened, in_path}
 use Rattle.gixobj_files.specs.State.{EditorFiles, State, open_bases, open_dirs}
-use Rattle.gixobj_files.specs.Tables.{AgreesWithPairs, Pair}
+use Rattle.gixobj_files.specs.Tables.{AgreesWithPairs}
 
 -- no tree is missing: a directory whose tree a table lacks counts as a file of a tree's mode
 abbrev pub LacksNoTree : FileSet → Type 0

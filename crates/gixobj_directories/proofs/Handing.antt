@@ -8,17 +8,16 @@ use Rattle.std.specs.Result.{IsErrAnd}
 use Rattle.std.proofs.lemmas.Bool.{eqb-true}
 use Rattle.std.proofs.lemmas.List.{drop_all}
 use Rattle.std.proofs.lemmas.List.Elements.{All-from_recursion}
-use Rattle.gixobj_tree.specs.Entries.{ComesBefore, EachLater, EntryView, IsEntryName, IsWellFormed}
+use Rattle.gixobj_tree.specs.Entries.{ComesBefore, EachLater, EntryView, IsEntryName, IsWellFormed, Pair}
 use Rattle.gixobj_hash.specs.declared.hash.object_id.ObjectId.{ObjectId}
 use denote.Ref.{Bor}
 use Rattle.gixobj_directories.specs.Calls.{IsCallableOnTrees, IsStorable}
 use Rattle.gixobj_files.specs.Editing.{same_name}
-use Rattle.gixobj_files.specs.Edits.{raised}
+use Rattle.gixobj_files.specs.Edits.{greatest_count, raised}
 use Rattle.gixobj_files.specs.Files.{Path, is_null}
 use Rattle.gixobj_directories.specs.Handing.{Stopped, Visits, child_side}
 use Rattle.gixobj_hash.specs.declared.hash.object_id.ObjectId.TheVariants.{Sha1}
 use Rattle.gixobj_files.specs.HandingOut.{HandsOutSome, Leaves, Walks, emptied, end, entry_with, leaves, shut, unchanged, written}
-use Rattle.gixobj_files.specs.Tables.{Pair}
 use Rattle.gixobj_directories.specs.Nested.{Level, Opened, at_side, bases_of, dirs_of}
 use Rattle.gixobj_directories.specs.declared.open.Child.{Child}
 use Rattle.gixobj_files.specs.Opening.{Dirs, in_dir}
@@ -37,7 +36,7 @@ raised_on : (n first then : ℕ) → raised (raised n first) then ≡ raised n (
 raised_on n zero then = let is : then ≡ 0 + then = omega arith in ap (λ k. raised n k) is
 raised_on n (suc first) then =
     let is : suc (first + then) ≡ suc first + then = omega arith in
-    raised_on (min (n + 1) 18446744073709551615) first then ∙ ap (λ k. raised n k) is
+    raised_on (min (n + 1) greatest_count) first then ∙ ap (λ k. raised n k) is
 
 pub raised_then : (old between new first then : ℕ) → between ≡ raised old first → new ≡ raised between then → new ≡ raised old (first + then)
 raised_then old between new first then before after = after ∙ ap (λ n. raised n then) before ∙ raised_on old first then

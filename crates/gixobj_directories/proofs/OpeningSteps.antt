@@ -12,7 +12,7 @@ use Rattle.gixobj_hash.specs.declared.hash.object_id.ObjectId.{ObjectId}
 use Rattle.bstr.specs.declared.bstring.BString.{BString}
 use Rattle.gixobj_directories.specs.Calls.{names_of}
 use Rattle.gixobj_files.specs.Editing.{same_name}
-use Rattle.gixobj_files.specs.Edits.{Finds, IsEntryOf, Opens, counted, down, found, only, stops, with_dir}
+use Rattle.gixobj_files.specs.Edits.{Finds, IsEntryOf, Opens, counted, down, found, greatest_count, only, stops, with_dir}
 use Rattle.gixobj_files.specs.Files.{Has, Path, Trees}
 use Rattle.gixobj_directories.specs.Nested.{IsLevel, Opened, Part, dirs_of, in_part, opened, parts, with_part}
 use Rattle.gixobj_files.specs.Halting.{Halts, at_once, in_vain}
@@ -69,7 +69,7 @@ no_entry name (x ∷ xs) is e h =
 
 pub counted_more : (n : ℕ) (first asked : List ObjectId) → counted (counted n first) asked ≡ counted n (first ++ asked)
 counted_more n [] asked = refl
-counted_more n (id ∷ first) asked = counted_more (min (n + 1) 18446744073709551615) first asked
+counted_more n (id ∷ first) asked = counted_more (min (n + 1) greatest_count) first asked
 
 pub finds_one : (trees : Trees) (id : ObjectId) (entries : List EntryView) (asked : List ObjectId) → Finds trees id entries asked → length asked ≤ 1
 finds_one trees id entries asked (formed, inl h) = subst (λ (l : List ObjectId). length l ≤ 1) (sym h.2) (omega arith)

@@ -1,6 +1,6 @@
 -- Trees that compare as the same are the same.
 use mathlib.Core.Bool.{true≢false}
-use Rattle.std.proofs.Common.{◌≡◌, ◌≢◌, ◌⊎◌, inl, inr, ◌∙◌, ℕ, true, false, List, [], ◌∷◌, refl, sym, ap}
+use Rattle.std.proofs.Common.{◌≡◌, ◌≢◌, ◌⊎◌, inl, inr, ◌∙◌, true, false, List, [], ◌∷◌, refl, sym, ap}
 use Rattle.std.specs.Cmp.{tied_then}
 use Rattle.std.specs.Cmp.Lexicographic.{bytes_decides, slice_cmp, texts_ties}
 use Rattle.std.specs.Ordering.{is_eq, nat_cmp}
@@ -8,7 +8,8 @@ use Rattle.std.proofs.lemmas.Bool.{and_parts, eqb-true}
 use Rattle.gixobj_hash.specs.Hash.Order.{id_cmp}
 use Rattle.gixobj_hash.specs.declared.hash.object_id.ObjectId.{ObjectId}
 use Rattle.gixobj_hash.specs.declared.hash.object_id.ObjectId.TheVariants.{Sha1, Sha256}
-use Rattle.gixobj_tree.specs.Entries.{EntryView, entry_of}
+use Rattle.gixobj_files.proofs.Canonical.{named_alike}
+use Rattle.gixobj_tree.specs.Entries.{EntryView}
 use Rattle.gixobj_tree.specs.EntryOrder.{same_entry, same_tree}
 use Rattle.gixobj_tree.specs.EntryOrderLaws.{tree_equiv}
 
@@ -18,14 +19,11 @@ same_id (Sha256 a) (Sha256 b) h = ap Sha256 ((bytes_decides a b).0 (texts_ties a
 same_id (Sha1 a) (Sha256 b) h = absurd (true≢false (sym (and_parts _ _ (tied_then (slice_cmp nat_cmp a b) (nat_cmp 20 32) ∙ h)).1))
 same_id (Sha256 a) (Sha1 b) h = absurd (true≢false (sym (and_parts _ _ (tied_then (slice_cmp nat_cmp a b) (nat_cmp 32 20) ∙ h)).1))
 
-alike : (m m' : ℕ) (n n' : List ℕ) (i i' : ObjectId) → m ≡ m' → n ≡ n' → i ≡ i' → entry_of m n i ≡ entry_of m' n' i'
-alike m m' n n' i i' a b c = cc (a, b, c)
-
 pub one_entry : (x y : EntryView) → same_entry x y ≡ true → x ≡ y
 one_entry x y h =
     let mode = and_parts _ _ h in
     let rest = and_parts _ _ mode.1 in
-    alike x.mode y.mode x.name y.name x.id y.id (eqb-true x.mode y.mode mode.0) ((bytes_decides x.name y.name).0 rest.0) (same_id x.id y.id rest.1)
+    named_alike x y (eqb-true x.mode y.mode mode.0) ((bytes_decides x.name y.name).0 rest.0) (same_id x.id y.id rest.1)
 
 pub one_tree : (xs ys : List EntryView) → same_tree xs ys ≡ true → xs ≡ ys
 one_tree [] [] h = refl

@@ -1,10 +1,9 @@
 -- Where each open directory is well-formed, each tree that is handed out may be stored.
 use Rattle.std.proofs.Common.{ℕ, List, [], ◌∷◌}
 use Rattle.std.specs.List.{AllByRecursion}
-use Rattle.gixobj_tree.specs.Entries.{EntryView}
+use Rattle.gixobj_tree.specs.Entries.{EntryView, Pair}
 use Rattle.gixobj_files.specs.HandingOut.{Leaves, Walks, emptied, end, leaves, shut, unchanged, written}
 use Rattle.gixobj_files.specs.Opening.{Dirs, in_dir}
-use Rattle.gixobj_files.specs.Tables.{Pair}
 use Rattle.gixobj_files.proofs.StillOpened.{AreFormed}
 use Rattle.gixobj_files.proofs.Sublists.{all_append}
 use Rattle.gixobj_directories.specs.Calls.{IsStorable}

@@ -4,9 +4,8 @@ use Rattle.std.specs.List.{FoldsTo}
 use denote.Ref.{Bor}
 use Rattle.bstr.specs.Owned.{bstring_bytes}
 use Rattle.bstr.specs.declared.bstring.BString.{BString}
-use Rattle.gixobj_tree.specs.Entries.{EntryView, IsEntryName, IsWellFormed}
+use Rattle.gixobj_tree.specs.Entries.{EntryView, IsEntryName, IsWellFormed, Pair}
 use Rattle.gixobj_files.specs.Files.{Path, is_null}
-use Rattle.gixobj_files.specs.Tables.{Pair}
 
 abbrev pub names_of : List BString → Path
 names_of path = map bstring_bytes path

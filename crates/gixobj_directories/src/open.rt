@@ -232,7 +232,7 @@ impl Open {
             return Ok(());
         };
         if rest.is_empty() {
-            put_entry(&mut self.tree, name, mode, id)?;
+            set_entry(&mut self.tree, name, mode, id)?;
             drop_child(&mut self.children, name);
             return Ok(());
         }
@@ -304,7 +304,7 @@ pub(crate) fn copy_tree(alloc: Global, tree: &Tree) -> Result<Tree, AllocError>
 }
 
 /// Puts an entry in, in place of any entry of its name.
-fn put_entry(
+fn set_entry(
     tree: &mut Tree,
     name: &BString,
     mode: EntryMode,
@@ -355,7 +355,7 @@ fn make_directory(tree: &mut Tree, name: &BString, null: ObjectId) -> Result<(),
     if has_tree_named(tree, name) {
         return Ok(());
     }
-    put_entry(tree, name, EntryKind::Tree.into(), null)
+    set_entry(tree, name, EntryKind::Tree.into(), null)
 }
 
 /// Adds an open directory, with an entry for it.

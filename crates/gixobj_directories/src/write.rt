@@ -3,13 +3,12 @@ ghost use Rattle.std.specs.Prelude.{◌≡◌, ◌≢◌, ◌↔◌, ◌+◌, �
 ghost use Rattle.std.specs.Fn.{CalledAt};
 ghost use Rattle.std.specs.List.{FoldsTo};
 ghost use Rattle.std.specs.Option.{option_copied};
-ghost use Rattle.gixobj_tree.specs.Entries.{EntryView};
+ghost use Rattle.gixobj_tree.specs.Entries.{EntryView, Pair};
 ghost use Rattle.gixobj_files.specs.Bases.{edited_bases};
 ghost use Rattle.gixobj_files.specs.Edits.{only, raised, with_path};
 ghost use Rattle.gixobj_files.specs.Files.{Path};
 ghost use Rattle.gixobj_files.specs.HandingOut.{HandsOutSome, Leaves, Saves, entry_with};
 ghost use Rattle.gixobj_files.specs.Opening.{in_path};
-ghost use Rattle.gixobj_files.specs.Tables.{Pair};
 ghost use Rattle.gixobj_directories.specs.Calls.{IsCallableOnTrees, IsStorable, names_of};
 ghost use Rattle.gixobj_directories.specs.Handing.{Stopped, Visits, pairs_behind_next, child_side, kept_with, next_child};
 ghost use Rattle.gixobj_directories.specs.Nested.{base_side, bases_of, dirs_of, entries_side, opened};
@@ -98,7 +97,7 @@ fn leaves<E, F: FnMut(&Tree) -> Result<ObjectId, E>>(
         let (child, behind) = next_of(left, entry);
         left = behind;
         let id = visit(alloc, entry, child, out, pairs, saved)?;
-        keep(alloc, &mut own, base, entry, id)?;
+        keep_subtree(alloc, &mut own, base, entry, id)?;
     }
     Ok(own)
 }
@@ -233,7 +232,7 @@ fn hand<E, F: FnMut(&Tree) -> Result<ObjectId, E>>(
 }
 
 /// Adds the entry with the id that it gets, unless there is none or it is null.
-fn keep(
+fn keep_subtree(
     alloc: Global,
     own: &mut OwnTree,
     base: &[Entry],

@@ -6,11 +6,11 @@ use Rattle.gixobj_object.specs.Stores.{Objects, StoredObject, named}
 use Rattle.gixobj_directories.specs.Openings.{AreTreesOf, NamesTree}
 use Rattle.gixobj_files.proofs.ListedTables.{fitting_table}
 use Rattle.gixobj_files.specs.Files.{Table, Trees}
-use Rattle.gixobj_files.specs.Tables.{AgreesWithPairs, FitsBeside, IsUnaskedId, Pair}
+use Rattle.gixobj_files.specs.Tables.{AgreesWithPairs, FitsBeside, IsUnaskedId}
 use Rattle.gixobj_hash.specs.declared.hash.object_id.ObjectId.{ObjectId}
 use Rattle.gixobj_find.specs.Keeping.{tree_object, with_tree, with_trees}
 use Rattle.gixobj_tree.specs.TreeReading.{IsTreeText}
-use Rattle.gixobj_tree.specs.Entries.{EntryView}
+use Rattle.gixobj_tree.specs.Entries.{EntryView, Pair}
 use Rattle.gixobj_editor.specs.Commands.{pairs_handed_out, pairs_kept}
 use Rattle.gixobj_editor.specs.RunTables.{AgreesWithObjects, AgreesWithRun, ReadsAsItself}
 use Rattle.gixobj_editor.specs.declared.reply.Reply.{Reply}

@@ -11,7 +11,7 @@ use Rattle.gixobj_directories.specs.declared.write.Written.{Written}
 use Rattle.gixobj_editor.specs.Cursors.{prefix_of}
 use Rattle.gixobj_files.specs.Files.{Path}
 use Rattle.gixobj_files.specs.State.{State}
-use Rattle.gixobj_files.specs.Tables.{Pair}
+use Rattle.gixobj_tree.specs.Entries.{Pair}
 use Rattle.gixobj_editor.specs.Commands.{Place, at_cursor, at_root, pairs_handed_out, pairs_of, pairs_of_edit}
 use Rattle.gixobj_editor.specs.Replies.{Answers, AreEditReplies, Gives, IsEditReply, IsReply, IsReplyAt, IsRun, IsWrittenAt, Meaning}
 use Rattle.gixobj_editor.specs.declared.reply.EditReply.{EditReply}

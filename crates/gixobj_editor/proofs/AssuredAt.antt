@@ -31,7 +31,7 @@ use Rattle.gixobj_editor.specs.declared.editor.error.Error.{Error}
 use Rattle.gixobj_editor.specs.declared.editor.error.Error.TheVariants as error
 use Rattle.gixobj_editor.proofs.Edited.{EditedSo, OpenedOn, OpenedSo, as_map, at_files, dirs_at, edited_map, known_above, map_bases, map_dirs, no_other, on_map, same_dirs, state_of}
 use Rattle.gixobj_files.proofs.Calls.{assured_based}
-use Rattle.gixobj_editor.proofs.Paths.{counted_raised, strictly_above}
+use Rattle.gixobj_editor.proofs.Paths.{strictly_above}
 
 pub still_assured : (path : Path) (null : ObjectId) (mid ds : Opened) → AllByRecursion IsEntryName path → IsOpened (dirs_of mid) → ((at : Path) → dirs_of ds at ≡ assured_dirs path null (dirs_of mid) at) → IsOpened (dirs_of ds)
 still_assured path null mid ds names all assured = subst (λ (d : Dirs). IsOpened d) (sym (λ i at. assured at i)) (opened_assured path null (dirs_of mid) names all)
@@ -85,7 +85,7 @@ module _ {S : Type 0} (store : S) (hash : Kind) (prefix : Path) (trees : Trees) 
         opens = opened;
         dirs = λ at. dirs_at ds' at ∙ assured at;
         bases = edited_map ds mid ds' first then;
-        lookups = count ∙ counted_raised n asked ∙ ap (raised n) (asked_count trees at_files path [] (map_dirs ds) (dirs_of mid) asked opened);
+        lookups = count ∙ ap (raised n) (asked_count trees at_files path [] (map_dirs ds) (dirs_of mid) asked opened);
         rest = refl;
         is_opened = as_map ds' (still_assured path (null_id hash) mid ds' (recursion_from_All IsEntryName path names) (opened_opening trees path (dirs_of ds) (dirs_of mid) asked opens was.opened) assured);
         known = known_above at_files trees (inside path) path [] refl (map_dirs ds) (dirs_of mid) asked opened;

@@ -12,9 +12,8 @@ use Rattle.gixobj_editor.specs.Cursors.{IsWrittenBelow}
 use Rattle.gixobj_editor.specs.Writes.{IsWrittenEditor}
 use Rattle.gixobj_files.specs.Files.{Path}
 use Rattle.gixobj_files.specs.State.{State}
-use Rattle.gixobj_files.specs.Tables.{Pair}
 use Rattle.gixobj_hash.specs.declared.hash.object_id.ObjectId.{ObjectId}
-use Rattle.gixobj_tree.specs.Entries.{EntryView}
+use Rattle.gixobj_tree.specs.Entries.{EntryView, Pair}
 use Rattle.gixobj_editor.specs.Replies.{Answers, Denies, Gives}
 
 -- the members of the closure, and those of a reference to it

@@ -37,7 +37,7 @@ use Rattle.gixobj_editor.specs.Upserts.{IsOpenedInPart, IsRefused, IsUpserted, R
 use Rattle.gixobj_editor.specs.declared.editor.error.Error.{Error}
 use Rattle.gixobj_editor.specs.declared.editor.error.Error.TheVariants as error
 use Rattle.gixobj_editor.proofs.InPart.{halted_in_part, none_in_part, opened_in_part}
-use Rattle.gixobj_editor.proofs.Paths.{counted_raised, directory_is, strictly_above}
+use Rattle.gixobj_editor.proofs.Paths.{directory_is, strictly_above}
 
 -- the open directories of an editor
 abbrev pub map_of : Opened → DirMap
@@ -206,7 +206,7 @@ module _ {S : Type 0} (store : S) (hash : Kind) (prefix : Path) (trees : Trees) 
         opens = subst (λ p. Opens IsNoTree trees p (map_dirs ds) (dirs_of mid) asked) (sym (ap directory_of is ∙ directory_is front last)) opened;
         dirs = λ at. dirs_at ds' at ∙ put at;
         bases = edited_map ds mid ds' first then;
-        lookups = count ∙ counted_raised n asked ∙ ap (raised n) (asked_count trees at_files front last (map_dirs ds) (dirs_of mid) asked opened ∙ ap (unopened_count trees (map_dirs ds)) (sym is));
+        lookups = count ∙ ap (raised n) (asked_count trees at_files front last (map_dirs ds) (dirs_of mid) asked opened ∙ ap (unopened_count trees (map_dirs ds)) (sym is));
         rest = refl;
         is_opened = as_map ds' (still_put path mode id (null_id hash) mid ds' (recursion_from_All IsEntryName path names) (opened_opening trees front (dirs_of ds) (dirs_of mid) asked opens was.opened) put);
         known = known_above at_files trees path front last is (map_dirs ds) (dirs_of mid) asked opened;
@@ -238,7 +238,7 @@ module _ {S : Type 0} (store : S) (hash : Kind) (prefix : Path) (trees : Trees) 
         vain = so.vain;
         one = so.one;
         next = λ it is. subst (λ (d : Dirs). IsNextUnopened trees d so.front so.more it) (sym (same_dirs ds)) (so.next it is);
-        lookups = so.lookups ∙ counted_raised n (so.asked ++ so.vain);
+        lookups = so.lookups;
         few = subst (λ (d : Dirs). length (so.asked ++ so.vain) ≤ unopened_count trees d path) (sym (same_dirs ds)) so.few;
         rest = refl;
         is_opened = as_map ds' (opened_opening trees so.front (dirs_of ds) (dirs_of ds') so.asked so.opens was.opened);

@@ -3,15 +3,12 @@ use Rattle.std.proofs.Common.{◌≡◌, ◌+◌, ℕ, zero, suc, List, [], ◌�
 use Rattle.std.proofs.Math.Seq.{take-append-add}
 use Rattle.gixobj_object.specs.Stores.{Objects}
 use Rattle.gixobj_files.specs.Files.{Table}
-use Rattle.gixobj_files.specs.Tables.{AgreesWithPairs, Pair}
-use Rattle.gixobj_find.specs.Keeping.{with_tree, with_trees}
+use Rattle.gixobj_tree.specs.Entries.{Pair}
+use Rattle.gixobj_files.specs.Tables.{AgreesWithPairs}
+use Rattle.gixobj_find.proofs.Trees.{kept_on}
+use Rattle.gixobj_find.specs.Keeping.{with_trees}
 use Rattle.gixobj_editor.specs.RunTables.{AgreesWithObjects}
 use Rattle.gixobj_editor.proofs.KeptPairs.{all_first, all_then}
-
--- trees that are kept behind others
-pub kept_on : (first then : List Pair) (objects : Objects) → with_trees (first ++ then) objects ≡ with_trees then (with_trees first objects)
-kept_on [] then objects = refl
-kept_on (pair ∷ first) then objects = kept_on first then (with_tree pair objects)
 
 -- the store after these trees, and after those more
 pub then_kept : (first then : List Pair) (old between new : Objects) → between ≡ with_trees first old → new ≡ with_trees then between → new ≡ with_trees (first ++ then) old

@@ -23,9 +23,9 @@ use Rattle.gixobj_files.specs.Files.{NamedFiles, Path, SameFiles, Table, Trees}
 use Rattle.gixobj_files.specs.History.{History, Step}
 use Rattle.gixobj_files.specs.Opening.{Dirs, HasAt, IsOpened}
 use Rattle.gixobj_files.specs.State.{DirMap, EditorFiles, State, open_bases, open_dirs, root_alone}
-use Rattle.gixobj_files.specs.Tables.{AgreesWithPairs, AgreesWithStore, Pair}
+use Rattle.gixobj_files.specs.Tables.{AgreesWithPairs, AgreesWithStore}
 use Rattle.gixobj_hash.specs.Hash.{null_id}
-use Rattle.gixobj_tree.specs.Entries.{EntryView, IsWellFormed}
+use Rattle.gixobj_tree.specs.Entries.{EntryView, IsWellFormed, Pair}
 use Rattle.gixobj_tree.specs.Mode.{is_tree_mode, mode_of_kind}
 use Rattle.gixobj_tree.specs.declared.tree.entry_kind.EntryKind.{EntryKind}
 use Rattle.gixobj_tree.specs.declared.tree.entry_kind.EntryKind.TheVariants as kind

@@ -1,12 +1,10 @@
--- Paths, their directories, and counts of lookups.
-use Rattle.std.proofs.Common.{◌≡◌, ◌∙◌, ◌⊎◌, ◌+◌, inl, inr, ℕ, min, List, [], ◌∷◌, ◌++◌, append-nil, arith, length, length-append, refl, sym, ap}
+-- Paths, and their directories.
+use Rattle.std.proofs.Common.{◌≡◌, ◌∙◌, ◌⊎◌, inl, inr, ℕ, List, [], ◌∷◌, ◌++◌, append-nil, arith, length, length-append, refl, sym, ap}
 use Rattle.std.proofs.lemmas.List.{map-append}
 use Rattle.bstr.specs.Owned.{bstring_bytes}
 use Rattle.bstr.specs.declared.bstring.BString.{BString}
 use Rattle.gixobj_directories.specs.Calls.{names_of}
-use Rattle.gixobj_files.specs.Edits.{counted, raised}
 use Rattle.gixobj_files.specs.Files.{Path}
-use Rattle.gixobj_hash.specs.declared.hash.object_id.ObjectId.{ObjectId}
 use Rattle.gixobj_editor.specs.Upserts.{directory_of}
 
 pub directory_is : (front : Path) (last : List ℕ) → directory_of (front ++ last ∷ []) ≡ front
@@ -28,10 +26,6 @@ first_of x y xs ys is = cc is
 
 others_of : (x y : List ℕ) (xs ys : Path) → x ∷ xs ≡ y ∷ ys → xs ≡ ys
 others_of x y xs ys is = cc is
-
-pub counted_raised : (n : ℕ) (asked : List ObjectId) → counted n asked ≡ raised n (length asked)
-counted_raised n [] = refl
-counted_raised n (id ∷ asked) = counted_raised (min (n + 1) 18446744073709551615) asked
 
 -- two cuts of one path: the second is within the first part, or at the same place, or behind it
 pub cuts : (front : Path) (last : List ℕ) (behind place : Path) (next : List ℕ) (rest : Path) → front ++ last ∷ behind ≡ place ++ next ∷ rest

@@ -31,10 +31,10 @@ use Rattle.gixobj_files.specs.Files.{Has, Path, Table, Trees, is_null}
 use Rattle.gixobj_files.specs.HandingOut.{Leaves, leaves}
 use Rattle.gixobj_files.specs.Opening.{Dirs, IsOpened, in_path}
 use Rattle.gixobj_files.specs.State.{DirMap, State, open_bases, open_dirs, root_alone}
-use Rattle.gixobj_files.specs.Tables.{AgreesWithPairs, AgreesWithStore, Pair}
+use Rattle.gixobj_files.specs.Tables.{AgreesWithPairs, AgreesWithStore}
 use Rattle.gixobj_hash.specs.Hash.{null_id}
 use Rattle.gixobj_hash.specs.declared.hash.object_id.ObjectId.{ObjectId}
-use Rattle.gixobj_tree.specs.Entries.{EntryView}
+use Rattle.gixobj_tree.specs.Entries.{EntryView, Pair}
 use Rattle.gixobj_tree.specs.Mode.{is_tree_mode}
 use Rattle.gixobj_editor.proofs.Paths.{directory_is}
 use Rattle.gixobj_editor.proofs.Removing.{path_ends}

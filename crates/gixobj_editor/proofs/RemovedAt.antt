@@ -25,7 +25,7 @@ use Rattle.gixobj_directories.specs.Openings.{EndsBefore}
 use Rattle.gixobj_directories.specs.declared.opening.Unasked.{Unasked}
 use Rattle.gixobj_files.proofs.Calls.{removed_based}
 use Rattle.gixobj_editor.proofs.InPart.{front_in_part}
-use Rattle.gixobj_editor.proofs.Paths.{counted_raised, directory_begins, directory_is}
+use Rattle.gixobj_editor.proofs.Paths.{directory_begins, directory_is}
 use Rattle.gixobj_editor.proofs.Removing.{IsOpenedFor, path_ends}
 
 nothing_asked : {Ends : EntryView → Type 0} (trees : Trees) (p : Path) → p ≡ [] → (old new : Dirs) (asked : List ObjectId) → Opens Ends trees p old new asked → length asked ≡ 0
@@ -96,7 +96,7 @@ module _ {S : Type 0} (store : S) (hash : Kind) (prefix : Path) (trees : Trees) 
         opens = so.0;
         dirs = λ at. ap (λ (d : Dirs). d at) new_is;
         bases = edited_map ds mid ds' first then;
-        lookups = count ∙ counted_raised n asked ∙ ap (raised n) (count_above idle trees path (map_dirs ds) (dirs_of mid) asked so.0);
+        lookups = count ∙ ap (raised n) (count_above idle trees path (map_dirs ds) (dirs_of mid) asked so.0);
         rest = refl;
         is_opened = as_map ds' (still_taken path mid ds' (opened_opening trees (directory_of path) (dirs_of ds) (dirs_of mid) asked opened.0 was.opened) take);
         known = all_known idle trees path (map_dirs ds) (dirs_of mid) asked so.0;

@@ -20,9 +20,9 @@ use Rattle.gixobj_files.specs.History.{History, Step}
 use Rattle.gixobj_files.specs.Opening.{OpenFiles}
 use Rattle.gixobj_files.specs.PlainHistory.{HasNoTree, NoFiles}
 use Rattle.gixobj_files.specs.State.{DirMap, EditorFiles, State, root_alone}
-use Rattle.gixobj_files.specs.Tables.{AgreesWithPairs, HasOneId, Pair}
+use Rattle.gixobj_files.specs.Tables.{AgreesWithPairs, HasOneId}
 use Rattle.gixobj_hash.specs.declared.hash.object_id.ObjectId.{ObjectId}
-use Rattle.gixobj_tree.specs.Entries.{EntryView}
+use Rattle.gixobj_tree.specs.Entries.{EntryView, Pair}
 use Rattle.gixobj_tree.specs.Mode.{is_tree_mode, mode_of_kind}
 use Rattle.gixobj_tree.specs.declared.tree.entry_kind.EntryKind.{EntryKind}
 use Rattle.gixobj_tree.specs.declared.tree.entry_kind.EntryKind.TheVariants as kind

@@ -11,12 +11,12 @@ use Rattle.gixobj_files.specs.Files.{Path, SameFiles}
 use Rattle.gixobj_files.specs.HandingOut.{Leaves, Saves}
 use Rattle.gixobj_files.specs.Opening.{Dirs, IsOpened, OpenFiles, in_path}
 use Rattle.gixobj_files.specs.State.{State, open_dirs}
-use Rattle.gixobj_files.specs.Tables.{AgreesWithPairs, Pair}
+use Rattle.gixobj_files.specs.Tables.{AgreesWithPairs}
 use Rattle.gixobj_files.proofs.BelowPrefix.{at_prefix, opened_replaced}
 use Rattle.gixobj_files.proofs.CursorFiles.{written_below_files, written_same_files}
 use Rattle.gixobj_hash.specs.declared.hash.kind.Kind.{Kind}
 use Rattle.gixobj_hash.specs.declared.hash.object_id.ObjectId.{ObjectId}
-use Rattle.gixobj_tree.specs.Entries.{EntryView}
+use Rattle.gixobj_tree.specs.Entries.{EntryView, Pair}
 use Rattle.gixobj_directories.specs.declared.write.Written.{Written}
 use Rattle.gixobj_editor.specs.Cursors.{IsWrittenBelow}
 use Rattle.gixobj_editor.proofs.Edited.{EditedSo, OpenedOn, as_map, map_bases, map_dirs, on_map, only_edited_map, same_bases, same_dirs, state_of}

@@ -3,14 +3,14 @@ use Rattle.std.proofs.Common.{All, ◌≡◌, ◌∙◌, ℕ, List, [], ◌∷�
 use Rattle.std.specs.Prelude.{MatchOption}
 use Rattle.std.specs.List.{AllByRecursion, FoldsTo}
 use Rattle.std.proofs.lemmas.List.Elements.{All-from_recursion, recursion_from_All}
-use Rattle.gixobj_tree.specs.Entries.{EntryView}
+use Rattle.gixobj_tree.specs.Entries.{EntryView, Pair}
 use Rattle.gixobj_hash.specs.declared.hash.kind.Kind.{Kind}
 use Rattle.gixobj_hash.specs.declared.hash.object_id.ObjectId.{ObjectId}
 use Rattle.gixobj_files.specs.Files.{Files, Path, SameFiles, Table}
 use Rattle.gixobj_files.specs.HandingOut.{Leaves, Saves}
 use Rattle.gixobj_files.specs.Opening.{Dirs, OpenFiles}
 use Rattle.gixobj_files.specs.State.{State}
-use Rattle.gixobj_files.specs.Tables.{AgreesWithPairs, Pair}
+use Rattle.gixobj_files.specs.Tables.{AgreesWithPairs}
 use Rattle.gixobj_files.proofs.EditedFiles.{root_files, same_trans}
 use Rattle.gixobj_files.proofs.WrittenFiles.{known_left, known_right, leaves_files, opened_trees}
 use Rattle.gixobj_directories.specs.Calls.{IsStorable}

@@ -3,12 +3,12 @@ use Rattle.std.specs.Prelude.{◌≡◌, ℕ, List, Some, take}
 use Rattle.gixobj_object.specs.Stores.{Objects}
 use Rattle.gixobj_directories.specs.Openings.{AreTreesOf, NamesTree}
 use Rattle.gixobj_files.specs.Files.{Table, Trees}
-use Rattle.gixobj_files.specs.Tables.{AgreesWithPairs, IsUnaskedId, Pair}
+use Rattle.gixobj_files.specs.Tables.{AgreesWithPairs, IsUnaskedId}
 use Rattle.gixobj_hash.specs.Hash.{id_kind}
 use Rattle.gixobj_hash.specs.declared.hash.object_id.ObjectId.{ObjectId}
 use Rattle.gixobj_find.specs.Keeping.{with_trees}
 use Rattle.gixobj_tree.specs.TreeReading.{IsTreeText}
-use Rattle.gixobj_tree.specs.Entries.{EntryView, IsWellFormed}
+use Rattle.gixobj_tree.specs.Entries.{EntryView, IsWellFormed, Pair}
 use Rattle.gixobj_tree.specs.TreeText.{tree_text}
 use Rattle.gixobj_editor.specs.Commands.{pairs_handed_out, pairs_kept}
 use Rattle.gixobj_editor.specs.declared.reply.Reply.{Reply}

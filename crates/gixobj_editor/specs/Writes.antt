@@ -7,8 +7,8 @@ use Rattle.gixobj_files.specs.Bases.{HasBases, edited_bases}
 use Rattle.gixobj_files.specs.Files.{NamedFiles, Path, SameFiles, Table}
 use Rattle.gixobj_files.specs.HandingOut.{HandsOut}
 use Rattle.gixobj_files.specs.State.{EditorFiles, State, open_bases, open_dirs, root_alone}
-use Rattle.gixobj_files.specs.Tables.{AgreesWithPairs, Pair}
-use Rattle.gixobj_tree.specs.Entries.{EntryView}
+use Rattle.gixobj_files.specs.Tables.{AgreesWithPairs}
+use Rattle.gixobj_tree.specs.Entries.{EntryView, Pair}
 
 -- a write that came through: its pairs went out, the root's own last, and the closure was called on these trees alone, in this order;
 -- the root alone is open, with the tree handed out last; the tree that is named has the editor's files, which stay

@@ -61,7 +61,7 @@ pub(crate) fn reply_to_edit<E>(done: Result<(), Error>) -> EditReply<E>
 }
 
 /// Adds an item for which there is room.
-pub(crate) fn push_reserved<T: Drop>(list: &mut Vec<T>, item: T)
+pub fn push_reserved<T: Drop>(list: &mut Vec<T>, item: T)
     requires { vec_len list.old < vec_capacity list.old }
     ensures items { list.new.items ≡ list.old.items ++ item ∷ [] }
     ensures len { vec_len list.new ≡ vec_len list.old + 1 }

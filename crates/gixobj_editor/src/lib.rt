@@ -5,7 +5,7 @@
 mod by_cursor;
 pub mod command;
 pub mod editor;
-mod edits;
+pub mod edits;
 pub mod laws;
 pub mod reply;
 mod running;

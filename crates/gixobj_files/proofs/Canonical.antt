@@ -4,11 +4,11 @@ use Rattle.std.specs.Prelude.{MatchOption}
 use Rattle.std.specs.List.{AllByRecursion}
 use Rattle.std.proofs.lemmas.Cmp.{nat_list_cmp_total}
 use Rattle.std.proofs.lemmas.List.Elements.{All-contains}
-use Rattle.gixobj_tree.specs.Entries.{ComesBefore, EachLater, EntryView, IsWellFormed, entry_key, entry_of}
+use Rattle.gixobj_tree.specs.Entries.{ComesBefore, EachLater, EntryView, IsWellFormed, Pair, entry_key, entry_of}
 use Rattle.gixobj_tree.specs.Mode.{is_tree_mode, tree_type}
 use Rattle.gixobj_hash.specs.declared.hash.object_id.ObjectId.{ObjectId}
 use Rattle.gixobj_files.specs.Files.{Below, Files, Has, Path, SameFiles, Table, is_null}
-use Rattle.gixobj_files.specs.Tables.{AgreesWithPairs, HasOneId, Pair}
+use Rattle.gixobj_files.specs.Tables.{AgreesWithPairs, HasOneId}
 use Rattle.gixobj_files.proofs.OpenedFiles.{below_stands}
 use Rattle.gixobj_tree.proofs.WellFormed.{comes_trans}
 
@@ -45,6 +45,13 @@ one_entry (e ∷ es) apart x y (inl s) (inl t) q = sym s ∙ t
 one_entry (e ∷ es) apart x y (inl s) (inr k) q = absurd (differs e es y apart.0 k (ap (λ (w : EntryView). w.name) s ∙ q))
 one_entry (e ∷ es) apart x y (inr h) (inl t) q = absurd (differs e es x apart.0 h (ap (λ (w : EntryView). w.name) t ∙ sym q))
 one_entry (e ∷ es) apart x y (inr h) (inr k) q = one_entry es apart.1 x y h k q
+
+-- entries of one mode, one name and one id are one
+same_entry : (mode other : ℕ) (name its_name : List ℕ) (id its_id : ObjectId) → mode ≡ other → name ≡ its_name → id ≡ its_id → entry_of mode name id ≡ entry_of other its_name its_id
+same_entry mode other name its_name id its_id m n i = cc (m, n, i)
+
+pub named_alike : (x y : EntryView) → x.mode ≡ y.mode → x.name ≡ y.name → x.id ≡ y.id → x ≡ y
+named_alike x y m n i = same_entry x.mode y.mode x.name y.name x.id y.id m n i
 
 -- a well-formed list without null ids
 pub record IsClean (entries : List EntryView) : Type 0 where
@@ -116,12 +123,6 @@ module _ (T : Table) (pairs : List Pair) (known : AgreesWithPairs T pairs) where
   -- entries of one name in trees of the same files are one, where their trees are one
   abbrev Same : List EntryView → List EntryView → Type 0
   Same xs ys = (n : ℕ) → SameFiles (Files T n xs) (Files T n ys)
-
-  same_entry : (mode other : ℕ) (name its_name : List ℕ) (id its_id : ObjectId) → mode ≡ other → name ≡ its_name → id ≡ its_id → entry_of mode name id ≡ entry_of other its_name its_id
-  same_entry mode other name its_name id its_id m n i = cc (m, n, i)
-
-  named_alike : (x y : EntryView) → x.mode ≡ y.mode → x.name ≡ y.name → x.id ≡ y.id → x ≡ y
-  named_alike x y m n i = same_entry x.mode y.mode x.name y.name x.id y.id m n i
 
   both : (one : HasOneId pairs) (xs ys : List EntryView) → IsClean xs → IsClean ys → Same xs ys → (x y : EntryView) → Has xs x → Has ys y → x.name ≡ y.name
       → (is_tree_mode x.mode ≡ true → x.mode ≡ tree_type) → (is_tree_mode y.mode ≡ true → y.mode ≡ tree_type)

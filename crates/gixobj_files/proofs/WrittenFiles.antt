@@ -2,7 +2,7 @@
 use Rattle.std.proofs.Common.{◌≡◌, ◌⊎◌, inl, inr, ⊎_elim, ℕ, zero, suc, true, false, cond, List, [], ◌∷◌, ◌++◌, refl, sym, ap, subst, ◌∙◌, Option, Some, None}
 use Rattle.std.specs.Prelude.{MatchOption}
 use Rattle.std.specs.List.{AllByRecursion}
-use Rattle.gixobj_tree.specs.Entries.{EntryView}
+use Rattle.gixobj_tree.specs.Entries.{EntryView, Pair}
 use Rattle.gixobj_tree.specs.Mode.{is_tree_mode}
 use Rattle.gixobj_hash.specs.declared.hash.object_id.ObjectId.{ObjectId}
 use Rattle.gixobj_files.specs.Files.{Below, Files, Has, Path, SameFiles, Table, is_null, stands_for}
@@ -10,7 +10,6 @@ use Rattle.gixobj_files.proofs.Based.{Based}
 use Rattle.gixobj_files.proofs.Everywhere.{Everywhere}
 use Rattle.gixobj_files.specs.HandingOut.{Leaves, Walks, emptied, end, entry_with, leaves, shut, unchanged, written}
 use Rattle.gixobj_files.specs.Opening.{Dirs, HasAt, IsOpened, OpenFiles, in_dir}
-use Rattle.gixobj_files.specs.Tables.{Pair}
 use Rattle.gixobj_files.proofs.OpenedFiles.{Stands, no_entries}
 use Rattle.gixobj_files.proofs.Canonical.{one_entry}
 

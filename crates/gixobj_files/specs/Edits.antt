@@ -1,5 +1,5 @@
 -- The open directories after an edit, and after the directories on a path were opened.
-use Rattle.std.specs.Prelude.{◌≡◌, ◌⊎◌, ◌+◌, ◌++◌, min, ℕ, zero, suc, true, false, List, [], ◌∷◌, Option, Some, None, if◌then◌else◌}
+use Rattle.std.specs.Prelude.{◌≡◌, ◌⊎◌, ◌+◌, ◌-◌, ◌^◌, ◌++◌, length, min, ℕ, zero, suc, true, false, List, [], ◌∷◌, Option, Some, None, if◌then◌else◌}
 use Rattle.std.specs.Option.{option_map}
 use Rattle.std.specs.List.{find}
 use Rattle.gixobj_tree.specs.Entries.{EntryView, IsWellFormed}
@@ -84,15 +84,18 @@ abbrev pub Finds : Trees → ObjectId → List EntryView → List ObjectId → T
 Finds trees id entries asked =
     IsWellFormed entries × ((IsUnaskedId id × (entries ≡ []) × (asked ≡ [])) ⊎ ((¬ IsUnaskedId id) × (trees id ≡ Some entries) × (asked ≡ id ∷ [])))
 
--- a count that stays at the greatest u64
-abbrev pub counted : ℕ → List ObjectId → ℕ
-counted n [] = n
-counted n (id ∷ asked) = counted (min (n + 1) 18446744073709551615) asked
+-- the greatest count: the greatest u64
+abbrev pub greatest_count : ℕ
+greatest_count = 2 ^ 64 - 1
 
--- a count raised so many times by one; it stays at the greatest u64
+-- a count raised so many times by one; it stays at the greatest one
 abbrev pub raised : ℕ → ℕ → ℕ
 raised n zero = n
-raised n (suc times) = raised (min (n + 1) 18446744073709551615) times
+raised n (suc times) = raised (min (n + 1) greatest_count) times
+
+-- a count after these questions
+abbrev pub counted : ℕ → List ObjectId → ℕ
+counted n asked = raised n (length asked)
 
 -- an opening may end before an entry that is no tree's; or before one that the store isn't asked for too, by the null id or the empty
 -- tree's

@@ -1,11 +1,10 @@
 -- The trees that a write hands out, with the ids that they get: those of changed directories alone.
 use Rattle.std.specs.Prelude.{◌≡◌, ◌≢◌, ◌+◌, ℕ, List, [], ◌∷◌, ◌++◌, Some, None, if◌then◌else◌}
-use Rattle.gixobj_tree.specs.Entries.{EntryView}
+use Rattle.gixobj_tree.specs.Entries.{EntryView, Pair}
 use Rattle.gixobj_hash.specs.declared.hash.object_id.ObjectId.{ObjectId}
 use Rattle.gixobj_files.specs.Edits.{raised}
 use Rattle.gixobj_files.specs.Files.{is_null}
 use Rattle.gixobj_files.specs.Opening.{Dirs, in_dir}
-use Rattle.gixobj_files.specs.Tables.{Pair}
 
 -- the entry with this id; no entry with a null id is handed out
 abbrev pub entry_with : EntryView → ObjectId → List EntryView

@@ -1,15 +1,11 @@
 -- Which tables fit what a store names and what was handed out.
 use Rattle.std.specs.Prelude.{◌≡◌, ◌≢◌, ◌⊎◌, true, List, [], ◌∷◌, All, Contains, IsFalse, Option, Some, None}
-use Rattle.gixobj_tree.specs.Entries.{EntryView}
+use Rattle.gixobj_tree.specs.Entries.{EntryView, Pair}
 use Rattle.gixobj_hash.specs.Hash.{id_kind, id_of}
 use Rattle.gixobj_hash.specs.declared.hash.kind.Kind.{Kind}
 use Rattle.gixobj_hash.specs.declared.hash.object_id.ObjectId.{ObjectId}
 use Rattle.gixobj_hash.specs.declared.kind.Kind.TheVariants.{Tree}
 use Rattle.gixobj_files.specs.Files.{Table, Trees, is_null}
-
--- an id and the tree that got it
-abbrev pub Pair : Type 0
-Pair = ObjectId × List EntryView
 
 -- an id that stands for no files and is never asked for: the null id, or that of the empty tree
 abbrev pub IsUnaskedId : ObjectId → Type 0

@@ -1,14 +1,14 @@
 //! Laws of the definitions. Each function does nothing: its contract is the law.
 ghost use Rattle.std.specs.Prelude.{◌↔◌, ◌≤◌, ℕ, All, List, length};
 ghost use Rattle.std.specs.FinMap as map;
-ghost use Rattle.gixobj_tree.specs.Entries.{EntryView, IsWellFormed};
+ghost use Rattle.gixobj_tree.specs.Entries.{EntryView, IsWellFormed, Pair};
 ghost use Rattle.gixobj_hash.specs.declared.hash.object_id.ObjectId.{ObjectId};
 ghost use Rattle.gixobj_files.specs.Files.{Path, Table, Trees};
 ghost use Rattle.gixobj_files.specs.History.{History, Step};
 ghost use Rattle.gixobj_files.specs.Opening.{IsOpened};
 ghost use Rattle.gixobj_files.specs.PlainHistory.{HasNoTree, NoFiles, PlainHistory};
 ghost use Rattle.gixobj_files.specs.State.{root_alone};
-ghost use Rattle.gixobj_files.specs.Tables.{AgreesWithPairs, AgreesWithStore, FitsBeside, IsOwnTable, IsTableOf, Pair};
+ghost use Rattle.gixobj_files.specs.Tables.{AgreesWithPairs, AgreesWithStore, FitsBeside, IsOwnTable, IsTableOf};
 
 /// Every list of ids and trees makes a table, so what holds of every table is said of some.
 pub fn every_list_makes_a_table()

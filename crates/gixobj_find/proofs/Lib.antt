@@ -1,4 +1,4 @@
 mod Nothing
 mod Objects
 mod OfKinds
-mod Trees
+pub mod Trees

@@ -6,25 +6,21 @@ use Rattle.gixobj_fields.specs.Writing.{Refused, RefusesNothing}
 use Rattle.gixobj_hash.specs.Hash.{id_kind}
 use Rattle.gixobj_hash.specs.declared.hash.object_id.ObjectId.{ObjectId}
 use Rattle.gixobj_hash.specs.declared.kind.Kind.TheVariants.{Commit, Tree}
-use Rattle.gixobj_tree.specs.Entries.{EntryView}
+use Rattle.gixobj_tree.specs.Entries.{EntryView, Pair}
 use Rattle.gixobj_tree.specs.TreeText.{RefusesTree, tree_text}
 use Rattle.gixobj_find.specs.declared.keeping.KeepError.{KeepError}
 use Rattle.gixobj_find.specs.declared.keeping.KeepError.TheVariants.{OutOfMemory, Store}
-
--- a tree, by the id under which it is kept
-abbrev pub Kept : Type 0
-Kept = ObjectId × List EntryView
 
 -- the tree as it is written, as an object with ids of this one's kind
 abbrev pub tree_object : ObjectId → List EntryView → StoredObject
 tree_object id entries = record { kind = Tree; object_hash = id_kind id; bytes = tree_text entries }
 
 -- the tree is put in under its id, and all else stays
-abbrev pub with_tree : Kept → Objects → Objects
+abbrev pub with_tree : Pair → Objects → Objects
 with_tree it objects = map.insert objects it.0 (tree_object it.0 it.1)
 
 -- the trees are put in, one after the other
-abbrev pub with_trees : List Kept → Objects → Objects
+abbrev pub with_trees : List Pair → Objects → Objects
 with_trees [] objects = objects
 with_trees (it ∷ trees) objects = with_trees trees (with_tree it objects)
 
@@ -42,8 +38,8 @@ RefusesKeep may_fail id entries (Store message) = IsTrue (may_fail id) ⊎ HasNo
 RefusesKeep may_fail id entries OutOfMemory = ⊤
 
 -- the tree of this number was refused, and those before it are kept
-pub record StopsKeeping (may_fail : ObjectId → Bool) (trees : List Kept) (old new : Objects) (number : ℕ) (error : KeepError) : Type 0 where
-  pub refused : Kept
+pub record StopsKeeping (may_fail : ObjectId → Bool) (trees : List Pair) (old new : Objects) (number : ℕ) (error : KeepError) : Type 0 where
+  pub refused : Pair
   pub at : slice_get trees number ≡ Some refused
   pub refusal : RefusesKeep may_fail refused.0 refused.1 error
   pub kept : new ≡ with_trees (take number trees) old

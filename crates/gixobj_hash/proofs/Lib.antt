@@ -1,4 +1,5 @@
 mod Contents
+pub mod Cuts
 pub mod Digits
 mod EmptyObjects
 pub mod Headers

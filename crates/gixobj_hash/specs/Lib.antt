@@ -1,4 +1,5 @@
 pub mod Bytes
+pub mod Cuts
 pub mod Decode
 pub mod Encode
 pub mod Hash

@@ -10,10 +10,9 @@ use Rattle.gixobj_directories.specs.declared.write.Written.{Written}
 use Rattle.gixobj_editor.specs.Writes.{IsWrittenEditor}
 use Rattle.gixobj_fields.specs.declared.encode.Error as encode
 use Rattle.gixobj_files.specs.State.{State}
-use Rattle.gixobj_files.specs.Tables.{Pair}
 use Rattle.gixobj_hash.specs.declared.hash.kind.Kind as hash
 use Rattle.gixobj_hash.specs.declared.hash.object_id.ObjectId.{ObjectId}
-use Rattle.gixobj_tree.specs.Entries.{EntryView}
+use Rattle.gixobj_tree.specs.Entries.{EntryView, Pair}
 use Rattle.gixobj_editor.specs.Replies.{Denies, Gives}
 use Rattle.gixobj_import.specs.Edited.{Digests}
 

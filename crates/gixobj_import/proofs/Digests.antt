@@ -7,7 +7,7 @@ use Rattle.gixobj_object.specs.Stores.{Objects, StoredObject, named}
 use Rattle.gixobj_directories.specs.declared.write.Written.{Written}
 use Rattle.gixobj_editor.specs.Writes.{IsWrittenEditor}
 use Rattle.gixobj_files.specs.State.{State}
-use Rattle.gixobj_files.specs.Tables.{Pair}
+use Rattle.gixobj_tree.specs.Entries.{Pair}
 use Rattle.gixobj_hash.specs.Hash.{IsHexOfAnId, IsId, Spells, hash_len, hex_text, id_from, id_kind, id_of}
 use Rattle.gixobj_hash.specs.Hash.Hex.{IsHexOf}
 use Rattle.gixobj_hash.specs.declared.hash.kind.Kind as hash

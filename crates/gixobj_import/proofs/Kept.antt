@@ -4,7 +4,7 @@ use Rattle.gixobj_object.specs.Stores.{Objects}
 use Rattle.gixobj_directories.specs.declared.write.Written.{Written}
 use Rattle.gixobj_editor.specs.Writes.{IsWrittenEditor}
 use Rattle.gixobj_files.specs.State.{State, with_store}
-use Rattle.gixobj_files.specs.Tables.{Pair}
+use Rattle.gixobj_tree.specs.Entries.{Pair}
 use Rattle.gixobj_hash.specs.declared.hash.kind.Kind as hash
 use Rattle.gixobj_hash.specs.declared.hash.object_id.ObjectId.{ObjectId}
 use Rattle.gixobj_find.specs.Keeping.{HasText, StopsKeeping, with_trees}

@@ -4,13 +4,13 @@ use Rattle.std.proofs.lemmas.List.Elements.{All-head, All-nil, All-cons, All-tai
 use Rattle.gixobj_object.specs.Stores.{Objects, StoredObject, named}
 use Rattle.gixobj_directories.specs.Openings.{AreTreesOf, NamesTree}
 use Rattle.gixobj_files.specs.Files.{Table, Trees}
-use Rattle.gixobj_files.specs.Tables.{AgreesWithPairs, AgreesWithStore, FitsBeside, Pair}
+use Rattle.gixobj_files.specs.Tables.{AgreesWithPairs, AgreesWithStore, FitsBeside}
 use Rattle.gixobj_hash.specs.declared.hash.object_id.ObjectId.{ObjectId}
 use Rattle.gixobj_hash.specs.declared.kind.Kind.TheVariants.{Tree}
 use Rattle.gixobj_find.specs.Keeping.{commit_object, tree_object, with_commit, with_tree, with_trees}
 use Rattle.gixobj_editor.specs.RunTables.{AgreesWithObjects, ReadsAsItself}
 use Rattle.gixobj_tree.specs.TreeReading.{IsTreeText}
-use Rattle.gixobj_tree.specs.Entries.{EntryView}
+use Rattle.gixobj_tree.specs.Entries.{EntryView, Pair}
 use Rattle.gixobj_import.specs.Commits.{step_text}
 use Rattle.gixobj_import.specs.Imports.{AgreesWithImports, pairs_of_imports, with_imports}
 use Rattle.gixobj_import.specs.declared.import.Imported.{Imported}

@@ -1,5 +1,5 @@
 //! The importer: a tree is edited step by step, and each step becomes a commit.
-ghost use Rattle.std.specs.Prelude.{◌≡◌, ◌<◌, ◌≤◌, ◌+◌, ◌++◌, ◌∷◌, [], ℕ, IfErr, IfOk, None, vec_capacity, vec_len};
+ghost use Rattle.std.specs.Prelude.{◌≡◌, [], ℕ, IfErr, IfOk, None};
 ghost use Rattle.std.specs.Borrow.{Lends, sem};
 ghost use Rattle.gixobj_files.specs.Bases.{HasBases};
 ghost use Rattle.gixobj_files.specs.Files.{Table};
@@ -18,6 +18,7 @@ use gixobj_actor::actor::Signature;
 use gixobj_directories::laws::every_store_names_trees;
 use gixobj_editor::Edit;
 use gixobj_editor::editor::{Editor, Error, WriteError, Written};
+use gixobj_editor::edits::push_reserved;
 use gixobj_fields::encode;
 pub use gixobj_find::KeepCommit;
 use gixobj_find::{Keep, KeepError};
@@ -260,14 +261,4 @@ fn no_list(alloc: Global) -> Stopped
         done: Vec::new(alloc),
         error: ImportError::OutOfMemory,
     }
-}
-
-/// Adds an item for which there is room.
-fn push_reserved<T: Drop>(list: &mut Vec<T>, item: T)
-    requires { vec_len list.old < vec_capacity list.old }
-    ensures items { list.new.items ≡ list.old.items ++ item ∷ [] }
-    ensures len { vec_len list.new ≡ vec_len list.old + 1 }
-    ensures capacity { vec_capacity list.old ≤ vec_capacity list.new }
-{
-    let _ = list.push(item);
 }

@@ -1,6 +1,6 @@
 -- Entries of trees, looked up by their names; and paths through the trees of a store.
-use Rattle.std.specs.Prelude.{◌≡◌, ◌≢◌, ◌++◌, ◌∷◌, ℕ, All, Bool, IsTrue, List, [], None, Option, Some, map}
-use Rattle.std.specs.List.{AllZip, flat_map, zip}
+use Rattle.std.specs.Prelude.{◌≡◌, ◌≢◌, ◌++◌, ◌∷◌, ℕ, Bool, IsTrue, List, [], None, Option, Some, map}
+use Rattle.std.specs.List.{AllZip, zip}
 use Rattle.std.specs.declared.ops.ControlFlow.{ControlFlow}
 use Rattle.std.specs.declared.ops.ControlFlow.TheVariants.{Break, Continue}
 use Rattle.gixobj_fields.specs.Runs as runs
@@ -8,7 +8,7 @@ use Rattle.gixobj_hash.specs.declared.hash.kind.Kind as hash
 use Rattle.gixobj_hash.specs.declared.hash.object_id.ObjectId.{ObjectId}
 use Rattle.gixobj_hash.specs.declared.kind.Kind.TheVariants.{Tree}
 use Rattle.gixobj_hash.specs.Bytes.{slash}
-use Rattle.gixobj_hash.specs.Texts.{IsFree}
+use Rattle.gixobj_hash.specs.Cuts.{IsCutAt}
 use Rattle.gixobj_tree.specs.Entries.{EntryView}
 use Rattle.gixobj_tree.specs.TreeReading.{HasEntry}
 use Rattle.gixobj_tree.specs.TreeViews.{entry_view}
@@ -82,14 +82,6 @@ tree_left reader = record { kind = Tree; object_hash = reader.hash_kind; bytes =
 
 -- ---- paths as texts
 
--- a slash behind the part
-abbrev pub and_slash : List ℕ → List ℕ
-and_slash part = part ++ slash ∷ []
-
--- the text is cut at its slashes into these parts, which have none: with a slash behind each they are the text with a slash behind it
-abbrev pub IsCutInto : List ℕ → List (List ℕ) → Type 0
-IsCutInto text parts = (and_slash text ≡ flat_map and_slash parts) × All (IsFree slash) parts
-
 -- those of the parts that have a byte
 abbrev pub named_parts : List (List ℕ) → List Name
 named_parts [] = []
@@ -98,7 +90,7 @@ named_parts ((byte ∷ bytes) ∷ parts) = (byte ∷ bytes) ∷ named_parts part
 
 -- the names of a path: its parts that have a byte
 abbrev pub AreNamesOf : List ℕ → List Name → Type 0
-AreNamesOf path names = (parts : List (List ℕ)) × IsCutInto path parts × (names ≡ named_parts parts)
+AreNamesOf path names = (parts : List (List ℕ)) × IsCutAt slash path parts × (names ≡ named_parts parts)
 
 -- why no path in a text is followed: why none by its names is; or memory was wanting for a name
 abbrev pub RefusesPathText : Objects → (ObjectId → Bool) → Option StoredObject → List Name → Error → Type 0

@@ -8,7 +8,7 @@ use Rattle.gixobj_directories.specs.Openings.{AreTreesOf}
 use Rattle.gixobj_fields.specs.declared.encode.Error.{Error}
 use Rattle.gixobj_files.specs.Files.{Trees}
 use Rattle.gixobj_files.specs.State.{State}
-use Rattle.gixobj_files.specs.Tables.{FitsBeside, Pair}
+use Rattle.gixobj_files.specs.Tables.{FitsBeside}
 use Rattle.gixobj_hash.specs.Hash.{id_kind, id_of}
 use Rattle.gixobj_hash.specs.Hash.Order.{id_cmp}
 use Rattle.gixobj_hash.specs.declared.hash.kind.Kind.{Kind}
@@ -23,7 +23,7 @@ use Rattle.gixobj_editor.specs.RunTables.{ReadsAsItself}
 use Rattle.gixobj_editor.specs.declared.reply.Reply.{Reply}
 use Rattle.gixobj_find.specs.declared.memory.Memory.{Memory}
 use Rattle.gixobj_tree.specs.Rewriting.{ReadsBack}
-use Rattle.gixobj_tree.specs.Entries.{EntryView}
+use Rattle.gixobj_tree.specs.Entries.{EntryView, Pair}
 use Rattle.gixobj_tree.specs.TreeText.{tree_text}
 use Rattle.gixobj_script.specs.Digests.{HaveOwnIds, IsAnsweredDigest}
 use Rattle.gixobj_script.specs.Edits.{memory_means}

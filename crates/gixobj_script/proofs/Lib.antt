@@ -1,4 +1,3 @@
-mod Cuts
 pub mod Fitting
 mod LineTexts
 mod Reading

@@ -8,7 +8,7 @@ use Rattle.hex.specs.Hex.{is_hex_digit}
 use Rattle.gixobj_editor.specs.Views.{CommandView, EditView, edits_at, one_edit, remove, remove_leaf, set_root, upsert, write}
 use Rattle.gixobj_hash.specs.declared.hash.kind.Kind as hash
 use Rattle.gixobj_hash.specs.declared.hash.object_id.ObjectId.{ObjectId}
-use Rattle.gixobj_script.proofs.Cuts.{one_way, parts_of}
+use Rattle.gixobj_hash.proofs.Cuts.{one_way, parts_of}
 use Rattle.gixobj_script.specs.Lines.{HasCommand, HasEdit, HasNoCommand, HasNoEdit, IsCommandText, IsEditAt, IsEditText, IsEntryAt, IsHexOfId, word_and}
 use Rattle.gixobj_script.specs.Paths.{ArePathNames, dot}
 use Rattle.gixobj_hash.proofs.Splits.{free_by_test, free_of_cut, one_cut}

@@ -4,9 +4,9 @@ use Rattle.std.proofs.lemmas.List.Elements.{All-nil, All-push}
 use Rattle.std.specs.List.{AllZip}
 use Rattle.gixobj_editor.specs.Views.{CommandView}
 use Rattle.gixobj_hash.specs.declared.hash.kind.Kind as hash
-use Rattle.gixobj_script.proofs.Cuts.{AreInFront, and_the_rest, none_in_front, one_more, parts_of, the_last}
+use Rattle.gixobj_hash.proofs.Cuts.{AreInFront, and_the_rest, none_in_front, one_more, parts_of, the_last}
 use Rattle.gixobj_script.specs.Lines.{IsCommandText}
-use Rattle.gixobj_script.specs.Cuts.{IsCutAt}
+use Rattle.gixobj_hash.specs.Cuts.{IsCutAt}
 use Rattle.gixobj_script.specs.Scripts.{IsFirstBad, IsGoodLine, IsReached, IsScript, PutsLine, RefusesScriptLine, RefusesScript, filled_lines}
 use Rattle.gixobj_script.specs.declared.script.ScriptError.{ScriptError}
 use Rattle.gixobj_script.specs.declared.script.ScriptError.TheVariants.{BadLine, OutOfMemory}

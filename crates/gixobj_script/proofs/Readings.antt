@@ -5,11 +5,11 @@ use Rattle.std.proofs.lemmas.List.{append-nil}
 use Rattle.std.specs.List.{AllZip}
 use Rattle.gixobj_editor.specs.Views.{CommandView}
 use Rattle.gixobj_hash.specs.declared.hash.kind.Kind as hash
-use Rattle.gixobj_script.proofs.Cuts.{flat_join, one_way, parts_of}
+use Rattle.gixobj_hash.proofs.Cuts.{flat_join, one_way, parts_of}
 use Rattle.gixobj_script.proofs.LineTexts.{one_command}
 use Rattle.gixobj_script.proofs.Reading.{filled_push}
 use Rattle.gixobj_script.specs.Lines.{IsCommandText}
-use Rattle.gixobj_script.specs.Cuts.{IsCutAt}
+use Rattle.gixobj_hash.specs.Cuts.{IsCutAt}
 use Rattle.gixobj_script.specs.Scripts.{IsBadLine, IsFirstBad, IsGoodLine, IsScript, filled_lines}
 use Rattle.gixobj_hash.specs.Bytes.{newline}
 use Rattle.gixobj_hash.specs.Texts.{IsFree}

@@ -15,9 +15,8 @@ use Rattle.gixobj_editor.specs.Cursors.{prefix_of}
 use Rattle.gixobj_files.specs.Files.{Path}
 use Rattle.gixobj_files.specs.HandingOut.{HandsOutSome}
 use Rattle.gixobj_files.specs.State.{State, open_bases, open_dirs}
-use Rattle.gixobj_files.specs.Tables.{Pair}
 use Rattle.gixobj_hash.specs.declared.hash.object_id.ObjectId.{ObjectId}
-use Rattle.gixobj_tree.specs.Entries.{EntryView}
+use Rattle.gixobj_tree.specs.Entries.{EntryView, Pair}
 use Rattle.gixobj_editor.specs.Commands.{Place, at_cursor, at_root}
 use Rattle.gixobj_editor.specs.Replies.{Answers, AreEditReplies, Denies, Gives, IsEditReply, IsRefusedWrite, IsReply, IsReplyAt, IsRun, IsWriteKept, IsWrittenAt, Meaning, dirs_at}
 use Rattle.gixobj_editor.specs.declared.reply.EditReply.{EditReply}

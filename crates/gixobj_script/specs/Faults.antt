@@ -4,7 +4,8 @@ use Rattle.gixobj_script.specs.declared.editing.EditError.{EditError}
 use Rattle.gixobj_script.specs.declared.editing.EditError.TheVariants as editing
 use Rattle.gixobj_script.specs.declared.fault.Fault.{Fault}
 use Rattle.gixobj_script.specs.declared.fault.Fault.TheVariants as fault
-use Rattle.gixobj_show.specs.Refusal.{line, line_of, exit_status_of}
+use Rattle.gixobj_fields.specs.HeaderText.{line_text}
+use Rattle.gixobj_show.specs.Refusal.{line_of, exit_status_of}
 use Rattle.gixobj_show.specs.declared.refusal.Refusal.TheVariants as refusal
 
 -- the fault of a refusal to run a script
@@ -14,7 +15,7 @@ fault_of editing.OutOfMemory = fault.Refused refusal.OutOfMemory
 
 -- the line that tells of a bad one
 abbrev pub bad_line : ℕ → List ℕ
-bad_line number = line (codes "gixobj: line " ++ decimal number)
+bad_line number = line_text (codes "gixobj: line " ++ decimal number)
 
 -- the line for standard error
 abbrev pub fault_line : Fault → List ℕ

@@ -1,5 +1,4 @@
 pub mod Answers
-pub mod Cuts
 pub mod Digests
 pub mod Edits
 pub mod Engine

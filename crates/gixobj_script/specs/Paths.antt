@@ -1,6 +1,6 @@
 -- The names of paths.
 use Rattle.std.specs.Prelude.{◌≡◌, ◌≢◌, ◌⊎◌, ℕ, List, [], codes}
-use Rattle.gixobj_script.specs.Cuts.{IsCutAt}
+use Rattle.gixobj_hash.specs.Cuts.{IsCutAt}
 use Rattle.gixobj_hash.specs.Bytes.{slash}
 
 -- the path of a single dot

@@ -4,7 +4,7 @@ use Rattle.std.specs.List.{AllZip}
 use Rattle.gixobj_editor.specs.Views.{CommandView}
 use Rattle.gixobj_hash.specs.declared.hash.kind.Kind as hash
 use Rattle.gixobj_script.specs.Lines.{HasCommand, HasNoCommand, IsCommandText}
-use Rattle.gixobj_script.specs.Cuts.{IsCutAt}
+use Rattle.gixobj_hash.specs.Cuts.{IsCutAt}
 use Rattle.gixobj_script.specs.declared.script.ScriptError.{ScriptError}
 use Rattle.gixobj_script.specs.declared.script.ScriptError.TheVariants.{BadLine, OutOfMemory}
 use Rattle.gixobj_hash.specs.Bytes.{newline}

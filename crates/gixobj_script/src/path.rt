@@ -1,7 +1,7 @@
 //! The names of a path in a script.
 ghost use Rattle.std.specs.Prelude.{◌≢◌, IfOk, OnErr};
 ghost use Rattle.gixobj_editor.specs.Views.{path_names};
-ghost use Rattle.gixobj_script.specs.Cuts.{IsCutAt};
+ghost use Rattle.gixobj_hash.specs.Cuts.{IsCutAt};
 ghost use Rattle.gixobj_script.specs.Paths.{ArePathNames, dot};
 
 use bstr::BString;

@@ -1,5 +1,5 @@
 -- Why the program gives no answer, and what it says of it.
-use Rattle.std.specs.Prelude.{ℕ, List, [], ◌∷◌, ◌++◌, codes}
+use Rattle.std.specs.Prelude.{ℕ, List, codes}
 use Rattle.gixobj_base.specs.Decode.{HasLooseHeader}
 use Rattle.gixobj_base.specs.hash.decode.LooseContentError.{LooseContentError}
 use Rattle.gixobj_base.specs.hash.decode.LooseContentError.TheVariants.{Header, Short}
@@ -7,7 +7,7 @@ use Rattle.gixobj_base.specs.hash.decode.LooseHeaderDecodeError.TheVariants as h
 use Rattle.gixobj_base.specs.hash.kind.Kind.{Kind}
 use Rattle.gixobj_show.specs.declared.refusal.Refusal.{Refusal}
 use Rattle.gixobj_show.specs.declared.refusal.Refusal.TheVariants.{Usage, InputFailed, OutputFailed, OutOfMemory, BadHeader, ShortData, NotATree, BadTree}
-use Rattle.gixobj_base.specs.Bytes.{newline}
+use Rattle.gixobj_base.specs.HeaderText.{line_text}
 
 -- the input begins with no loose header
 abbrev pub HasNoLooseHeader : List ℕ → Type 0
@@ -19,20 +19,16 @@ content_refusal (Header header.OutOfMemory) = OutOfMemory
 content_refusal (Header error) = BadHeader
 content_refusal (Short size) = ShortData
 
--- a text and a newline
-abbrev pub line : List ℕ → List ℕ
-line text = text ++ newline ∷ []
-
 -- the line for standard error
 abbrev pub line_of : Refusal → List ℕ
-line_of Usage = line (codes "usage: gixobj show|tree|edit [sha256]")
-line_of InputFailed = line (codes "gixobj: input failed")
-line_of OutputFailed = line (codes "gixobj: output failed")
-line_of OutOfMemory = line (codes "gixobj: out of memory")
-line_of BadHeader = line (codes "gixobj: bad header")
-line_of ShortData = line (codes "gixobj: short data")
-line_of NotATree = line (codes "gixobj: not a tree")
-line_of BadTree = line (codes "gixobj: bad tree")
+line_of Usage = line_text (codes "usage: gixobj show|tree|edit [sha256]")
+line_of InputFailed = line_text (codes "gixobj: input failed")
+line_of OutputFailed = line_text (codes "gixobj: output failed")
+line_of OutOfMemory = line_text (codes "gixobj: out of memory")
+line_of BadHeader = line_text (codes "gixobj: bad header")
+line_of ShortData = line_text (codes "gixobj: short data")
+line_of NotATree = line_text (codes "gixobj: not a tree")
+line_of BadTree = line_text (codes "gixobj: bad tree")
 
 -- the exit status
 abbrev pub exit_status_of : Refusal → ℕ

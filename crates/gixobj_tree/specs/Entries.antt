@@ -58,3 +58,7 @@ pub record IsWellFormed (entries : List EntryView) : Type 0 where
   pub names : AllByRecursion (λ e. IsEntryName e.name) entries
   pub apart : EachLater (λ x y. x.name ≢ y.name) entries
   pub ascending : EachLater ComesBefore entries
+
+-- an id, and the tree that it names
+abbrev pub Pair : Type 0
+Pair = ObjectId × List EntryView

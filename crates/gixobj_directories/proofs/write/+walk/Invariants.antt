@@ -1,10 +1,9 @@
 use Rattle.std.proofs.Common.{◌≡◌, ◌+◌, ◌*◌, ◌++◌, ℕ, List, drop, length, Ok}
 use Rattle.std.specs.Fn.{CalledAt}
 use Rattle.std.specs.List.{FoldsTo}
-use Rattle.gixobj_tree.specs.Entries.{EntryView}
+use Rattle.gixobj_tree.specs.Entries.{EntryView, Pair}
 use Rattle.gixobj_files.specs.Edits.{raised}
 use Rattle.gixobj_files.specs.HandingOut.{Walks}
-use Rattle.gixobj_files.specs.Tables.{Pair}
 use Rattle.gixobj_directories.specs.Calls.{IsCallableOnTrees}
 use Rattle.gixobj_directories.specs.Nested.{bases_of, dirs_of}
 use Rattle.gixobj_directories.specs.OwnTrees.{IsBeside, so_far}

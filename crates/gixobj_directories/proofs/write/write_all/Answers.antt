@@ -1,10 +1,9 @@
 use Rattle.std.proofs.Common.{◌≡◌, ◌∙◌, ◌++◌, ℕ, [], ◌∷◌, List, Ok, Err, refl, sym, ap, subst, append-nil}
 use Rattle.std.specs.Fn.{CalledAt}
-use Rattle.gixobj_tree.specs.Entries.{EntryView}
+use Rattle.gixobj_tree.specs.Entries.{EntryView, Pair}
 use Rattle.gixobj_hash.specs.declared.hash.object_id.ObjectId.{ObjectId}
 use Rattle.gixobj_directories.specs.Handing.{Stopped}
 use Rattle.gixobj_files.specs.HandingOut.{HandsOutSome, Leaves}
-use Rattle.gixobj_files.specs.Tables.{Pair}
 use Rattle.gixobj_directories.specs.Nested.{Opened, bases_of, dirs_of, opened, parts}
 use Rattle.gixobj_directories.proofs.Handing.{FoldsTo-append, FoldsTo-one, callable_after, err_weaker, hands_more, stopped_after, stopped_here}
 use Rattle.gixobj_files.specs.Bases.{base_edited}

@@ -1,6 +1,7 @@
 use Rattle.std.proofs.Common.{All, subst, ◌∙◌}
 use Rattle.std.proofs.lemmas.List.{take_all}
-use Rattle.gixobj_find.specs.Keeping.{HasText, Kept}
+use Rattle.gixobj_find.specs.Keeping.{HasText}
+use Rattle.gixobj_tree.specs.Entries.{Pair}
 use Rattle.gixobj_find.proofs.Trees.{more_have_texts, more_kept}
 use Rattle.gixobj_find.proofs.keeping.keep_all.Goals as goal
 
@@ -15,4 +16,4 @@ loop-number-preserved g c =
     }
 
 pub returns-clause-have_texts : goal.returns-clause-have_texts
-returns-clause-have_texts g c = subst (All (λ (kept : Kept). HasText kept.1)) (take_all c.loop-number.number c.args.trees.now c.loop-number-test.false) c.loop-number.invariant.have_texts
+returns-clause-have_texts g c = subst (All (λ (kept : Pair). HasText kept.1)) (take_all c.loop-number.number c.args.trees.now c.loop-number-test.false) c.loop-number.invariant.have_texts

@@ -1,7 +1,7 @@
 -- The parts in front of what is left.
 use Rattle.std.proofs.Common.{length}
 use Rattle.gixobj_editor.specs.Views.{path_names}
-use Rattle.gixobj_script.proofs.Cuts.{AreInFront}
+use Rattle.gixobj_hash.proofs.Cuts.{AreInFront}
 use Rattle.gixobj_script.proofs.path.parts_at.Given as goal
 
 abbrev pub invariant-loop-part : goal.invariant-loop-part

@@ -19,7 +19,7 @@ pub invariant_of-self-then-is_empty : goal.invariant_of-self-then-is_empty
 invariant_of-self-then-is_empty t c =
     let x : EntryView = record { mode = mode_bits c.args.mode; name = bstring_bytes c.in-Some.name.now; id = c.args.id } in
     let path = one_left c.args.path.now c.in-Some.name.now c.in-Some.rest.now c.in-Some.ensures.cases.0 (c.if-is_empty.ensures {u = tt}) in
-    rw (c.in_ok-put_entry.ensures.ok, c.drop_child.ensures) (level_put x c.self.inside.tree (parts c.self.inside.children.items) (subst (AllByRecursion IsEntryName) path c.requires).0 c.self.invariant)
+    rw (c.in_ok-set_entry.ensures.ok, c.drop_child.ensures) (level_put x c.self.inside.tree (parts c.self.inside.children.items) (subst (AllByRecursion IsEntryName) path c.requires).0 c.self.invariant)
 
 pub returns-then-is_empty-clause-ok : goal.returns-then-is_empty-clause-ok
 returns-then-is_empty-clause-ok t c =
@@ -28,7 +28,7 @@ returns-then-is_empty-clause-ok t c =
     let ps = parts c.self.inside.children.items in
     let path = one_left c.args.path.now c.in-Some.name.now c.in-Some.rest.now c.in-Some.ensures.cases.0 (c.if-is_empty.ensures {u = tt}) in
     let level = level_put x c.self.inside.tree ps (subst (AllByRecursion IsEntryName) path c.requires).0 c.self.invariant in
-    rw (path, c.in_ok-put_entry.ensures.ok, c.drop_child.ensures)
+    rw (path, c.in_ok-set_entry.ensures.ok, c.drop_child.ensures)
     (put_last c.args.self.now c.self.inside.tree (with_entry x c.self.inside.tree) ps (other_parts name ps) c.self.view_is (level_apart c.self.invariant) (level_apart level) name (λ _. None) (others_becomes name ps) (mode_bits c.args.mode) c.args.id c.args.null refl (λ _. refl))
 
 pub invariant_of-self-2 : goal.invariant_of-self-2
@@ -82,7 +82,7 @@ returns-then-is_empty-clause-bases t c =
     let ps = parts c.self.inside.children.items in
     let path = one_left c.args.path.now c.in-Some.name.now c.in-Some.rest.now c.in-Some.ensures.cases.0 (c.if-is_empty.ensures {u = tt}) in
     let level = level_put x c.self.inside.tree ps (subst (AllByRecursion IsEntryName) path c.requires).0 c.self.invariant in
-    rw (c.in_ok-put_entry.ensures.ok, c.drop_child.ensures) (dropped_moved c.args.self.now c.self.inside.tree (with_entry x c.self.inside.tree) ps c.self.view_is (level_apart c.self.invariant) name (level_apart level))
+    rw (c.in_ok-set_entry.ensures.ok, c.drop_child.ensures) (dropped_moved c.args.self.now c.self.inside.tree (with_entry x c.self.inside.tree) ps c.self.view_is (level_apart c.self.invariant) name (level_apart level))
 
 pub returns-in_default-child_at-clause-bases : goal.returns-in_default-child_at-clause-bases
 returns-in_default-child_at-clause-bases t c =

@@ -7,7 +7,7 @@ use Rattle.std.proofs.Math.Decide.{ℕ_discrete}
 use Rattle.std.specs.List.{flat_map}
 use Rattle.gixobj_hash.proofs.Splits.{one_cut}
 use Rattle.gixobj_hash.specs.Texts.{IsFree, SplitsAt}
-use Rattle.gixobj_script.specs.Cuts.{IsCutAt, ended}
+use Rattle.gixobj_hash.specs.Cuts.{IsCutAt, ended}
 
 -- ---- part by part
 
