@@ -3,9 +3,9 @@ ghost use Rattle.std.specs.Prelude.{◌≡◌, ℕ, Err, IfErr, IfOk, Ok, OnOk};
 ghost use Rattle.std.specs.Fn.{CalledAt};
 ghost use Rattle.gixobj_base.specs.Entries.{IsWellFormed};
 ghost use Rattle.gixobj_directories.specs.Calls.{IsCallableOnTrees, names_of};
-ghost use Rattle.gixobj_directories.specs.Openings.{AreTreesOf};
+ghost use Rattle.gixobj_directories.specs.Openings.{OfTrees};
 ghost use Rattle.gixobj_editor.specs.Cursors.{prefix_of};
-ghost use Rattle.gixobj_files.specs.Files.{Files, NamedFiles, SameFiles, Table, Trees};
+ghost use Rattle.gixobj_files.specs.Files.{Files, NamedFiles, SameFiles, Table};
 ghost use Rattle.gixobj_files.specs.History.{History};
 ghost use Rattle.gixobj_files.specs.Tables.{AgreesWithPairs, AgreesWithStore};
 ghost use Rattle.gixobj_callers.specs.Checkouts.{AreNotPutIn, ArePutIn, IsCheckedOut, IsFilled, IsNotFilled, RefusesCheckout, steps_of_checkout};
@@ -55,10 +55,11 @@ pub fn with_entries_at<S: Find + Drop, E: Drop, F: FnMut(&Tree) -> Result<Object
 ) -> Result<Written, CheckoutError<E>>
     requires well_formed { IsWellFormed root }
     requires callable { IsCallableOnTrees F.pre (λ f p g. CalledAt F.FnMut f p.1 (Ok p.0) g) out }
-    ensures files { IfOk result (λ written. (trees : Trees) → AreTreesOf (S.objects store) trees
-        → (T : Table) (n : ℕ) → AgreesWithStore T trees → AgreesWithPairs T written.trees.items
-        → SameFiles (NamedFiles T n written.id) (History T n
-        (steps_of_checkout (prefix_of (names_of prefix.now)) entries.now) (Files T n root))) }
+    ensures files { IfOk result (λ written. OfTrees (S.objects store)
+        (λ trees. (T : Table) (n : ℕ) → AgreesWithStore T trees
+        → AgreesWithPairs T written.trees.items → SameFiles (NamedFiles T n written.id)
+        (History T n (steps_of_checkout (prefix_of (names_of prefix.now)) entries.now)
+        (Files T n root)))) }
     // The directory was filled, and then the write came through; or else it is told which of them didn't, and why.
     ensures done { IfOk result (IsCheckedOut (record { objects = S.objects; may_fail = S.may_fail })
         (started store object_hash root) (prefix_of (names_of prefix.now)) entries.now

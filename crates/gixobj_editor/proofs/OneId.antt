@@ -3,6 +3,7 @@ use Rattle.std.proofs.Common.{◌≡◌, ◌∙◌, ◌↔◌, ◌≤◌, ⊎_el
 use Rattle.std.specs.FinMap as map
 use Rattle.std.specs.List.{AllByRecursion, flat_map}
 use Rattle.std.proofs.lemmas.List.Elements.{All-contains_itself, All-head, All-tail, Contains-append_left, Contains-append_right, Contains-push, recursion_from_All}
+use Rattle.gixobj_directories.specs.Openings.{OfTrees}
 use Rattle.gixobj_editor.specs.declared.command.Command.{Command}
 use Rattle.gixobj_editor.specs.declared.command.Command.TheVariants as command
 use Rattle.gixobj_editor.specs.declared.command.Edit.{Edit}
@@ -36,7 +37,7 @@ use Rattle.gixobj_editor.proofs.Plainly.{AreBuilt, IsPlainState, Within, plain_a
 use Rattle.gixobj_editor.specs.Commands.{Place, accepted_steps, at_cursor, at_root, kept_of, kept_of_edit, pairs_handed_out, pairs_kept, pairs_of, pairs_of_edit, written_at, written_by}
 use Rattle.gixobj_editor.specs.OneId.{IdsTellFiles, IsPlainRun, NamesNoTree, PutsNoTree, files_before}
 use Rattle.gixobj_editor.specs.Replies.{Answers, AreEditReplies, Gives, IsEditReply, IsReply, IsReplyAt, IsRun, IsWriteKept, IsWrittenAt, Meaning}
-use Rattle.gixobj_editor.specs.RunTables.{AgreesWithObjects, AgreesWithRun, OfTrees}
+use Rattle.gixobj_editor.specs.RunTables.{AgreesWithObjects, AgreesWithRun}
 use Rattle.gixobj_editor.specs.declared.reply.EditReply.{EditReply}
 use Rattle.gixobj_editor.specs.declared.reply.EditReply.TheVariants as edit_reply
 use Rattle.gixobj_editor.specs.declared.reply.Reply.{Reply}

@@ -1,6 +1,7 @@
 -- Which reply a command may get, and what it leaves of the editor.
 use Rattle.std.specs.Prelude.{◌≡◌, ◌⊎◌, ℕ, Bool, List, [], ◌∷◌, All, Err, Ok, Result}
 use denote.Ref.{Bor}
+use Rattle.gixobj_directories.specs.Openings.{OfTrees}
 use Rattle.gixobj_editor.specs.declared.command.Command.{Command}
 use Rattle.gixobj_editor.specs.declared.command.Command.TheVariants as command
 use Rattle.gixobj_editor.specs.declared.command.Edit.{Edit}
@@ -29,7 +30,6 @@ use Rattle.gixobj_find.specs.Keeping.{HasText, StopsKeeping, with_trees}
 use Rattle.gixobj_tree.specs.Entries.{EntryView, IsWellFormed}
 use Rattle.gixobj_tree.specs.Mode.{mode_of_kind}
 use Rattle.gixobj_editor.specs.Commands.{Place, at_cursor, at_root, path_at}
-use Rattle.gixobj_editor.specs.RunTables.{OfTrees}
 use Rattle.gixobj_editor.specs.declared.reply.EditReply.{EditReply}
 use Rattle.gixobj_editor.specs.declared.reply.EditReply.TheVariants as edit_reply
 use Rattle.gixobj_editor.specs.declared.reply.Reply.{Reply}
