@@ -20,7 +20,7 @@ use Rattle.gixobj_files.specs.Files.{Assured, Files, NamedFiles, Path, SameFiles
 use Rattle.gixobj_files.specs.History.{History}
 use Rattle.gixobj_files.specs.State.{EditorFiles, State, open_bases, open_dirs}
 use Rattle.gixobj_files.specs.Tables.{AgreesWithPairs, AgreesWithStore, Pair}
-use Rattle.gixobj_editor.specs.Replies.{Meaning}
+use Rattle.gixobj_object.specs.Stores.{Meaning}
 
 module _ {S : Type 0} (means : Meaning S) (prefix : Path) where
   one_more : (old mid new : State S) (entries : List Planned) (entry : Planned) → ArePutIn means prefix old entries mid → IsPutInAt means prefix mid entry new → ArePutIn means prefix old (entries ++ entry ∷ []) new

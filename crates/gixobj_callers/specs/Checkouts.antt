@@ -18,7 +18,7 @@ use Rattle.gixobj_files.specs.HandingOut.{HandsOutSome}
 use Rattle.gixobj_files.specs.History.{Step, assure, upsert}
 use Rattle.gixobj_files.specs.State.{State, open_bases, open_dirs}
 use Rattle.gixobj_files.specs.Tables.{Pair}
-use Rattle.gixobj_editor.specs.Replies.{Meaning}
+use Rattle.gixobj_object.specs.Stores.{Meaning}
 
 -- the path of an entry from the root
 abbrev pub path_from : Path → Planned → Path

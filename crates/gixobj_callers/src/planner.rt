@@ -11,6 +11,7 @@ ghost use Rattle.gixobj_codec.specs.TreeReading.{IsNoTreeText, IsTreeText};
 ghost use Rattle.gixobj_codec.specs.TreeRewriting.{ReadsBack};
 ghost use Rattle.gixobj_callers.specs.Copies.{FailsForRoom};
 ghost use Rattle.gixobj_callers.specs.Plans.{IsPlanned, IsRoot, RefusesPlan, RefusesRoot};
+ghost use Rattle.gixobj_object.specs.Stores.{meaning};
 
 use crate::store::CopyError;
 use bstr::BString;
@@ -140,11 +141,10 @@ pub fn with_entry_in_stored<S: Find + Drop, E: Drop, F: FnMut(&Tree) -> Result<O
         → AgreesWithPairs T written.trees.items → SameFiles (NamedFiles T n written.id)
         (Upserted T n (names_of path.now) (mode_of_kind kind) id (NamedFiles T n root)))) }
     // The root was found, the edit came through, and then the write; or else it is told which of them didn't, and why.
-    ensures done { IfOk result (IsPlanned (record { objects = S.objects; may_fail = S.may_fail })
-        store root (names_of path.now) (mode_of_kind kind) id
-        (λ f p g. CalledAt F.FnMut f p.1 (Ok p.0) g) out) }
-    ensures refusal { IfErr result
-        (RefusesPlan (record { objects = S.objects; may_fail = S.may_fail }) store root
+    ensures done { IfOk result (IsPlanned (meaning S.objects S.may_fail) store root
+        (names_of path.now) (mode_of_kind kind) id (λ f p g. CalledAt F.FnMut f p.1 (Ok p.0) g)
+        out) }
+    ensures refusal { IfErr result (RefusesPlan (meaning S.objects S.may_fail) store root
         (names_of path.now) (mode_of_kind kind) id (λ f p g. CalledAt F.FnMut f p.1 (Ok p.0) g)
         (λ f t e g. CalledAt F.FnMut f t (Err e) g) out) }
 {
