@@ -1,8 +1,7 @@
 //! A planner of checkouts that works in one directory of a root.
-ghost use Rattle.std.specs.Prelude.{◌≡◌, ℕ, Err, IfErr, IfOk, Ok, OnOk};
-ghost use Rattle.std.specs.Fn.{CalledAt};
+ghost use Rattle.std.specs.Prelude.{◌≡◌, ℕ, IfErr, IfOk, OnOk};
 ghost use Rattle.gixobj_base.specs.Entries.{IsWellFormed};
-ghost use Rattle.gixobj_directories.specs.Calls.{IsCallableOnTrees, names_of};
+ghost use Rattle.gixobj_directories.specs.Calls.{IsCallableOnTrees, answered, denied, names_of};
 ghost use Rattle.gixobj_directories.specs.Openings.{OfTrees};
 ghost use Rattle.gixobj_editor.specs.Cursors.{prefix_of};
 ghost use Rattle.gixobj_files.specs.Files.{Files, NamedFiles, SameFiles, Table};
@@ -55,7 +54,7 @@ pub fn with_entries_at<S: Find + Drop, E: Drop, F: FnMut(&Tree) -> Result<Object
     out: F,
 ) -> Result<Written, CheckoutError<E>>
     requires well_formed { IsWellFormed root }
-    requires callable { IsCallableOnTrees F.pre (λ f p g. CalledAt F.FnMut f p.1 (Ok p.0) g) out }
+    requires callable { IsCallableOnTrees F.pre (answered F.FnMut) out }
     ensures files { IfOk result (λ written. OfTrees (S.objects store)
         (λ trees. (T : Table) (n : ℕ) → AgreesWithStore T trees
         → AgreesWithPairs T written.trees.items → SameFiles (NamedFiles T n written.id)
@@ -64,11 +63,10 @@ pub fn with_entries_at<S: Find + Drop, E: Drop, F: FnMut(&Tree) -> Result<Object
     // The directory was filled, and then the write came through; or else it is told which of them didn't, and why.
     ensures done { IfOk result (IsCheckedOut (meaning S.objects S.may_fail)
         (started store object_hash root) (prefix_of (names_of prefix.now)) entries.now
-        (λ f p g. CalledAt F.FnMut f p.1 (Ok p.0) g) out) }
+        (answered F.FnMut) out) }
     ensures refusal { IfErr result (RefusesCheckout (meaning S.objects S.may_fail)
         (started store object_hash root) (prefix_of (names_of prefix.now)) entries.now
-        (λ f p g. CalledAt F.FnMut f p.1 (Ok p.0) g) (λ f t e g. CalledAt F.FnMut f t (Err e) g)
-        out) }
+        (answered F.FnMut) (denied F.FnMut) out) }
 {
     let mut editor = Editor::new(root, store, object_hash);
     if let Err(error) = put_entries_at(&mut editor, prefix, entries) {

@@ -2,8 +2,7 @@
 //!
 //! It edits a tree and the trees below it by paths, and hands out what is to be stored. A directory is opened, that is
 //! looked up in the store, only where an edit needs it.
-ghost use Rattle.std.specs.Prelude.{◌≡◌, [], Err, IfErr, IfOk, IsOk, Ok, OnErr, OnOk, ℕ};
-ghost use Rattle.std.specs.Fn.{CalledAt};
+ghost use Rattle.std.specs.Prelude.{◌≡◌, [], IfErr, IfOk, IsOk, OnErr, OnOk, ℕ};
 ghost use Rattle.std.specs.Borrow.{Lends, sem};
 ghost use Rattle.std.specs.Option.{option_copied};
 ghost use Rattle.gixobj_tree.specs.Entries.{IsWellFormed};
@@ -14,7 +13,7 @@ ghost use Rattle.gixobj_files.specs.Opening.{IsOpened};
 ghost use Rattle.gixobj_files.specs.Bases.{HasBases};
 ghost use Rattle.gixobj_files.specs.State.{EditorFiles, open_bases, open_dirs, root_alone, with_store};
 ghost use Rattle.gixobj_files.specs.HandingOut.{HandsOutSome};
-ghost use Rattle.gixobj_directories.specs.Calls.{IsCallableOnTrees, names_of};
+ghost use Rattle.gixobj_directories.specs.Calls.{IsCallableOnTrees, answered, denied, names_of};
 ghost use Rattle.gixobj_directories.specs.Handing.{Stopped};
 ghost use Rattle.gixobj_editor.specs.Writes.{IsWrittenEditor};
 ghost use Rattle.gixobj_directories.specs.Openings.{OfTrees};
@@ -341,13 +340,11 @@ impl<S> Editor<S> {
         &mut self,
         out: F,
     ) -> Result<Written, WriteError<E>>
-        requires { IsCallableOnTrees F.pre (λ f p g. CalledAt F.FnMut f p.1 (Ok p.0) g) out }
+        requires { IsCallableOnTrees F.pre (answered F.FnMut) out }
         ensures written { IfOk result (λ it. (last : F)
-            × IsWrittenEditor (λ f p g. CalledAt F.FnMut f p.1 (Ok p.0) g) out self.old it self.new
-            last) }
+            × IsWrittenEditor (answered F.FnMut) out self.old it self.new last) }
         ensures stopped { IfErr result (λ error. (last : F)
-            × Stopped (λ f p g. CalledAt F.FnMut f p.1 (Ok p.0) g)
-            (λ f t e g. CalledAt F.FnMut f t (Err e) g)
+            × Stopped (answered F.FnMut) (denied F.FnMut)
             (HandsOutSome (open_dirs self.old) (open_bases self.old)) out last error) }
         ensures unchanged { OnErr result (self.new ≡ self.old) }
     {
@@ -373,11 +370,10 @@ impl<S> Editor<S> {
         &mut self,
         out: &mut F,
     ) -> Result<Written, WriteError<E>>
-        requires { IsCallableOnTrees F.pre (λ f p g. CalledAt F.FnMut f p.1 (Ok p.0) g) out.old }
-        ensures written { IfOk result (λ it. IsWrittenEditor
-            (λ f p g. CalledAt F.FnMut f p.1 (Ok p.0) g) out.old self.old it self.new out.new) }
-        ensures stopped { IfErr result (Stopped (λ f p g. CalledAt F.FnMut f p.1 (Ok p.0) g)
-            (λ f t e g. CalledAt F.FnMut f t (Err e) g)
+        requires { IsCallableOnTrees F.pre (answered F.FnMut) out.old }
+        ensures written { IfOk result (λ it. IsWrittenEditor (answered F.FnMut) out.old self.old it
+            self.new out.new) }
+        ensures stopped { IfErr result (Stopped (answered F.FnMut) (denied F.FnMut)
             (HandsOutSome (open_dirs self.old) (open_bases self.old)) out.old out.new) }
         ensures unchanged { OnErr result (self.new ≡ self.old) }
     {

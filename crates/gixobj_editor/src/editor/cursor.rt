@@ -1,9 +1,8 @@
 //! Cursors of an editor: its calls, by paths that go on from a directory.
-ghost use Rattle.std.specs.Prelude.{◌≡◌, ◌≢◌, [], Err, IfErr, IfOk, IsOk, None, Ok, OnErr, OnOk};
+ghost use Rattle.std.specs.Prelude.{◌≡◌, ◌≢◌, [], IfErr, IfOk, IsOk, None, OnErr, OnOk};
 ghost use Rattle.std.specs.Borrow.{RestsIfErr, sem};
-ghost use Rattle.std.specs.Fn.{CalledAt};
 ghost use Rattle.std.specs.Option.{option_copied};
-ghost use Rattle.gixobj_directories.specs.Calls.{IsCallableOnTrees, names_of};
+ghost use Rattle.gixobj_directories.specs.Calls.{IsCallableOnTrees, answered, denied, names_of};
 ghost use Rattle.gixobj_directories.specs.Handing.{Stopped};
 ghost use Rattle.gixobj_directories.specs.Openings.{OfTrees};
 ghost use Rattle.gixobj_editor.specs.Cursors.{IsAssured, IsWrittenBelow, RefusesCursor, RefusesFromRoot, from_root, prefix_of};
@@ -182,14 +181,11 @@ impl<S> Editor<S> {
         &mut self,
         out: &mut F,
     ) -> Result<Written, WriteError<E>>
-        requires callable { IsCallableOnTrees F.pre (λ f p g. CalledAt F.FnMut f p.1 (Ok p.0) g)
-            out.old }
+        requires callable { IsCallableOnTrees F.pre (answered F.FnMut) out.old }
         requires is_open { open_dirs self.old self.old.prefix ≢ None }
-        ensures written { IfOk result (λ it. IsWrittenBelow
-            (λ f p g. CalledAt F.FnMut f p.1 (Ok p.0) g) out.old self.old self.old.prefix it
-            self.new out.new) }
-        ensures stopped { IfErr result (Stopped (λ f p g. CalledAt F.FnMut f p.1 (Ok p.0) g)
-            (λ f t e g. CalledAt F.FnMut f t (Err e) g)
+        ensures written { IfOk result (λ it. IsWrittenBelow (answered F.FnMut) out.old self.old
+            self.old.prefix it self.new out.new) }
+        ensures stopped { IfErr result (Stopped (answered F.FnMut) (denied F.FnMut)
             (HandsOutSome (in_path self.old.prefix (open_dirs self.old))
             (in_path self.old.prefix (open_bases self.old))) out.old out.new) }
         ensures unchanged { OnErr result (self.new ≡ self.old) }
@@ -395,15 +391,14 @@ impl<S> Cursor<'_, S> {
         &mut self,
         out: F,
     ) -> Result<Written, WriteError<E>>
-        requires { IsCallableOnTrees F.pre (λ f p g. CalledAt F.FnMut f p.1 (Ok p.0) g) out }
+        requires { IsCallableOnTrees F.pre (answered F.FnMut) out }
         ensures same_reference { self.new.editor.ghost_name ≡ self.old.editor.ghost_name }
         ensures prefix { self.new.editor.now.prefix ≡ self.old.editor.now.prefix }
         ensures written { IfOk result (λ it. (last : F)
-            × IsWrittenBelow (λ f p g. CalledAt F.FnMut f p.1 (Ok p.0) g) out self.old.editor.now
-            self.old.editor.now.prefix it self.new.editor.now last) }
+            × IsWrittenBelow (answered F.FnMut) out self.old.editor.now self.old.editor.now.prefix
+            it self.new.editor.now last) }
         ensures stopped { IfErr result (λ error. (last : F)
-            × Stopped (λ f p g. CalledAt F.FnMut f p.1 (Ok p.0) g)
-            (λ f t e g. CalledAt F.FnMut f t (Err e) g)
+            × Stopped (answered F.FnMut) (denied F.FnMut)
             (HandsOutSome (in_path self.old.editor.now.prefix (open_dirs self.old.editor.now))
             (in_path self.old.editor.now.prefix (open_bases self.old.editor.now))) out last error) }
         ensures unchanged { OnErr result (self.new.editor.now ≡ self.old.editor.now) }
@@ -426,14 +421,12 @@ impl<S> Cursor<'_, S> {
         &mut self,
         out: &mut F,
     ) -> Result<Written, WriteError<E>>
-        requires { IsCallableOnTrees F.pre (λ f p g. CalledAt F.FnMut f p.1 (Ok p.0) g) out.old }
+        requires { IsCallableOnTrees F.pre (answered F.FnMut) out.old }
         ensures same_reference { self.new.editor.ghost_name ≡ self.old.editor.ghost_name }
         ensures prefix { self.new.editor.now.prefix ≡ self.old.editor.now.prefix }
-        ensures written { IfOk result (λ it. IsWrittenBelow
-            (λ f p g. CalledAt F.FnMut f p.1 (Ok p.0) g) out.old self.old.editor.now
-            self.old.editor.now.prefix it self.new.editor.now out.new) }
-        ensures stopped { IfErr result (Stopped (λ f p g. CalledAt F.FnMut f p.1 (Ok p.0) g)
-            (λ f t e g. CalledAt F.FnMut f t (Err e) g)
+        ensures written { IfOk result (λ it. IsWrittenBelow (answered F.FnMut) out.old
+            self.old.editor.now self.old.editor.now.prefix it self.new.editor.now out.new) }
+        ensures stopped { IfErr result (Stopped (answered F.FnMut) (denied F.FnMut)
             (HandsOutSome (in_path self.old.editor.now.prefix (open_dirs self.old.editor.now))
             (in_path self.old.editor.now.prefix (open_bases self.old.editor.now))) out.old
             out.new) }
