@@ -5,6 +5,7 @@
 ghost use Rattle.std.specs.Prelude.{◌≡◌, [], IfErr, IfOk, IsOk, OnErr, OnOk, ℕ};
 ghost use Rattle.std.specs.Borrow.{Lends, sem};
 ghost use Rattle.std.specs.Option.{option_copied};
+ghost use Rattle.gixobj_object.specs.Stores.{meaning};
 ghost use Rattle.gixobj_tree.specs.Entries.{IsWellFormed};
 ghost use Rattle.gixobj_tree.specs.Mode.{mode_of_kind};
 ghost use Rattle.gixobj_files.specs.Edits.{IsNoTree, entry_at};
@@ -17,7 +18,7 @@ ghost use Rattle.gixobj_directories.specs.Calls.{IsCallableOnTrees, answered, de
 ghost use Rattle.gixobj_directories.specs.Handing.{Stopped};
 ghost use Rattle.gixobj_editor.specs.Writes.{IsWrittenEditor};
 ghost use Rattle.gixobj_directories.specs.Openings.{OfTrees};
-ghost use Rattle.gixobj_editor.specs.Upserts.{IsForAName, IsRefused, IsUpserted, RefusesUpsert};
+ghost use Rattle.gixobj_editor.specs.Upserts.{IsForAName, IsRefused, IsUpserted, RefusedIn, RefusesUpsert};
 ghost use Rattle.gixobj_editor.specs.Removals.{IsLeafRemoved, IsRemoved, RefusesLeafRemoval, RefusesRemoval};
 ghost use Rattle.gixobj_editor.specs.contracts.editor.Editor.{the_row};
 
@@ -154,9 +155,8 @@ impl<S: Find> Editor<S> {
         ensures upserted { IfOk result (λ it. OfTrees (S.objects self.old.store)
             (λ trees. IsUpserted trees self.old (names_of path.now) (mode_of_kind kind) id
             it.now)) }
-        ensures refusal { IfErr result (λ error. OfTrees (S.objects self.old.store)
-            (λ trees. RefusesUpsert (S.objects self.old.store) (S.may_fail self.old.store) trees
-            (open_dirs self.old) (names_of path.now) error)) }
+        ensures refusal { IfErr result (RefusedIn (meaning S.objects S.may_fail) self.old
+            RefusesUpsert (names_of path.now)) }
     {
         self.try_upsert(path, kind, id)?;
         Ok(self)
@@ -169,9 +169,8 @@ impl<S: Find> Editor<S> {
         ensures same_reference { IfOk result (λ it. it.ghost_name ≡ self.entry.ghost_name) }
         ensures removed { IfOk result (λ it. OfTrees (S.objects self.old.store)
             (λ trees. IsRemoved IsNoTree trees self.old (names_of path.now) it.now)) }
-        ensures refusal { IfErr result (λ error. OfTrees (S.objects self.old.store)
-            (λ trees. RefusesRemoval IsNoTree (S.objects self.old.store) (S.may_fail self.old.store)
-            trees (open_dirs self.old) (names_of path.now) error)) }
+        ensures refusal { IfErr result (RefusedIn (meaning S.objects S.may_fail) self.old
+            (RefusesRemoval IsNoTree) (names_of path.now)) }
     {
         self.try_remove(path)?;
         Ok(self)
@@ -184,9 +183,8 @@ impl<S: Find> Editor<S> {
         ensures same_reference { IfOk result (λ it. it.ghost_name ≡ self.entry.ghost_name) }
         ensures removed { IfOk result (λ it. OfTrees (S.objects self.old.store)
             (λ trees. IsLeafRemoved trees self.old (names_of path.now) it.now)) }
-        ensures refusal { IfErr result (λ error. OfTrees (S.objects self.old.store)
-            (λ trees. RefusesLeafRemoval (S.objects self.old.store) (S.may_fail self.old.store)
-            trees (open_dirs self.old) (names_of path.now) error)) }
+        ensures refusal { IfErr result (RefusedIn (meaning S.objects S.may_fail) self.old
+            RefusesLeafRemoval (names_of path.now)) }
     {
         self.try_remove_leaf(path)?;
         Ok(self)
@@ -215,9 +213,8 @@ impl<S: Find> Editor<S> {
             self.new)) }
         ensures refused { OnErr result (OfTrees (S.objects self.old.store)
             (λ trees. IsRefused trees self.old (names_of path.now) self.new)) }
-        ensures refusal { IfErr result (λ error. OfTrees (S.objects self.old.store)
-            (λ trees. RefusesUpsert (S.objects self.old.store) (S.may_fail self.old.store) trees
-            (open_dirs self.old) (names_of path.now) error)) }
+        ensures refusal { IfErr result (RefusedIn (meaning S.objects S.may_fail) self.old
+            RefusesUpsert (names_of path.now)) }
         ensures unasked { IfErr result (λ error. IsForAName error → self.new ≡ self.old) }
     {
         let alloc = self.root.alloc();
@@ -251,9 +248,8 @@ impl<S: Find> Editor<S> {
             (λ trees. IsRemoved IsNoTree trees self.old (names_of path.now) self.new)) }
         ensures refused { OnErr result (OfTrees (S.objects self.old.store)
             (λ trees. IsRefused trees self.old (names_of path.now) self.new)) }
-        ensures refusal { IfErr result (λ error. OfTrees (S.objects self.old.store)
-            (λ trees. RefusesRemoval IsNoTree (S.objects self.old.store) (S.may_fail self.old.store)
-            trees (open_dirs self.old) (names_of path.now) error)) }
+        ensures refusal { IfErr result (RefusedIn (meaning S.objects S.may_fail) self.old
+            (RefusesRemoval IsNoTree) (names_of path.now)) }
     {
         open_for_removal(
             &mut self.root,
@@ -276,9 +272,8 @@ impl<S: Find> Editor<S> {
             (λ trees. IsLeafRemoved trees self.old (names_of path.now) self.new)) }
         ensures refused { OnErr result (OfTrees (S.objects self.old.store)
             (λ trees. IsRefused trees self.old (names_of path.now) self.new)) }
-        ensures refusal { IfErr result (λ error. OfTrees (S.objects self.old.store)
-            (λ trees. RefusesLeafRemoval (S.objects self.old.store) (S.may_fail self.old.store)
-            trees (open_dirs self.old) (names_of path.now) error)) }
+        ensures refusal { IfErr result (RefusedIn (meaning S.objects S.may_fail) self.old
+            RefusesLeafRemoval (names_of path.now)) }
     {
         open_for_removal(
             &mut self.root,

@@ -5,9 +5,9 @@ ghost use Rattle.std.specs.Option.{option_copied};
 ghost use Rattle.gixobj_directories.specs.Calls.{IsCallableOnTrees, answered, denied, names_of};
 ghost use Rattle.gixobj_directories.specs.Handing.{Stopped};
 ghost use Rattle.gixobj_directories.specs.Openings.{OfTrees};
-ghost use Rattle.gixobj_editor.specs.Cursors.{IsAssured, IsWrittenBelow, RefusesCursor, RefusesFromRoot, from_root, prefix_of};
+ghost use Rattle.gixobj_editor.specs.Cursors.{IsAssured, IsWrittenBelow, RefusedBelow, RefusesCursor, from_root, prefix_of};
 ghost use Rattle.gixobj_editor.specs.Removals.{IsLeafRemoved, IsRemoved, RefusesLeafRemoval, RefusesRemoval};
-ghost use Rattle.gixobj_editor.specs.Upserts.{IsForAName, IsRefused, IsUpserted, RefusesUpsert};
+ghost use Rattle.gixobj_editor.specs.Upserts.{IsForAName, IsRefused, IsUpserted, RefusedIn, RefusesUpsert};
 ghost use Rattle.gixobj_editor.specs.contracts.editor.Editor.{the_row};
 ghost use Rattle.gixobj_files.specs.Edits.{IsNoTree, entry_at};
 ghost use Rattle.gixobj_files.specs.Files.{Path};
@@ -16,6 +16,7 @@ ghost use Rattle.gixobj_files.specs.Bases.{opened_bases};
 ghost use Rattle.gixobj_files.specs.Opening.{IsOpened, in_path};
 ghost use Rattle.gixobj_files.specs.State.{open_bases, open_dirs};
 ghost use Rattle.gixobj_files.specs.Unopened.{inside};
+ghost use Rattle.gixobj_object.specs.Stores.{meaning};
 ghost use Rattle.gixobj_tree.specs.Mode.{mode_of_kind};
 
 use super::names::{check_names, copy_names, join_paths};
@@ -101,9 +102,8 @@ impl<S: Find> Editor<S> {
         ensures prefix { IfOk result (λ c. c.editor.now.prefix ≡ prefix_of (names_of path.now)) }
         ensures assured { IfOk result (λ c. OfTrees (S.objects self.old.store)
             (λ trees. IsAssured trees self.old (prefix_of (names_of path.now)) c.editor.now)) }
-        ensures refusal { IfErr result (λ error. OfTrees (S.objects self.old.store)
-            (λ trees. RefusesCursor (S.objects self.old.store) (S.may_fail self.old.store) trees
-            (open_dirs self.old) (prefix_of (names_of path.now)) error)) }
+        ensures refusal { IfErr result (RefusedIn (meaning S.objects S.may_fail) self.old
+            RefusesCursor (prefix_of (names_of path.now))) }
     {
         self.open_prefix(path)?;
         Ok(Cursor {
@@ -120,9 +120,8 @@ impl<S: Find> Editor<S> {
             (λ trees. IsAssured trees self.old (prefix_of (names_of path.now)) self.new)) }
         ensures refused { OnErr result (OfTrees (S.objects self.old.store)
             (λ trees. IsRefused trees self.old (inside (prefix_of (names_of path.now))) self.new)) }
-        ensures refusal { IfErr result (λ error. OfTrees (S.objects self.old.store)
-            (λ trees. RefusesCursor (S.objects self.old.store) (S.may_fail self.old.store) trees
-            (open_dirs self.old) (prefix_of (names_of path.now)) error)) }
+        ensures refusal { IfErr result (RefusedIn (meaning S.objects S.may_fail) self.old
+            RefusesCursor (prefix_of (names_of path.now))) }
         ensures unasked { IfErr result (λ error. IsForAName error → self.new ≡ self.old) }
     {
         self.assure(without_a_single_empty_name(path))
@@ -136,9 +135,8 @@ impl<S: Find> Editor<S> {
         ensures is_open { OnOk result (open_dirs self.new self.new.prefix ≢ None) }
         ensures refused { OnErr result (OfTrees (S.objects self.old.store)
             (λ trees. IsRefused trees self.old (inside (names_of path.now)) self.new)) }
-        ensures refusal { IfErr result (λ error. OfTrees (S.objects self.old.store)
-            (λ trees. RefusesCursor (S.objects self.old.store) (S.may_fail self.old.store) trees
-            (open_dirs self.old) (names_of path.now) error)) }
+        ensures refusal { IfErr result (RefusedIn (meaning S.objects S.may_fail) self.old
+            RefusesCursor (names_of path.now)) }
         ensures unasked { IfErr result (λ error. IsForAName error → self.new ≡ self.old) }
     {
         let alloc = self.root.alloc();
@@ -224,11 +222,8 @@ impl<S: Find> Cursor<'_, S> {
             (λ trees. IsUpserted trees self.old.editor.now
             (from_root self.old.editor.now.prefix (names_of path.now)) (mode_of_kind kind) id
             it.now.editor.now)) }
-        ensures refusal { IfErr result (λ error. OfTrees (S.objects self.old.editor.now.store)
-            (λ trees. RefusesFromRoot (names_of path.now)
-            (RefusesUpsert (S.objects self.old.editor.now.store)
-            (S.may_fail self.old.editor.now.store) trees (open_dirs self.old.editor.now)
-            (from_root self.old.editor.now.prefix (names_of path.now))) error)) }
+        ensures refusal { IfErr result (RefusedBelow (meaning S.objects S.may_fail)
+            self.old.editor.now RefusesUpsert (names_of path.now)) }
     {
         self.try_upsert(path, kind, id)?;
         Ok(self)
@@ -253,11 +248,8 @@ impl<S: Find> Cursor<'_, S> {
         ensures refused { OnErr result (OfTrees (S.objects self.old.editor.now.store)
             (λ trees. IsRefused trees self.old.editor.now
             (from_root self.old.editor.now.prefix (names_of path.now)) self.new.editor.now)) }
-        ensures refusal { IfErr result (λ error. OfTrees (S.objects self.old.editor.now.store)
-            (λ trees. RefusesFromRoot (names_of path.now)
-            (RefusesUpsert (S.objects self.old.editor.now.store)
-            (S.may_fail self.old.editor.now.store) trees (open_dirs self.old.editor.now)
-            (from_root self.old.editor.now.prefix (names_of path.now))) error)) }
+        ensures refusal { IfErr result (RefusedBelow (meaning S.objects S.may_fail)
+            self.old.editor.now RefusesUpsert (names_of path.now)) }
         ensures unasked { IfErr result (λ error. IsForAName error
             → self.new.editor.now ≡ self.old.editor.now) }
     {
@@ -276,11 +268,8 @@ impl<S: Find> Cursor<'_, S> {
         ensures removed { IfOk result (λ it. OfTrees (S.objects self.old.editor.now.store)
             (λ trees. IsRemoved IsNoTree trees self.old.editor.now
             (from_root self.old.editor.now.prefix (names_of path.now)) it.now.editor.now)) }
-        ensures refusal { IfErr result (λ error. OfTrees (S.objects self.old.editor.now.store)
-            (λ trees. RefusesFromRoot (names_of path.now)
-            (RefusesRemoval IsNoTree (S.objects self.old.editor.now.store)
-            (S.may_fail self.old.editor.now.store) trees (open_dirs self.old.editor.now)
-            (from_root self.old.editor.now.prefix (names_of path.now))) error)) }
+        ensures refusal { IfErr result (RefusedBelow (meaning S.objects S.may_fail)
+            self.old.editor.now (RefusesRemoval IsNoTree) (names_of path.now)) }
     {
         self.try_remove(path)?;
         Ok(self)
@@ -299,11 +288,8 @@ impl<S: Find> Cursor<'_, S> {
         ensures refused { OnErr result (OfTrees (S.objects self.old.editor.now.store)
             (λ trees. IsRefused trees self.old.editor.now
             (from_root self.old.editor.now.prefix (names_of path.now)) self.new.editor.now)) }
-        ensures refusal { IfErr result (λ error. OfTrees (S.objects self.old.editor.now.store)
-            (λ trees. RefusesFromRoot (names_of path.now)
-            (RefusesRemoval IsNoTree (S.objects self.old.editor.now.store)
-            (S.may_fail self.old.editor.now.store) trees (open_dirs self.old.editor.now)
-            (from_root self.old.editor.now.prefix (names_of path.now))) error)) }
+        ensures refusal { IfErr result (RefusedBelow (meaning S.objects S.may_fail)
+            self.old.editor.now (RefusesRemoval IsNoTree) (names_of path.now)) }
     {
         let path = self.editor.path_from_root(path)?;
         self.editor.try_remove(&path)
@@ -320,11 +306,8 @@ impl<S: Find> Cursor<'_, S> {
         ensures removed { IfOk result (λ it. OfTrees (S.objects self.old.editor.now.store)
             (λ trees. IsLeafRemoved trees self.old.editor.now
             (from_root self.old.editor.now.prefix (names_of path.now)) it.now.editor.now)) }
-        ensures refusal { IfErr result (λ error. OfTrees (S.objects self.old.editor.now.store)
-            (λ trees. RefusesFromRoot (names_of path.now)
-            (RefusesLeafRemoval (S.objects self.old.editor.now.store)
-            (S.may_fail self.old.editor.now.store) trees (open_dirs self.old.editor.now)
-            (from_root self.old.editor.now.prefix (names_of path.now))) error)) }
+        ensures refusal { IfErr result (RefusedBelow (meaning S.objects S.may_fail)
+            self.old.editor.now RefusesLeafRemoval (names_of path.now)) }
     {
         self.try_remove_leaf(path)?;
         Ok(self)
@@ -344,11 +327,8 @@ impl<S: Find> Cursor<'_, S> {
         ensures refused { OnErr result (OfTrees (S.objects self.old.editor.now.store)
             (λ trees. IsRefused trees self.old.editor.now
             (from_root self.old.editor.now.prefix (names_of path.now)) self.new.editor.now)) }
-        ensures refusal { IfErr result (λ error. OfTrees (S.objects self.old.editor.now.store)
-            (λ trees. RefusesFromRoot (names_of path.now)
-            (RefusesLeafRemoval (S.objects self.old.editor.now.store)
-            (S.may_fail self.old.editor.now.store) trees (open_dirs self.old.editor.now)
-            (from_root self.old.editor.now.prefix (names_of path.now))) error)) }
+        ensures refusal { IfErr result (RefusedBelow (meaning S.objects S.may_fail)
+            self.old.editor.now RefusesLeafRemoval (names_of path.now)) }
     {
         let path = self.editor.path_from_root(path)?;
         self.editor.try_remove_leaf(&path)
