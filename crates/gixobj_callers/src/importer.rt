@@ -99,10 +99,9 @@ pub fn import_files<S: Keep, E: Drop, F: Fn(&Tree) -> Result<ObjectId, E> + Drop
         written.trees.items (S.objects editor.old.store)) }
     // Each edit came through, and then the write; or else it is told which call didn't, and why.
     ensures done { IfOk result (λ written. IsWriteBehind (meaning S.objects S.may_fail)
-        (λ tree answer. FnReturnsAt F.Fn out tree answer) editor.old edits.items
-        (EditReply.Written written) editor.new) }
+        (FnReturnsAt F.Fn out) editor.old edits.items (EditReply.Written written) editor.new) }
     ensures fails { IfErr result (λ error. FailsImport (meaning S.objects S.may_fail)
-        (λ tree answer. FnReturnsAt F.Fn out tree answer) editor.old edits.items error editor.new) }
+        (FnReturnsAt F.Fn out) editor.old edits.items error editor.new) }
     ensures holds_write { (result ≡ Err ImportError.HoldsWrite) ↔ Contains edits.items Edit.Write }
 {
     every_store_names_trees();
@@ -134,8 +133,7 @@ fn deciding_reply<S: Keep, E: Drop, F: Fn(&Tree) -> Result<ObjectId, E> + Drop>(
     requires callable { IsCallable F.pre out }
     requires no_write { ¬ Contains edits.items Edit.Write }
     ensures decides { IfOk result (λ it. Decides (meaning S.objects S.may_fail)
-        (λ tree answer. FnReturnsAt F.Fn out tree answer) editor.old edits.items it.0 it.1
-        editor.new) }
+        (FnReturnsAt F.Fn out) editor.old edits.items it.0 it.1 editor.new) }
     ensures nothing_done { OnErr result (editor.new ≡ editor.old) }
 {
     let commands = commands_of(alloc, edits)?;

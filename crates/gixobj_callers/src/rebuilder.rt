@@ -53,12 +53,10 @@ pub fn wrote_the_same<S: Keep + Drop, E: Drop, F: Fn(&Tree) -> Result<ObjectId, 
     out: F,
 ) -> Result<bool, CompareError>
     requires callable { IsCallable F.pre out }
-    ensures compared { IfOk result (IsCompared (meaning S.objects S.may_fail)
-        (λ tree answer. FnReturnsAt F.Fn out tree answer) store object_hash commands.items place
-        other) }
+    ensures compared { IfOk result (IsCompared (meaning S.objects S.may_fail) (FnReturnsAt F.Fn out)
+        store object_hash commands.items place other) }
     ensures refusal { IfErr result (RefusesComparison (meaning S.objects S.may_fail)
-        (λ tree answer. FnReturnsAt F.Fn out tree answer) store object_hash commands.items place
-        other) }
+        (FnReturnsAt F.Fn out) store object_hash commands.items place other) }
 {
     let mut editor = Editor::new(Tree::empty(alloc), store, object_hash);
     let replies = run(alloc, &mut editor, commands, out)?;
