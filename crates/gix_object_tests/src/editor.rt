@@ -1,14 +1,13 @@
 //! The editor at paths of one name: what is left of refusals, and a history in a caller's clause. Ids are those that
 //! `git mktree --missing` answers.
-ghost use Rattle.std.specs.Prelude.{ℕ, ◌∷◌, [], IfOk, IfSome, Ok};
-ghost use Rattle.std.specs.Fn.{CalledAt};
+ghost use Rattle.std.specs.Prelude.{ℕ, ◌∷◌, [], IfOk, IfSome};
 ghost use Rattle.gixobj_base.specs.Mode.{mode_of_kind};
 ghost use Rattle.gixobj_base.specs.tree.tree.entry_kind.EntryKind.TheVariants.{Blob};
 ghost use Rattle.gixobj_files.specs.Bases.{HasBases};
 ghost use Rattle.gixobj_files.specs.State.{EditorFiles, open_bases, open_dirs};
-ghost use Rattle.gixobj_directories.specs.Calls.{IsCallableOnTrees, names_of};
-ghost use Rattle.gixobj_directories.specs.Openings.{AreTreesOf};
-ghost use Rattle.gixobj_files.specs.Files.{NamedFiles, SameFiles, Table, Trees};
+ghost use Rattle.gixobj_directories.specs.Calls.{IsCallableOnTrees, answered, names_of};
+ghost use Rattle.gixobj_directories.specs.Openings.{OfTrees};
+ghost use Rattle.gixobj_files.specs.Files.{NamedFiles, SameFiles, Table};
 ghost use Rattle.gixobj_files.specs.Tables.{AgreesWithPairs, AgreesWithStore};
 ghost use Rattle.gixobj_files.specs.History.{History, remove, upsert};
 
@@ -110,14 +109,13 @@ fn edited_and_written<S: Find, E: Drop, F: FnMut(&Tree) -> Result<ObjectId, E> +
     second: &[BString],
     out: F,
 ) -> Result<Option<Written>, Error>
-    requires callable { IsCallableOnTrees F.pre (λ f p g. CalledAt F.FnMut f p.1 (Ok p.0) g) out }
-    ensures { IfOk result (λ it. IfSome it (λ written. (trees : Trees)
-        → AreTreesOf (S.objects editor.old.store) trees → (T : Table) (n : ℕ)
-        → AgreesWithStore T trees → AgreesWithPairs T written.trees.items
-        → HasBases T (open_dirs editor.old) (open_bases editor.old)
-        → SameFiles (NamedFiles T n written.id) (History T n
-        (upsert (names_of first.now) (mode_of_kind Blob) id ∷ remove (names_of second.now) ∷ [])
-        (EditorFiles T n editor.old)))) }
+    requires callable { IsCallableOnTrees F.pre (answered F.FnMut) out }
+    ensures { IfOk result (λ it. IfSome it (λ written.
+        OfTrees (S.objects editor.old.store) (λ trees. (T : Table) (n : ℕ) → AgreesWithStore T trees
+        → AgreesWithPairs T written.trees.items → HasBases T (open_dirs editor.old)
+        (open_bases editor.old) → SameFiles (NamedFiles T n written.id)
+        (History T n (upsert (names_of first.now) (mode_of_kind Blob) id ∷ remove
+        (names_of second.now) ∷ []) (EditorFiles T n editor.old))))) }
 {
     editor.try_upsert(first, EntryKind::Blob, id)?;
     editor.try_remove(second)?;

@@ -5,7 +5,7 @@ use Rattle.std.proofs.lemmas.Bool.Decides.{nat_tests}
 use Rattle.std.proofs.lemmas.List.Elements.{All-head, All-nil, All-tail}
 use Rattle.std.specs.List.{AllPass}
 use Rattle.gixobj_hash.proofs.Splits.{free_of_cut, one_cut, one_last_cut}
-use Rattle.gixobj_actor.specs.Actor.{EndsTime, IsActorLine, IsGap, IsNameOf, IsNoActor, IsNoActorLine, is_time_byte}
+use Rattle.gixobj_actor.specs.Actor.{ActorView, EndsTime, IsActorLine, IsActorLineOf, IsGap, IsNameOf, IsNoActor, IsNoActorLine, is_time_byte}
 use Rattle.gixobj_hash.specs.Texts.{IsFree, SplitsAt, SplitsAtLast}
 
 regrouped : (text email gap time rest : List ℕ) → text ++ 60 ∷ (email ++ 62 ∷ (gap ++ (time ++ rest))) ≡ text ++ 60 ∷ email ++ 62 ∷ gap ++ time ++ rest
@@ -116,6 +116,14 @@ one_actor line name email time rest name' email' time' rest' first second =
       times.0,
       times.1,
     )
+
+abbrev of_parts : List ℕ → List ℕ → List ℕ → ActorView
+of_parts name email time = record { name = name; email = email; time = time }
+
+pub one_view : (line : List ℕ) (a b : ActorView) (x y : List ℕ) → IsActorLineOf line a x → IsActorLineOf line b y → a ≡ b
+one_view line a b x y first second =
+    let same = one_actor line a.name a.email a.time x b.name b.email b.time y first second in
+    ap (λ (it : List ℕ). of_parts it a.email a.time) same.0 ∙ ap (λ (it : List ℕ). of_parts b.name it a.time) same.1 ∙ ap (λ (it : List ℕ). of_parts b.name b.email it) same.2
 
 -- ---- actors that fill their line
 

@@ -65,6 +65,23 @@ actor_text name email time = name ++ codes " <" ++ email ++ codes "> " ++ time
 abbrev pub IsActor : List ℕ → List ℕ → List ℕ → List ℕ → Type 0
 IsActor line name email time = IsActorLine line name email time []
 
+-- an actor's parts as a line has them, wherever they lie
+pub record ActorView : Type 0 where
+  pub name : List ℕ
+  pub email : List ℕ
+  pub time : List ℕ
+
+abbrev pub actor_view : SignatureRef → ActorView
+actor_view actor = record { name = bstr_bytes actor.name; email = bstr_bytes actor.email; time = bstr_bytes actor.time }
+
+-- the line names the actor of these parts, and goes on with the rest
+abbrev pub IsActorLineOf : List ℕ → ActorView → List ℕ → Type 0
+IsActorLineOf line actor rest = IsActorLine line actor.name actor.email actor.time rest
+
+-- the line names the actor of these parts, and nothing follows the time
+abbrev pub IsActorOf : List ℕ → ActorView → Type 0
+IsActorOf line actor = IsActorLineOf line actor []
+
 -- the line is no actor
 abbrev pub IsNoActor : List ℕ → Type 0
 IsNoActor line = (name email time : List ℕ) → ¬ IsActor line name email time

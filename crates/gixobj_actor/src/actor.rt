@@ -6,7 +6,7 @@ ghost use Rattle.std.specs.List.{AllPass};
 ghost use Rattle.std.specs.Option.{SomeIff};
 ghost use Rattle.bstr.specs.BStr.{bstr_bytes};
 ghost use Rattle.bstr.specs.Owned.{bstring_bytes};
-ghost use Rattle.gixobj_actor.specs.Actor.{EndsTime, IsActorLine, IsGap, IsNameOf, IsNoActorLine, IsTimeOrDefault, IsWritable, actor_text, is_time_byte as is_time_byte_of};
+ghost use Rattle.gixobj_actor.specs.Actor.{EndsTime, IsActorLineOf, IsGap, IsNameOf, IsNoActorLine, IsTimeOrDefault, IsWritable, actor_text, actor_view, is_time_byte as is_time_byte_of};
 ghost use Rattle.gixobj_actor.specs.ActorWriting.{IsLegalActor, RefusesActor, borrowed_text, owned_text};
 ghost use Rattle.gixobj_actor.specs.Date.{IsNoTimeText, IsTimeText, time_text};
 ghost use Rattle.gixobj_fields.specs.Streams.{Puts, PutsFront, PutsOrFails, writer_view};
@@ -56,8 +56,8 @@ impl<'a> SignatureRef<'a> {
     /// `-`, spaces and tabs. `Malformed` where there is no `<` with a `>` after it, or where a newline
     /// stands in the line, which then stays as it was. It takes no memory.
     pub fn from_bytes_consuming(input: &mut &'a [u8]) -> Result<SignatureRef<'a>, decode::Error>
-        ensures found { IfOk result (λ it. IsActorLine input.old.now (bstr_bytes it.name)
-            (bstr_bytes it.email) (bstr_bytes it.time) input.new.now) }
+        ensures found { IfOk result (λ it. IsActorLineOf input.old.now (actor_view it)
+            input.new.now) }
         ensures refusal { IfErr result (λ e. (e ≡ Malformed) × IsNoActorLine input.old.now) }
         ensures unchanged { OnErr result (input.new ≡ input.old) }
     {
@@ -267,8 +267,7 @@ fn actor_size(name: &[u8], email: &[u8], time: &[u8]) -> Option<u64>
 /// The actor of a line and what follows its time, or none.
 pub(crate) fn split_line(line: &[u8]) -> Option<(SignatureRef<'_>, &[u8])>
     requires one_line { IsFree newline line.now }
-    ensures found { IfSome result (λ it. IsActorLine line.now (bstr_bytes it.0.name)
-        (bstr_bytes it.0.email) (bstr_bytes it.0.time) it.1.now) }
+    ensures found { IfSome result (λ it. IsActorLineOf line.now (actor_view it.0) it.1.now) }
     ensures none { IfNone result (IsNoActorLine line.now) }
 {
     let (text, behind) = split_at_byte(line, b'<')?;

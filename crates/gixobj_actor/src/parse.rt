@@ -1,7 +1,7 @@
 //! Actors that fill their line, and what is made of them.
 ghost use Rattle.std.specs.Prelude.{◌≡◌, ℕ, List, IfErr, IfNone, IfOk, IfSome};
 ghost use Rattle.bstr.specs.BStr.{bstr_bytes};
-ghost use Rattle.gixobj_actor.specs.Actor.{IsActor, IsActorLine, IsNoActor, IsNoActorLine, IsOwnedActor, IsTrimmedActor};
+ghost use Rattle.gixobj_actor.specs.Actor.{IsActorLineOf, IsActorOf, IsNoActor, IsNoActorLine, IsOwnedActor, IsTrimmedActor, actor_view};
 ghost use Rattle.gixobj_hash.specs.declared.decode.Error.TheVariants.{Malformed};
 ghost use Rattle.gixobj_hash.specs.Bytes.{newline};
 ghost use Rattle.gixobj_hash.specs.Texts.{IsFree};
@@ -15,8 +15,7 @@ use std::alloc::Global;
 
 /// The actor of a line, or none where the line is none or bytes follow its time.
 pub fn signature(line: &[u8]) -> Option<SignatureRef<'_>>
-    ensures found { IfSome result (λ it. IsActor line.now (bstr_bytes it.name) (bstr_bytes it.email)
-        (bstr_bytes it.time)) }
+    ensures found { IfSome result (λ it. IsActorOf line.now (actor_view it)) }
     ensures none { IfNone result (IsNoActor line.now) }
 {
     if has_byte(line, b'\n') {
@@ -28,8 +27,7 @@ pub fn signature(line: &[u8]) -> Option<SignatureRef<'_>>
 /// The actor of a line without a newline, or none where the line is none or bytes follow its time.
 pub fn signature_of_line(line: &[u8]) -> Option<SignatureRef<'_>>
     requires one_line { IsFree newline line.now }
-    ensures found { IfSome result (λ it. IsActor line.now (bstr_bytes it.name) (bstr_bytes it.email)
-        (bstr_bytes it.time)) }
+    ensures found { IfSome result (λ it. IsActorOf line.now (actor_view it)) }
     ensures none { IfNone result (IsNoActor line.now) }
 {
     let Some((actor, rest)) = split_line(line) else {
@@ -41,8 +39,7 @@ pub fn signature_of_line(line: &[u8]) -> Option<SignatureRef<'_>>
 /// The actor at the front of a line without a newline, and what follows its time, or none.
 pub fn split_signature(line: &[u8]) -> Option<(SignatureRef<'_>, &[u8])>
     requires one_line { IsFree newline line.now }
-    ensures found { IfSome result (λ it. IsActorLine line.now (bstr_bytes it.0.name)
-        (bstr_bytes it.0.email) (bstr_bytes it.0.time) it.1.now) }
+    ensures found { IfSome result (λ it. IsActorLineOf line.now (actor_view it.0) it.1.now) }
     ensures none { IfNone result (IsNoActorLine line.now) }
 {
     split_line(line)
@@ -52,8 +49,7 @@ pub fn split_signature(line: &[u8]) -> Option<(SignatureRef<'_>, &[u8])>
 ///
 /// `Malformed` where the line is none or bytes follow its time. It takes no memory.
 pub fn actor_of_line(line: BStr<'_>) -> Result<SignatureRef<'_>, Error>
-    ensures found { IfOk result (λ it. IsActor (bstr_bytes line.entry) (bstr_bytes it.name)
-        (bstr_bytes it.email) (bstr_bytes it.time)) }
+    ensures found { IfOk result (λ it. IsActorOf (bstr_bytes line.entry) (actor_view it)) }
     ensures refusal { IfErr result (λ e. (e ≡ Malformed) × IsNoActor (bstr_bytes line.entry)) }
 {
     match signature(line.as_bytes()) {
@@ -75,8 +71,8 @@ pub fn trimmed_actor(line: BStr<'_>) -> Result<SignatureRef<'_>, Error>
 
 /// A copy of an actor, as it stands, with the time that it says.
 pub fn owned_actor(alloc: Global, actor: SignatureRef<'_>) -> Result<Signature, OutOfMemory>
-    ensures { IfOk result (λ it. (line : List ℕ) → IsActor line (bstr_bytes actor.entry.name)
-        (bstr_bytes actor.entry.email) (bstr_bytes actor.entry.time) → IsOwnedActor line it) }
+    ensures { IfOk result (λ it. (line : List ℕ) → IsActorOf line (actor_view actor.entry)
+        → IsOwnedActor line it) }
 {
     actor.to_owned(alloc)
 }

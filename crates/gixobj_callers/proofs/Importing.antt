@@ -8,11 +8,12 @@ use Rattle.gixobj_editor.specs.declared.command.Edit.{Edit}
 use Rattle.gixobj_editor.specs.declared.command.Edit.TheVariants as edit
 use Rattle.gixobj_files.specs.State.{State}
 use Rattle.gixobj_editor.specs.Commands.{at_root}
-use Rattle.gixobj_editor.specs.Replies.{Answers, IsEditReply, IsRun, Meaning}
+use Rattle.gixobj_editor.specs.Replies.{Answers, IsEditReply, IsRun}
 use Rattle.gixobj_editor.specs.declared.reply.EditReply.{EditReply}
 use Rattle.gixobj_editor.specs.declared.reply.EditReply.TheVariants as edit_reply
 use Rattle.gixobj_editor.specs.declared.reply.Reply.{Reply}
 use Rattle.gixobj_editor.specs.declared.reply.Reply.TheVariants as reply
+use Rattle.gixobj_object.specs.Stores.{Meaning}
 
 abbrev pub is_other : {E : Type 0} → Reply E → Bool
 is_other its_reply = not (is_done its_reply)

@@ -8,8 +8,8 @@ use Rattle.gixobj_base.specs.hash.hash.object_id.ObjectId.{ObjectId}
 use Rattle.gixobj_base.specs.hash.kind.Kind.TheVariants.{Tree}
 use Rattle.gixobj_callers.proofs.Histories.{same_trans, same_upserted}
 use Rattle.gixobj_callers.specs.Plans.{IsNotPutIn, IsPutIn, IsRoot, started}
-use Rattle.gixobj_codec.specs.Stores.{Objects}
-use Rattle.gixobj_directories.specs.Openings.{AreTreesOf}
+use Rattle.gixobj_codec.specs.Stores.{Meaning, Objects}
+use Rattle.gixobj_directories.specs.Openings.{AreTreesOf, OfTrees}
 use Rattle.gixobj_directories.specs.declared.write.Written.{Written}
 use Rattle.gixobj_editor.specs.Upserts.{IsUpserted, RefusesUpsert}
 use Rattle.gixobj_editor.specs.Writes.{IsWrittenEditor}
@@ -19,8 +19,6 @@ use Rattle.gixobj_files.specs.Files.{Files, NamedFiles, Path, SameFiles, Table, 
 use Rattle.gixobj_files.specs.State.{EditorFiles, State, open_bases, open_dirs, root_alone}
 use Rattle.gixobj_files.specs.Tables.{AgreesWithPairs, AgreesWithStore}
 use Rattle.gixobj_find.specs.Existing.{IsEmptyId}
-use Rattle.gixobj_editor.specs.Replies.{Meaning}
-use Rattle.gixobj_editor.specs.RunTables.{OfTrees}
 
 -- an editor with these parts is a new one
 pub is_started : {S : Type 0} (state : State S) (store : S) (object_hash : Kind) (entries : List EntryView) → state.dirs ≡ root_alone entries → state.bases ≡ root_alone [] → state.store ≡ store → state.lookups ≡ 0

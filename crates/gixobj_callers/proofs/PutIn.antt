@@ -10,7 +10,7 @@ use Rattle.gixobj_callers.specs.Plans.{started}
 use Rattle.gixobj_callers.specs.declared.checkout.Planned.{Planned}
 use Rattle.gixobj_callers.proofs.Histories.{same_history, same_refl, same_trans}
 use Rattle.gixobj_directories.specs.Calls.{names_of}
-use Rattle.gixobj_directories.specs.Openings.{AreTreesOf}
+use Rattle.gixobj_directories.specs.Openings.{AreTreesOf, OfTrees}
 use Rattle.gixobj_directories.specs.declared.write.Written.{Written}
 use Rattle.gixobj_editor.specs.Cursors.{RefusesFromRoot, from_root}
 use Rattle.gixobj_editor.specs.Upserts.{IsUpserted, RefusesUpsert}
@@ -20,8 +20,7 @@ use Rattle.gixobj_files.specs.Files.{Assured, Files, NamedFiles, Path, SameFiles
 use Rattle.gixobj_files.specs.History.{History}
 use Rattle.gixobj_files.specs.State.{EditorFiles, State, open_bases, open_dirs}
 use Rattle.gixobj_files.specs.Tables.{AgreesWithPairs, AgreesWithStore}
-use Rattle.gixobj_editor.specs.Replies.{Meaning}
-use Rattle.gixobj_editor.specs.RunTables.{OfTrees}
+use Rattle.gixobj_object.specs.Stores.{Meaning}
 
 module _ {S : Type 0} (means : Meaning S) (prefix : Path) where
   one_more : (old mid new : State S) (entries : List Planned) (entry : Planned) → ArePutIn means prefix old entries mid → IsPutInAt means prefix mid entry new → ArePutIn means prefix old (entries ++ entry ∷ []) new

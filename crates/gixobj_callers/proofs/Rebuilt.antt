@@ -14,8 +14,9 @@ use Rattle.gixobj_files.specs.PlainHistory.{NoFiles, PlainHistory}
 use Rattle.gixobj_files.specs.State.{State}
 use Rattle.gixobj_editor.specs.Commands.{accepted_steps, written_at, written_by}
 use Rattle.gixobj_editor.specs.OneId.{IdsTellFiles, IsPlainRun, files_before}
-use Rattle.gixobj_editor.specs.Replies.{Answers, IsRun, Meaning}
+use Rattle.gixobj_editor.specs.Replies.{Answers, IsRun}
 use Rattle.gixobj_editor.specs.declared.reply.Reply.{Reply}
+use Rattle.gixobj_object.specs.Stores.{Meaning}
 
 -- what the first replies tell, all of them tell
 written_front : {E : Type 0} (m k : ℕ) (replies : List (Reply E)) → k < m → written_at (take m replies) k ≡ written_at replies k

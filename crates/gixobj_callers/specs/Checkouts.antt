@@ -7,6 +7,7 @@ use Rattle.gixobj_callers.specs.declared.checkout.CheckoutError.TheVariants as c
 use Rattle.gixobj_callers.specs.declared.checkout.Planned.{Planned}
 use Rattle.gixobj_directories.specs.Calls.{names_of}
 use Rattle.gixobj_directories.specs.Handing.{Stopped}
+use Rattle.gixobj_directories.specs.Openings.{OfTrees}
 use Rattle.gixobj_directories.specs.declared.write.Written.{Written}
 use Rattle.gixobj_editor.specs.Cursors.{IsAssured, RefusesCursor, RefusesFromRoot, from_root}
 use Rattle.gixobj_editor.specs.Upserts.{IsUpserted, RefusesUpsert}
@@ -16,8 +17,7 @@ use Rattle.gixobj_files.specs.Files.{Path}
 use Rattle.gixobj_files.specs.HandingOut.{HandsOutSome}
 use Rattle.gixobj_files.specs.History.{Step, assure, upsert}
 use Rattle.gixobj_files.specs.State.{State, open_bases, open_dirs}
-use Rattle.gixobj_editor.specs.Replies.{Meaning}
-use Rattle.gixobj_editor.specs.RunTables.{OfTrees}
+use Rattle.gixobj_object.specs.Stores.{Meaning}
 
 -- the path of an entry from the root
 abbrev pub path_from : Path → Planned → Path

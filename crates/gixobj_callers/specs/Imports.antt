@@ -10,12 +10,13 @@ use Rattle.gixobj_editor.specs.declared.editor.error.Error.{Error}
 use Rattle.gixobj_files.specs.History.{Step}
 use Rattle.gixobj_files.specs.State.{State}
 use Rattle.gixobj_editor.specs.Commands.{at_root}
-use Rattle.gixobj_editor.specs.Replies.{Answers, AreEditReplies, IsEditReply, IsRun, Meaning}
+use Rattle.gixobj_editor.specs.Replies.{Answers, AreEditReplies, IsEditReply, IsRun}
 use Rattle.gixobj_editor.specs.declared.reply.EditReply.{EditReply}
 use Rattle.gixobj_editor.specs.declared.reply.EditReply.TheVariants as edit_reply
 use Rattle.gixobj_editor.specs.declared.reply.Reply.{Reply}
 use Rattle.gixobj_editor.specs.declared.reply.Reply.TheVariants as reply
 use Rattle.gixobj_import.specs.Edited.{steps_if_done}
+use Rattle.gixobj_object.specs.Stores.{Meaning}
 
 -- what all of the edits do, in order
 abbrev pub import_steps : List Edit → List Step

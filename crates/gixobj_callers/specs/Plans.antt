@@ -5,10 +5,10 @@ use Rattle.gixobj_base.specs.Hash.{id_kind}
 use Rattle.gixobj_base.specs.hash.hash.kind.Kind as hash
 use Rattle.gixobj_base.specs.hash.hash.object_id.ObjectId.{ObjectId}
 use Rattle.gixobj_base.specs.hash.kind.Kind.TheVariants.{Tree}
-use Rattle.gixobj_codec.specs.Stores.{Objects}
+use Rattle.gixobj_codec.specs.Stores.{Meaning, Objects}
 use Rattle.gixobj_codec.specs.TreeReading.{IsTreeText}
 use Rattle.gixobj_directories.specs.Handing.{Stopped}
-use Rattle.gixobj_directories.specs.Openings.{NamesMalformed, NamesTree}
+use Rattle.gixobj_directories.specs.Openings.{NamesMalformed, NamesTree, OfTrees}
 use Rattle.gixobj_directories.specs.declared.write.Written.{Written}
 use Rattle.gixobj_editor.specs.Upserts.{IsUpserted, RefusesUpsert}
 use Rattle.gixobj_editor.specs.Writes.{IsWrittenEditor}
@@ -17,8 +17,6 @@ use Rattle.gixobj_files.specs.Files.{Path}
 use Rattle.gixobj_files.specs.HandingOut.{HandsOutSome}
 use Rattle.gixobj_files.specs.State.{State, open_bases, open_dirs, root_alone}
 use Rattle.gixobj_find.specs.Existing.{IsEmptyId, NamesSuch, RefusesObject}
-use Rattle.gixobj_editor.specs.Replies.{Meaning}
-use Rattle.gixobj_editor.specs.RunTables.{OfTrees}
 use Rattle.gixobj_callers.specs.declared.planner.PlanError.{PlanError}
 use Rattle.gixobj_callers.specs.declared.planner.PlanError.TheVariants as plan
 use Rattle.gixobj_callers.specs.declared.planner.RootError.{RootError}

@@ -6,13 +6,13 @@ use Rattle.gixobj_callers.specs.Plans.{started}
 use Rattle.gixobj_callers.specs.declared.rebuilder.CompareError.{CompareError}
 use Rattle.gixobj_callers.specs.declared.rebuilder.CompareError.TheVariants as compare
 use Rattle.gixobj_editor.specs.declared.command.Command.{Command}
-use Rattle.gixobj_object.specs.Stores.{Objects}
+use Rattle.gixobj_object.specs.Stores.{Meaning, Objects}
 use Rattle.gixobj_directories.specs.declared.write.Written.{Written}
 use Rattle.gixobj_files.specs.Files.{SameFiles, Table}
 use Rattle.gixobj_files.specs.State.{State}
 use Rattle.gixobj_editor.specs.Commands.{written_at}
 use Rattle.gixobj_editor.specs.OneId.{IsPlainRun, files_before}
-use Rattle.gixobj_editor.specs.Replies.{Answers, IsRun, Meaning}
+use Rattle.gixobj_editor.specs.Replies.{Answers, IsRun}
 use Rattle.gixobj_editor.specs.declared.reply.Reply.{Reply}
 
 -- the id that a write names

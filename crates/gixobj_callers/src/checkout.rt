@@ -1,15 +1,15 @@
 //! A planner of checkouts that works in one directory of a root.
-ghost use Rattle.std.specs.Prelude.{◌≡◌, ℕ, Err, IfErr, IfOk, Ok, OnOk};
-ghost use Rattle.std.specs.Fn.{CalledAt};
+ghost use Rattle.std.specs.Prelude.{◌≡◌, ℕ, IfErr, IfOk, OnOk};
 ghost use Rattle.gixobj_base.specs.Entries.{IsWellFormed};
-ghost use Rattle.gixobj_directories.specs.Calls.{IsCallableOnTrees, names_of};
-ghost use Rattle.gixobj_directories.specs.Openings.{AreTreesOf};
+ghost use Rattle.gixobj_directories.specs.Calls.{IsCallableOnTrees, answered, denied, names_of};
+ghost use Rattle.gixobj_directories.specs.Openings.{OfTrees};
 ghost use Rattle.gixobj_editor.specs.Cursors.{prefix_of};
-ghost use Rattle.gixobj_files.specs.Files.{Files, NamedFiles, SameFiles, Table, Trees};
+ghost use Rattle.gixobj_files.specs.Files.{Files, NamedFiles, SameFiles, Table};
 ghost use Rattle.gixobj_files.specs.History.{History};
 ghost use Rattle.gixobj_files.specs.Tables.{AgreesWithPairs, AgreesWithStore};
 ghost use Rattle.gixobj_callers.specs.Checkouts.{AreNotPutIn, ArePutIn, IsCheckedOut, IsFilled, IsNotFilled, RefusesCheckout, steps_of_checkout};
 ghost use Rattle.gixobj_callers.specs.Plans.{started};
+ghost use Rattle.gixobj_object.specs.Stores.{meaning};
 
 use bstr::BString;
 use gixobj_base::Tree;
@@ -54,19 +54,19 @@ pub fn with_entries_at<S: Find + Drop, E: Drop, F: FnMut(&Tree) -> Result<Object
     out: F,
 ) -> Result<Written, CheckoutError<E>>
     requires well_formed { IsWellFormed root }
-    requires callable { IsCallableOnTrees F.pre (λ f p g. CalledAt F.FnMut f p.1 (Ok p.0) g) out }
-    ensures files { IfOk result (λ written. (trees : Trees) → AreTreesOf (S.objects store) trees
-        → (T : Table) (n : ℕ) → AgreesWithStore T trees → AgreesWithPairs T written.trees.items
-        → SameFiles (NamedFiles T n written.id) (History T n
-        (steps_of_checkout (prefix_of (names_of prefix.now)) entries.now) (Files T n root))) }
+    requires callable { IsCallableOnTrees F.pre (answered F.FnMut) out }
+    ensures files { IfOk result (λ written. OfTrees (S.objects store)
+        (λ trees. (T : Table) (n : ℕ) → AgreesWithStore T trees
+        → AgreesWithPairs T written.trees.items → SameFiles (NamedFiles T n written.id)
+        (History T n (steps_of_checkout (prefix_of (names_of prefix.now)) entries.now)
+        (Files T n root)))) }
     // The directory was filled, and then the write came through; or else it is told which of them didn't, and why.
-    ensures done { IfOk result (IsCheckedOut (record { objects = S.objects; may_fail = S.may_fail })
+    ensures done { IfOk result (IsCheckedOut (meaning S.objects S.may_fail)
         (started store object_hash root) (prefix_of (names_of prefix.now)) entries.now
-        (λ f p g. CalledAt F.FnMut f p.1 (Ok p.0) g) out) }
-    ensures refusal { IfErr result (RefusesCheckout
-        (record { objects = S.objects; may_fail = S.may_fail }) (started store object_hash root)
-        (prefix_of (names_of prefix.now)) entries.now (λ f p g. CalledAt F.FnMut f p.1 (Ok p.0) g)
-        (λ f t e g. CalledAt F.FnMut f t (Err e) g) out) }
+        (answered F.FnMut) out) }
+    ensures refusal { IfErr result (RefusesCheckout (meaning S.objects S.may_fail)
+        (started store object_hash root) (prefix_of (names_of prefix.now)) entries.now
+        (answered F.FnMut) (denied F.FnMut) out) }
 {
     let mut editor = Editor::new(root, store, object_hash);
     if let Err(error) = put_entries_at(&mut editor, prefix, entries) {
@@ -84,10 +84,9 @@ fn put_entries_at<S: Find>(
     prefix: &[BString],
     entries: &[Planned],
 ) -> Result<(), Error>
-    ensures filled { OnOk result (IsFilled (record { objects = S.objects; may_fail = S.may_fail })
-        editor.old (prefix_of (names_of prefix.now)) entries.now editor.new) }
-    ensures refusal { IfErr result
-        (IsNotFilled (record { objects = S.objects; may_fail = S.may_fail }) editor.old
+    ensures filled { OnOk result (IsFilled (meaning S.objects S.may_fail) editor.old
+        (prefix_of (names_of prefix.now)) entries.now editor.new) }
+    ensures refusal { IfErr result (IsNotFilled (meaning S.objects S.may_fail) editor.old
         (prefix_of (names_of prefix.now)) entries.now) }
 {
     let mut cursor = editor.cursor_at(prefix)?;
@@ -97,10 +96,9 @@ fn put_entries_at<S: Find>(
 /// Puts entries into the directory of a cursor.
 fn put_entries<S: Find>(cursor: &mut Cursor<'_, S>, entries: &[Planned]) -> Result<(), Error>
     ensures same_reference { cursor.new.editor.ghost_name ≡ cursor.old.editor.ghost_name }
-    ensures put_in { OnOk result (ArePutIn (record { objects = S.objects; may_fail = S.may_fail })
+    ensures put_in { OnOk result (ArePutIn (meaning S.objects S.may_fail)
         cursor.old.editor.now.prefix cursor.old.editor.now entries.now cursor.new.editor.now) }
-    ensures refusal { IfErr result
-        (AreNotPutIn (record { objects = S.objects; may_fail = S.may_fail })
+    ensures refusal { IfErr result (AreNotPutIn (meaning S.objects S.may_fail)
         cursor.old.editor.now.prefix cursor.old.editor.now entries.now) }
 {
     for entry in entries {

@@ -14,6 +14,7 @@ ghost use Rattle.gixobj_editor.specs.Replies.{IsCallable};
 ghost use Rattle.gixobj_editor.specs.RunTables.{AgreesWithObjects};
 ghost use Rattle.gixobj_callers.specs.Copies.{FailsForPart};
 ghost use Rattle.gixobj_callers.specs.Imports.{Decides, FailsImport, IsWriteBehind, edits_and_write, is_done, import_steps};
+ghost use Rattle.gixobj_object.specs.Stores.{meaning};
 
 use crate::store::CopyError;
 use gixobj_base::hash::{Kind, ObjectId};
@@ -97,13 +98,10 @@ pub fn import_files<S: Keep, E: Drop, F: Fn(&Tree) -> Result<ObjectId, E> + Drop
     ensures kept { IfOk result (λ written. S.objects editor.new.store ≡ with_trees
         written.trees.items (S.objects editor.old.store)) }
     // Each edit came through, and then the write; or else it is told which call didn't, and why.
-    ensures done { IfOk result (λ written. IsWriteBehind
-        (record { objects = S.objects; may_fail = S.may_fail })
-        (λ tree answer. FnReturnsAt F.Fn out tree answer) editor.old edits.items
-        (EditReply.Written written) editor.new) }
-    ensures fails { IfErr result (λ error. FailsImport
-        (record { objects = S.objects; may_fail = S.may_fail })
-        (λ tree answer. FnReturnsAt F.Fn out tree answer) editor.old edits.items error editor.new) }
+    ensures done { IfOk result (λ written. IsWriteBehind (meaning S.objects S.may_fail)
+        (FnReturnsAt F.Fn out) editor.old edits.items (EditReply.Written written) editor.new) }
+    ensures fails { IfErr result (λ error. FailsImport (meaning S.objects S.may_fail)
+        (FnReturnsAt F.Fn out) editor.old edits.items error editor.new) }
     ensures holds_write { (result ≡ Err ImportError.HoldsWrite) ↔ Contains edits.items Edit.Write }
 {
     every_store_names_trees();
@@ -134,10 +132,8 @@ fn deciding_reply<S: Keep, E: Drop, F: Fn(&Tree) -> Result<ObjectId, E> + Drop>(
 ) -> Result<(usize, EditReply<E>), OutOfMemory>
     requires callable { IsCallable F.pre out }
     requires no_write { ¬ Contains edits.items Edit.Write }
-    ensures decides { IfOk result
-        (λ it. Decides (record { objects = S.objects; may_fail = S.may_fail })
-        (λ tree answer. FnReturnsAt F.Fn out tree answer) editor.old edits.items it.0 it.1
-        editor.new) }
+    ensures decides { IfOk result (λ it. Decides (meaning S.objects S.may_fail)
+        (FnReturnsAt F.Fn out) editor.old edits.items it.0 it.1 editor.new) }
     ensures nothing_done { OnErr result (editor.new ≡ editor.old) }
 {
     let commands = commands_of(alloc, edits)?;

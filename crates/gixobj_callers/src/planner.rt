@@ -1,16 +1,16 @@
 //! A planner of checkouts, which goes through the entries of trees, and makes a tree from a stored one.
-ghost use Rattle.std.specs.Prelude.{◌≡◌, ℕ, All, Err, IfErr, IfOk, IsFalse, List, MatchBool, Ok};
-ghost use Rattle.std.specs.Fn.{CalledAt};
+ghost use Rattle.std.specs.Prelude.{◌≡◌, ℕ, All, IfErr, IfOk, IsFalse, List, MatchBool};
 ghost use Rattle.gixobj_base.specs.Entries.{EntryView};
 ghost use Rattle.gixobj_base.specs.Mode.{mode_of_kind};
-ghost use Rattle.gixobj_directories.specs.Calls.{IsCallableOnTrees, names_of};
-ghost use Rattle.gixobj_directories.specs.Openings.{AreTreesOf};
-ghost use Rattle.gixobj_files.specs.Files.{NamedFiles, SameFiles, Table, Trees, Upserted, is_null};
+ghost use Rattle.gixobj_directories.specs.Calls.{IsCallableOnTrees, answered, denied, names_of};
+ghost use Rattle.gixobj_directories.specs.Openings.{OfTrees};
+ghost use Rattle.gixobj_files.specs.Files.{NamedFiles, SameFiles, Table, Upserted, is_null};
 ghost use Rattle.gixobj_files.specs.Tables.{AgreesWithPairs, AgreesWithStore};
 ghost use Rattle.gixobj_codec.specs.TreeReading.{IsNoTreeText, IsTreeText};
 ghost use Rattle.gixobj_codec.specs.TreeRewriting.{ReadsBack};
 ghost use Rattle.gixobj_callers.specs.Copies.{FailsForRoom};
 ghost use Rattle.gixobj_callers.specs.Plans.{IsPlanned, IsRoot, RefusesPlan, RefusesRoot};
+ghost use Rattle.gixobj_object.specs.Stores.{meaning};
 
 use crate::store::CopyError;
 use bstr::BString;
@@ -134,20 +134,16 @@ pub fn with_entry_in_stored<S: Find + Drop, E: Drop, F: FnMut(&Tree) -> Result<O
     id: ObjectId,
     out: F,
 ) -> Result<Written, PlanError<E>>
-    requires callable { IsCallableOnTrees F.pre (λ f p g. CalledAt F.FnMut f p.1 (Ok p.0) g) out }
-    ensures files { IfOk result (λ written. IsFalse (is_null root) → (trees : Trees)
-        → AreTreesOf (S.objects store) trees → (T : Table) (n : ℕ) → AgreesWithStore T trees
-        → AgreesWithPairs T written.trees.items
-        → SameFiles (NamedFiles T n written.id) (Upserted T n (names_of path.now)
-        (mode_of_kind kind) id (NamedFiles T n root))) }
+    requires callable { IsCallableOnTrees F.pre (answered F.FnMut) out }
+    ensures files { IfOk result (λ written. IsFalse (is_null root)
+        → OfTrees (S.objects store) (λ trees. (T : Table) (n : ℕ) → AgreesWithStore T trees
+        → AgreesWithPairs T written.trees.items → SameFiles (NamedFiles T n written.id)
+        (Upserted T n (names_of path.now) (mode_of_kind kind) id (NamedFiles T n root)))) }
     // The root was found, the edit came through, and then the write; or else it is told which of them didn't, and why.
-    ensures done { IfOk result (IsPlanned (record { objects = S.objects; may_fail = S.may_fail })
-        store root (names_of path.now) (mode_of_kind kind) id
-        (λ f p g. CalledAt F.FnMut f p.1 (Ok p.0) g) out) }
-    ensures refusal { IfErr result
-        (RefusesPlan (record { objects = S.objects; may_fail = S.may_fail }) store root
-        (names_of path.now) (mode_of_kind kind) id (λ f p g. CalledAt F.FnMut f p.1 (Ok p.0) g)
-        (λ f t e g. CalledAt F.FnMut f t (Err e) g) out) }
+    ensures done { IfOk result (IsPlanned (meaning S.objects S.may_fail) store root
+        (names_of path.now) (mode_of_kind kind) id (answered F.FnMut) out) }
+    ensures refusal { IfErr result (RefusesPlan (meaning S.objects S.may_fail) store root
+        (names_of path.now) (mode_of_kind kind) id (answered F.FnMut) (denied F.FnMut) out) }
 {
     ids_are_the_same_or_not();
     let tree = match root_in(alloc, &store, root) {

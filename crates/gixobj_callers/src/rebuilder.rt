@@ -4,6 +4,7 @@ ghost use Rattle.std.specs.Fn.{FnReturnsAt};
 ghost use Rattle.gixobj_editor.specs.Commands.{written_at, written_by, written_by_edit};
 ghost use Rattle.gixobj_editor.specs.Replies.{IsCallable};
 ghost use Rattle.gixobj_callers.specs.Rebuilds.{IsCompared, NamesWritten, RefusesComparison, id_named};
+ghost use Rattle.gixobj_object.specs.Stores.{meaning};
 
 use gixobj_base::hash::{Kind, ObjectId};
 use gixobj_base::{OutOfMemory, Tree};
@@ -52,14 +53,10 @@ pub fn wrote_the_same<S: Keep + Drop, E: Drop, F: Fn(&Tree) -> Result<ObjectId, 
     out: F,
 ) -> Result<bool, CompareError>
     requires callable { IsCallable F.pre out }
-    ensures compared { IfOk result (IsCompared
-        (record { objects = S.objects; may_fail = S.may_fail })
-        (λ tree answer. FnReturnsAt F.Fn out tree answer)
+    ensures compared { IfOk result (IsCompared (meaning S.objects S.may_fail) (FnReturnsAt F.Fn out)
         store object_hash commands.items place other) }
-    ensures refusal { IfErr result (RefusesComparison
-        (record { objects = S.objects; may_fail = S.may_fail })
-        (λ tree answer. FnReturnsAt F.Fn out tree answer)
-        store object_hash commands.items place other) }
+    ensures refusal { IfErr result (RefusesComparison (meaning S.objects S.may_fail)
+        (FnReturnsAt F.Fn out) store object_hash commands.items place other) }
 {
     let mut editor = Editor::new(Tree::empty(alloc), store, object_hash);
     let replies = run(alloc, &mut editor, commands, out)?;

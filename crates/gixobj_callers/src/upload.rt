@@ -1,7 +1,6 @@
 //! A planner of uploads, which tells what an editor's files need that isn't there yet.
-ghost use Rattle.std.specs.Prelude.{◌≡◌, Err, IfErr, IfOk, Ok, OnErr};
-ghost use Rattle.std.specs.Fn.{CalledAt};
-ghost use Rattle.gixobj_directories.specs.Calls.{IsCallableOnTrees};
+ghost use Rattle.std.specs.Prelude.{◌≡◌, IfErr, IfOk, OnErr};
+ghost use Rattle.gixobj_directories.specs.Calls.{IsCallableOnTrees, answered, denied};
 ghost use Rattle.gixobj_directories.specs.Handing.{Stopped};
 ghost use Rattle.gixobj_editor.specs.Writes.{IsWrittenEditor};
 ghost use Rattle.gixobj_files.specs.HandingOut.{HandsOutSome};
@@ -33,17 +32,13 @@ pub fn upload_of<S, E, F: FnMut(&Tree) -> Result<ObjectId, E>>(
     editor: &mut Editor<S>,
     out: &mut F,
 ) -> Result<Upload, WriteError<E>>
-    requires callable { IsCallableOnTrees F.pre
-        (λ f p g. CalledAt F.FnMut f p.1 (Ok p.0) g) out.old }
+    requires callable { IsCallableOnTrees F.pre (answered F.FnMut) out.old }
     ensures divided { IfOk result (Divides editor.old) }
     ensures files { IfOk result (NamesItsFiles editor.old) }
     ensures enough { IfOk result (IsEnough editor.old) }
-    ensures done { IfOk result (λ it. IsWrittenEditor
-        (λ f p g. CalledAt F.FnMut f p.1 (Ok p.0) g) out.old
-        editor.old (record { id = it.id; trees = it.trees; saved = it.unchanged })
-        editor.new out.new) }
-    ensures refusal { IfErr result (Stopped (λ f p g. CalledAt F.FnMut f p.1 (Ok p.0) g)
-        (λ f t e g. CalledAt F.FnMut f t (Err e) g)
+    ensures done { IfOk result (λ it. IsWrittenEditor (answered F.FnMut) out.old editor.old
+        (record { id = it.id; trees = it.trees; saved = it.unchanged }) editor.new out.new) }
+    ensures refusal { IfErr result (Stopped (answered F.FnMut) (denied F.FnMut)
         (HandsOutSome (open_dirs editor.old) (open_bases editor.old)) out.old out.new) }
     ensures unchanged { OnErr result (editor.new ≡ editor.old) }
 {

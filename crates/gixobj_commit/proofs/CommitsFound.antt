@@ -3,7 +3,7 @@ use Rattle.std.proofs.Common.{◌≡◌, ℕ, List, [], ◌∷◌, ◌++◌, All
 use Rattle.std.proofs.lemmas.List.Elements.{All-append, All-cons, All-head, All-nil, All-tail}
 use Rattle.std.specs.List.{AllZip}
 use Rattle.std.specs.Prelude.{map, ⊤}
-use Rattle.gixobj_actor.specs.Actor.{IsActor}
+use Rattle.gixobj_actor.specs.Actor.{ActorView, IsActorOf}
 use Rattle.gixobj_fields.proofs.Runs.{behind_first, behind_passed, one_here}
 use Rattle.gixobj_fields.specs.Readers.{Standing}
 use Rattle.gixobj_fields.specs.Runs.{Ending, HasNone, broken, complete, tells_end, tells_piece}
@@ -82,11 +82,11 @@ token_here (first ∷ front) line more (token ∷ tokens) (tells, others) =
     let it = token_here front line more tokens others in
     record { front = token ∷ it.front; token = it.token; more = it.more; joined = ap (λ (others : List CommitTokenView). token ∷ others) it.joined; tells = it.tells }
 
-author_of : (commit : CommitLines) (line : LineView) (name email time : List ℕ) → IsLineOf commit line → TellsLine line (author_token name email time) → IsActor commit.author name email time
-author_of commit line name email time is (tells_author text _ _ _ actor) = subst (λ (it : List ℕ). IsActor it name email time) is actor
+author_of : (commit : CommitLines) (line : LineView) (actor : ActorView) → IsLineOf commit line → TellsLine line (author_token actor) → IsActorOf commit.author actor
+author_of commit line actor is (tells_author text _ named) = subst (λ (it : List ℕ). IsActorOf it actor) is named
 
-committer_of : (commit : CommitLines) (line : LineView) (name email time : List ℕ) → IsLineOf commit line → TellsLine line (committer_token name email time) → IsActor commit.committer name email time
-committer_of commit line name email time is (tells_committer text _ _ _ actor) = subst (λ (it : List ℕ). IsActor it name email time) is actor
+committer_of : (commit : CommitLines) (line : LineView) (actor : ActorView) → IsLineOf commit line → TellsLine line (committer_token actor) → IsActorOf commit.committer actor
+committer_of commit line actor is (tells_committer text _ named) = subst (λ (it : List ℕ). IsActorOf it actor) is named
 
 message_of : (commit : CommitLines) (line : LineView) (message : List ℕ) → IsLineOf commit line → TellsLine line (message_token message) → message ≡ commit.message
 message_of commit line message is (tells_message _) = is
@@ -95,10 +95,10 @@ tree_of : (commit : CommitLines) (lines : List LineView) (token : CommitTokenVie
 tree_of commit lines token more (tells_tree _ id spells, others) = (id, refl, spells)
 
 is_author : (line : List ℕ) (token : CommitTokenView) → TellsLine (author_line line) token → IsAuthorToken token
-is_author line token (tells_author _ name email time is) = tt
+is_author line token (tells_author _ actor is) = tt
 
 is_committer : (line : List ℕ) (token : CommitTokenView) → TellsLine (committer_line line) token → IsCommitterToken token
-is_committer line token (tells_committer _ name email time is) = tt
+is_committer line token (tells_committer _ actor is) = tt
 
 is_message : (message : List ℕ) (token : CommitTokenView) → TellsLine (message_line message) token → IsMessageToken token
 is_message message token (tells_message _) = tt
@@ -139,14 +139,14 @@ module _ (kind : Kind) (text : List ℕ) (commit : CommitLines) (reader : Commit
 
   -- ---- actors and message
 
-  pub its_author : (name email time : List ℕ) → FindsAuthor reader name email time → IsActor commit.author name email time
-  its_author name email time finds = let it = line_found IsAuthorToken (author_token name email time) finds in author_of commit it.0 name email time it.1 it.2
+  pub its_author : (actor : ActorView) → FindsAuthor reader actor → IsActorOf commit.author actor
+  its_author actor finds = let it = line_found IsAuthorToken (author_token actor) finds in author_of commit it.0 actor it.1 it.2
 
   pub has_author : ¬ FindsNone IsAuthorToken reader Malformed
   has_author = λ (ending, lacks). lacks_none IsAuthorToken ending (tree_line commit.tree ∷ map parent_line commit.parents) (author_line commit.author) _ refl (is_author commit.author) lacks
 
-  pub its_committer : (name email time : List ℕ) → FindsCommitter reader name email time → IsActor commit.committer name email time
-  its_committer name email time finds = let it = line_found IsCommitterToken (committer_token name email time) finds in committer_of commit it.0 name email time it.1 it.2
+  pub its_committer : (actor : ActorView) → FindsCommitter reader actor → IsActorOf commit.committer actor
+  its_committer actor finds = let it = line_found IsCommitterToken (committer_token actor) finds in committer_of commit it.0 actor it.1 it.2
 
   pub has_committer : ¬ FindsNone IsCommitterToken reader Malformed
   has_committer = λ (ending, lacks).

@@ -3,7 +3,8 @@ use Rattle.std.proofs.Common.{◌≡◌, ℕ, List, [], ◌∷◌, ◌++◌, ref
 use Rattle.std.proofs.lemmas.List.{append-nil}
 use Rattle.std.specs.List.{AllZip}
 use Rattle.std.specs.Prelude.{codes}
-use Rattle.gixobj_actor.proofs.ActorLines.{one_actor}
+use Rattle.gixobj_actor.proofs.ActorLines.{one_view}
+use Rattle.gixobj_actor.specs.Actor.{ActorView}
 use Rattle.gixobj_fields.proofs.HeaderFields.{field_alone, of_an_id}
 use Rattle.gixobj_fields.specs.HeaderText.{HasHeader, Header}
 use Rattle.gixobj_fields.specs.Runs.{complete, tells_end, tells_piece}
@@ -22,10 +23,8 @@ use Rattle.gixobj_commit.specs.CommitTokens.{HasCommitToken, IsCommitTokenText, 
 one_of_line : (line : LineView) (a b : CommitTokenView) → TellsLine line a → TellsLine line b → a ≡ b
 one_of_line line a b (tells_tree hex id is) (tells_tree _ id' is') = ap tree_token (one_id hex id is ∙ sym (one_id hex id' is'))
 one_of_line line a b (tells_parent hex id is) (tells_parent _ id' is') = ap parent_token (one_id hex id is ∙ sym (one_id hex id' is'))
-one_of_line line a b (tells_author text name email time is) (tells_author _ name' email' time' is') =
-    let parts = one_actor text name email time [] name' email' time' [] is is' in cc (parts.0, parts.1, parts.2)
-one_of_line line a b (tells_committer text name email time is) (tells_committer _ name' email' time' is') =
-    let parts = one_actor text name email time [] name' email' time' [] is is' in cc (parts.0, parts.1, parts.2)
+one_of_line line a b (tells_author text actor is) (tells_author _ actor' is') = ap author_token (one_view text actor actor' [] [] is is')
+one_of_line line a b (tells_committer text actor is) (tells_committer _ actor' is') = ap committer_token (one_view text actor actor' [] [] is is')
 one_of_line line a b (tells_encoding encoding) (tells_encoding _) = refl
 one_of_line line a b (tells_header header) (tells_header _) = refl
 one_of_line line a b (tells_message message) (tells_message _) = refl
@@ -65,8 +64,10 @@ text_of_token kind before input token behind rest (line, has, tells) =
 token_of_line : (kind : Kind) (before : State) (input : List ℕ) (line : LineView) (behind : State) (rest : List ℕ) → HasLine kind before input line behind rest → (token : CommitTokenView) × TellsLine line token
 token_of_line kind before input line behind rest (tree_comes _ hex _ has) = (tree_token (spelled_id hex), tells_tree hex (spelled_id hex) (spelled hex (of_an_id kind hex has.1)))
 token_of_line kind before input line behind rest (parent_comes _ hex _ has) = (parent_token (spelled_id hex), tells_parent hex (spelled_id hex) (spelled hex (of_an_id kind hex has.1)))
-token_of_line kind before input line behind rest (author_comes _ actor _ (field, (name, email, time, is))) = (author_token name email time, tells_author actor name email time is)
-token_of_line kind before input line behind rest (committer_comes _ actor _ (field, (name, email, time, is))) = (committer_token name email time, tells_committer actor name email time is)
+token_of_line kind before input line behind rest (author_comes _ text _ (field, (name, email, time, is))) =
+    let actor : ActorView = record { name = name; email = email; time = time } in (author_token actor, tells_author text actor is)
+token_of_line kind before input line behind rest (committer_comes _ text _ (field, (name, email, time, is))) =
+    let actor : ActorView = record { name = name; email = email; time = time } in (committer_token actor, tells_committer text actor is)
 token_of_line kind before input line behind rest (encoding_comes _ encoding _ has) = (encoding_token encoding, tells_encoding encoding)
 token_of_line kind before input line behind rest (first_header_comes _ header _ has other) = (header_token header, tells_header header)
 token_of_line kind before input line behind rest (header_comes _ header _ has) = (header_token header, tells_header header)

@@ -1,7 +1,7 @@
 -- Commits told token by token.
 use Rattle.std.specs.Prelude.{ℕ, List, []}
 use Rattle.bstr.specs.BStr.{bstr_bytes}
-use Rattle.gixobj_actor.specs.Actor.{IsActor}
+use Rattle.gixobj_actor.specs.Actor.{ActorView, IsActorOf, actor_view}
 use Rattle.gixobj_fields.specs.HeaderReading.{header_of}
 use Rattle.gixobj_fields.specs.HeaderText.{Header}
 use Rattle.gixobj_hash.specs.Hash.{Spells}
@@ -16,8 +16,8 @@ use Rattle.gixobj_commit.specs.declared.ref_iter.Token.TheVariants as token
 pub data CommitTokenView : Type 0 where
   tree_token : ObjectId → CommitTokenView
   parent_token : ObjectId → CommitTokenView
-  author_token : List ℕ → List ℕ → List ℕ → CommitTokenView
-  committer_token : List ℕ → List ℕ → List ℕ → CommitTokenView
+  author_token : ActorView → CommitTokenView
+  committer_token : ActorView → CommitTokenView
   encoding_token : List ℕ → CommitTokenView
   header_token : Header → CommitTokenView
   message_token : List ℕ → CommitTokenView
@@ -25,8 +25,8 @@ pub data CommitTokenView : Type 0 where
 abbrev pub commit_token_view : Token → CommitTokenView
 commit_token_view (token.Tree id) = tree_token id
 commit_token_view (token.Parent id) = parent_token id
-commit_token_view (token.Author actor) = author_token (bstr_bytes actor.name) (bstr_bytes actor.email) (bstr_bytes actor.time)
-commit_token_view (token.Committer actor) = committer_token (bstr_bytes actor.name) (bstr_bytes actor.email) (bstr_bytes actor.time)
+commit_token_view (token.Author actor) = author_token (actor_view actor)
+commit_token_view (token.Committer actor) = committer_token (actor_view actor)
 commit_token_view (token.Encoding encoding) = encoding_token (bstr_bytes encoding)
 commit_token_view (token.ExtraHeader header) = header_token (header_of header)
 commit_token_view (token.Message message) = message_token (bstr_bytes message)
@@ -35,8 +35,8 @@ commit_token_view (token.Message message) = message_token (bstr_bytes message)
 pub data TellsLine : LineView → CommitTokenView → Type 0 where
   tells_tree : (hex : List ℕ) (id : ObjectId) → Spells hex id → TellsLine (tree_line hex) (tree_token id)
   tells_parent : (hex : List ℕ) (id : ObjectId) → Spells hex id → TellsLine (parent_line hex) (parent_token id)
-  tells_author : (line name email time : List ℕ) → IsActor line name email time → TellsLine (author_line line) (author_token name email time)
-  tells_committer : (line name email time : List ℕ) → IsActor line name email time → TellsLine (committer_line line) (committer_token name email time)
+  tells_author : (line : List ℕ) (actor : ActorView) → IsActorOf line actor → TellsLine (author_line line) (author_token actor)
+  tells_committer : (line : List ℕ) (actor : ActorView) → IsActorOf line actor → TellsLine (committer_line line) (committer_token actor)
   tells_encoding : (encoding : List ℕ) → TellsLine (encoding_line encoding) (encoding_token encoding)
   tells_header : (header : Header) → TellsLine (header_line header) (header_token header)
   tells_message : (message : List ℕ) → TellsLine (message_line message) (message_token message)

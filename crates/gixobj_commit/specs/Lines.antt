@@ -1,7 +1,7 @@
 -- The lines of a commit, and which comes where (gitdatamodel, "commits").
 use Rattle.std.specs.Prelude.{◌≡◌, ◌≢◌, ℕ, List, [], ◌∷◌, codes, ⊤}
 use Rattle.bstr.specs.BStr.{bstr_bytes}
-use Rattle.gixobj_actor.specs.Actor.{IsActor, NamesActor}
+use Rattle.gixobj_actor.specs.Actor.{IsActorOf, NamesActor, actor_view}
 use Rattle.gixobj_fields.specs.HeaderReading.{BorrowsOneLine, HasId, header_of}
 use Rattle.gixobj_fields.specs.HeaderText.{BeginsSeveralLines, HasField, HasHeader, Header, LacksName}
 use Rattle.gixobj_fields.specs.Runs.{Refuses}
@@ -35,8 +35,8 @@ line_view (line.Message message) = message_line (bstr_bytes message)
 
 -- the actor beside a line is the one that it names; a header of one line is borrowed
 abbrev pub IsParsedLine : Line → Type 0
-IsParsedLine (line.Author text actor) = IsActor (bstr_bytes text) (bstr_bytes actor.name) (bstr_bytes actor.email) (bstr_bytes actor.time)
-IsParsedLine (line.Committer text actor) = IsActor (bstr_bytes text) (bstr_bytes actor.name) (bstr_bytes actor.email) (bstr_bytes actor.time)
+IsParsedLine (line.Author text actor) = IsActorOf (bstr_bytes text) (actor_view actor)
+IsParsedLine (line.Committer text actor) = IsActorOf (bstr_bytes text) (actor_view actor)
 IsParsedLine (line.ExtraHeader header) = BorrowsOneLine header.1
 IsParsedLine _ = ⊤
 

@@ -1,7 +1,7 @@
 -- Readers that tell the parents of a commit alone, or its actors alone.
 use Rattle.std.specs.Prelude.{◌≡◌, Option, Some, None}
 use Rattle.std.specs.Iterator.{Count}
-use Rattle.bstr.specs.BStr.{bstr_bytes}
+use Rattle.gixobj_actor.specs.Actor.{actor_view}
 use Rattle.gixobj_actor.specs.declared.actor.SignatureRef.{SignatureRef}
 use Rattle.gixobj_hash.specs.declared.hash.object_id.ObjectId.{ObjectId}
 use Rattle.gixobj_commit.specs.CommitTokens.{HasCommitToken, CommitTokenView, parent_token}
@@ -41,6 +41,5 @@ GivesParent before None after = ReadsNone IsParentToken (parents_reader before) 
 
 -- the next author or committer, or none
 abbrev pub GivesActor : Signatures → Option SignatureRef → Signatures → Type 0
-GivesActor before (Some it) after =
-    ReadsFirst IsActorToken (IsActorTokenOf (bstr_bytes it.name) (bstr_bytes it.email) (bstr_bytes it.time)) (actors_reader before) (actors_reader after)
+GivesActor before (Some it) after = ReadsFirst IsActorToken (IsActorTokenOf (actor_view it)) (actors_reader before) (actors_reader after)
 GivesActor before None after = ReadsNone IsActorToken (actors_reader before) (actors_reader after)

@@ -45,8 +45,8 @@ GivesCommitToken = Gives standing_in_commit HasCommitToken (λ kind. WantsMemory
 abbrev pub commit_token_id : CommitTokenView → Option ObjectId
 commit_token_id (tree_token id) = Some id
 commit_token_id (parent_token id) = Some id
-commit_token_id (author_token name email time) = None
-commit_token_id (committer_token name email time) = None
+commit_token_id (author_token actor) = None
+commit_token_id (committer_token actor) = None
 commit_token_id (encoding_token encoding) = None
 commit_token_id (header_token header) = None
 commit_token_id (message_token message) = None

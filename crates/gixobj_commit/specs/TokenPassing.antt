@@ -1,6 +1,7 @@
 -- What a reader of tokens passes on its way to one that is looked for.
 use Rattle.std.specs.Prelude.{◌≡◌, ◌⊎◌, ℕ, List, [], ⊤}
 use Rattle.std.specs.List.{AllZip, concat}
+use Rattle.gixobj_actor.specs.Actor.{ActorView}
 use Rattle.gixobj_hash.specs.declared.decode.Error.{Error}
 use Rattle.gixobj_hash.specs.declared.hash.kind.Kind.{Kind}
 use Rattle.gixobj_fields.specs.Readers as readers
@@ -42,33 +43,33 @@ IsParentToken (parent_token id) = ⊤
 IsParentToken _ = ⊥
 
 abbrev pub IsAuthorToken : CommitTokenView → Type 0
-IsAuthorToken (author_token name email time) = ⊤
+IsAuthorToken (author_token actor) = ⊤
 IsAuthorToken _ = ⊥
 
 abbrev pub IsCommitterToken : CommitTokenView → Type 0
-IsCommitterToken (committer_token name email time) = ⊤
+IsCommitterToken (committer_token actor) = ⊤
 IsCommitterToken _ = ⊥
 
 -- an author or a committer
 abbrev pub IsActorToken : CommitTokenView → Type 0
-IsActorToken (author_token name email time) = ⊤
-IsActorToken (committer_token name email time) = ⊤
+IsActorToken (author_token actor) = ⊤
+IsActorToken (committer_token actor) = ⊤
 IsActorToken _ = ⊥
 
--- the token is an author or a committer of this name, email and time
-abbrev pub IsActorTokenOf : List ℕ → List ℕ → List ℕ → CommitTokenView → Type 0
-IsActorTokenOf name email time token = (token ≡ author_token name email time) ⊎ (token ≡ committer_token name email time)
+-- the token is an author or a committer of these parts
+abbrev pub IsActorTokenOf : ActorView → CommitTokenView → Type 0
+IsActorTokenOf actor token = (token ≡ author_token actor) ⊎ (token ≡ committer_token actor)
 
 abbrev pub IsMessageToken : CommitTokenView → Type 0
 IsMessageToken (message_token message) = ⊤
 IsMessageToken _ = ⊥
 
 -- past tokens that are no author, this author comes
-abbrev pub FindsAuthor : CommitRefIter → List ℕ → List ℕ → List ℕ → Type 0
-FindsAuthor reader name email time = FindsFirst IsAuthorToken reader (author_token name email time)
+abbrev pub FindsAuthor : CommitRefIter → ActorView → Type 0
+FindsAuthor reader actor = FindsFirst IsAuthorToken reader (author_token actor)
 
-abbrev pub FindsCommitter : CommitRefIter → List ℕ → List ℕ → List ℕ → Type 0
-FindsCommitter reader name email time = FindsFirst IsCommitterToken reader (committer_token name email time)
+abbrev pub FindsCommitter : CommitRefIter → ActorView → Type 0
+FindsCommitter reader actor = FindsFirst IsCommitterToken reader (committer_token actor)
 
 -- past tokens that are no message this one comes, or the bytes end and it is empty
 abbrev pub FindsMessage : CommitRefIter → List ℕ → Type 0

@@ -1,7 +1,7 @@
 //! The line at the front of a commit's text, by where a reader stands.
 ghost use Rattle.std.specs.Prelude.{◌≡◌, ◌≢◌, ◌∷◌, ℕ, List, IfErr, IfNone, IfOk, IfSome, MatchOption};
 ghost use Rattle.bstr.specs.BStr.{bstr_bytes};
-ghost use Rattle.gixobj_actor.specs.Actor.{IsActor};
+ghost use Rattle.gixobj_actor.specs.Actor.{IsActorOf, actor_view};
 ghost use Rattle.gixobj_hash.specs.declared.hash.kind.Kind.{Kind};
 ghost use Rattle.gixobj_commit.specs.Lines.{HasActor, HasLine, HasNoActor, IsParsedLine, RefusesLine, line_view};
 ghost use Rattle.gixobj_commit.specs.declared.lines.State.TheVariants as state;
@@ -169,8 +169,7 @@ fn read_header_or_message(alloc: Global, input: &[u8]) -> Result<(Line<'_>, Stat
 #[inline(always)]
 fn actor_line<'a>(input: &'a [u8], name: &[u8]) -> Option<(BStr<'a>, SignatureRef<'a>, &'a [u8])>
     ensures found { IfSome result (λ it. HasActor name.now input.now (bstr_bytes it.0) it.2.now) }
-    ensures parsed { IfSome result (λ it. IsActor (bstr_bytes it.0) (bstr_bytes it.1.name)
-        (bstr_bytes it.1.email) (bstr_bytes it.1.time)) }
+    ensures parsed { IfSome result (λ it. IsActorOf (bstr_bytes it.0) (actor_view it.1)) }
     ensures none { IfNone result (HasNoActor name.now input.now) }
 {
     let Some((line, rest)) = header_field(input, name) else {

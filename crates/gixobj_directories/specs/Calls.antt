@@ -1,10 +1,12 @@
 -- What the calls promise.
-use Rattle.std.specs.Prelude.{List, All, IsFalse, map}
+use Rattle.std.specs.Prelude.{List, All, Err, IsFalse, Ok, Result, map}
+use Rattle.std.specs.Fn.{CalledAt, Mut}
 use Rattle.std.specs.List.{FoldsTo}
 use denote.Ref.{Bor}
 use Rattle.bstr.specs.Owned.{bstring_bytes}
 use Rattle.bstr.specs.declared.bstring.BString.{BString}
 use Rattle.gixobj_tree.specs.Entries.{EntryView, IsEntryName, IsWellFormed, Pair}
+use Rattle.gixobj_hash.specs.declared.hash.object_id.ObjectId.{ObjectId}
 use Rattle.gixobj_files.specs.Files.{Path, is_null}
 
 abbrev pub names_of : List BString → Path
@@ -22,3 +24,11 @@ pub record IsStorable (entries : List EntryView) : Type 0 where
 -- the closure may be called on each such tree, as it is and after any calls that it answered with ids
 abbrev pub IsCallableOnTrees : {F : Type 0} → (F → Bor (List EntryView) → Type 0) → (F → Pair → F → Type 0) → F → Type 0
 IsCallableOnTrees {F} pre gave out = (answered : List Pair) (state : F) → FoldsTo gave out answered state → (tree : Bor (List EntryView)) → IsStorable tree.now → pre state tree
+
+-- a call on the pair's tree that was answered with its id
+abbrev pub answered : {F E : Type 0} → Mut F (Bor (List EntryView) × Unit {0}) (Result ObjectId E) → F → Pair → F → Type 0
+answered of asked pair next = CalledAt of asked pair.1 (Ok pair.0) next
+
+-- a call on the tree that was answered with this error
+abbrev pub denied : {F E : Type 0} → Mut F (Bor (List EntryView) × Unit {0}) (Result ObjectId E) → F → List EntryView → E → F → Type 0
+denied of asked tree error next = CalledAt of asked tree (Err error) next

@@ -30,6 +30,10 @@ NamesTree objects id entries = NamesSuch objects id Tree (λ hash text. IsTreeTe
 abbrev pub AreTreesOf : Objects → Trees → Type 0
 AreTreesOf objects trees = (id : ObjectId) (entries : List EntryView) → (trees id ≡ Some entries → NamesTree objects id entries) × (NamesTree objects id entries → trees id ≡ Some entries)
 
+-- so it is of the well-formed trees that the objects are
+abbrev pub OfTrees : Objects → (Trees → Type 0) → Type 0
+OfTrees objects P = (trees : Trees) → AreTreesOf objects trees → P trees
+
 -- the id names a tree that isn't well-formed
 abbrev pub NamesMalformed : Objects → ObjectId → Type 0
 NamesMalformed objects id = (entries : List EntryView) × NamesSuch objects id Tree (λ hash text. IsTreeText hash text entries) × (¬ IsWellFormed entries)

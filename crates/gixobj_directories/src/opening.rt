@@ -4,7 +4,7 @@ ghost use Rattle.bstr.specs.Owned.{bstring_bytes};
 ghost use Rattle.gixobj_tree.specs.Entries.{EntryView, IsWellFormed};
 ghost use Rattle.gixobj_tree.specs.Mode.{is_tree_mode};
 ghost use Rattle.gixobj_files.specs.Edits.{Finds, IsEntryOf, Opens, counted};
-ghost use Rattle.gixobj_files.specs.Files.{Has, Path, Trees};
+ghost use Rattle.gixobj_files.specs.Files.{Has, Path};
 ghost use Rattle.gixobj_files.specs.Halting.{Halts};
 ghost use Rattle.gixobj_files.specs.Opening.{IsOpened};
 ghost use Rattle.gixobj_files.specs.Tables.{IsUnaskedId};
@@ -12,7 +12,7 @@ ghost use Rattle.gixobj_hash.specs.declared.hash.object_id.ObjectId.{ObjectId};
 ghost use Rattle.gixobj_directories.specs.Calls.{names_of};
 ghost use Rattle.gixobj_files.specs.Bases.{opened_bases};
 ghost use Rattle.gixobj_directories.specs.Nested.{bases_of, dirs_of};
-ghost use Rattle.gixobj_directories.specs.Openings.{AreTreesOf, EndsBefore, NamesTree, RefusesAt, RefusesDirectory};
+ghost use Rattle.gixobj_directories.specs.Openings.{EndsBefore, NamesTree, OfTrees, RefusesAt, RefusesDirectory};
 ghost use Rattle.gixobj_directories.specs.declared.opening.Unasked.TheVariants.{Left};
 
 use crate::open::{Open, child_at, copy_tree, put_child, room_for, tree_id};
@@ -160,9 +160,9 @@ fn load<S: Find>(
 ) -> Result<(Tree, Tree), Error>
     ensures well_formed { IfOk result (λ it. IsWellFormed it.0) }
     ensures copied { IfOk result (λ it. it.1 ≡ it.0) }
-    ensures found { IfOk result (λ it. (trees : Trees) → AreTreesOf (S.objects store.now) trees
-        → (asked : List ObjectId) × Finds trees id it.0 asked
-        × (lookups.new ≡ counted lookups.old asked)) }
+    ensures found { IfOk result (λ it. OfTrees (S.objects store.now)
+        (λ trees. (asked : List ObjectId) × Finds trees id it.0 asked
+        × (lookups.new ≡ counted lookups.old asked))) }
     ensures asked { OnErr result ((¬ IsUnaskedId id)
         × (lookups.new ≡ counted lookups.old (id ∷ []))) }
     ensures refusal { IfErr result (RefusesDirectory (S.objects store.now) (S.may_fail store.now)
@@ -192,16 +192,15 @@ impl Open {
         store: &S,
         lookups: &mut u64,
     ) -> Result<(), Error>
-        ensures opened { OnOk result ((trees : Trees) → AreTreesOf (S.objects store.now) trees
-            → (asked : List ObjectId) × Opens (EndsBefore unasked) trees (names_of path.now)
+        ensures opened { OnOk result (OfTrees (S.objects store.now)
+            (λ trees. (asked : List ObjectId) × Opens (EndsBefore unasked) trees (names_of path.now)
             (dirs_of self.old) (dirs_of self.new) asked
-            × (lookups.new ≡ counted lookups.old asked)) }
-        ensures halted { IfErr result (λ error. (trees : Trees)
-            → AreTreesOf (S.objects store.now) trees → (asked : List ObjectId)
-            × (vain : Option ObjectId) × Halts (EndsBefore unasked) trees (names_of path.now)
-            (dirs_of self.old) (dirs_of self.new) asked vain
-            × (lookups.new ≡ counted lookups.old asked)
-            × RefusesAt (S.objects store.now) (S.may_fail store.now) vain error) }
+            × (lookups.new ≡ counted lookups.old asked))) }
+        ensures halted { IfErr result (λ error. OfTrees (S.objects store.now)
+            (λ trees. (asked : List ObjectId) × (vain : Option ObjectId)
+            × Halts (EndsBefore unasked) trees (names_of path.now) (dirs_of self.old)
+            (dirs_of self.new) asked vain × (lookups.new ≡ counted lookups.old asked)
+            × RefusesAt (S.objects store.now) (S.may_fail store.now) vain error)) }
         ensures still_opened { IsOpened (dirs_of self.old) → IsOpened (dirs_of self.new) }
         ensures bases { (at : Path) → bases_of self.new at ≡ opened_bases (dirs_of self.old)
             (dirs_of self.new) (bases_of self.old) at }

@@ -1,5 +1,5 @@
 //! Open directories handed out, those in a directory before the directory itself.
-ghost use Rattle.std.specs.Prelude.{◌≡◌, ◌≢◌, ◌↔◌, ◌+◌, ◌++◌, ◌∷◌, [], ℕ, IsTrue, Some, Err, IfErr, IfOk, List, None, Ok, OnErr, OnOk, ◌==◌, length};
+ghost use Rattle.std.specs.Prelude.{◌≡◌, ◌≢◌, ◌↔◌, ◌+◌, ◌++◌, ◌∷◌, [], ℕ, IsTrue, Some, IfErr, IfOk, List, None, Ok, OnErr, OnOk, ◌==◌, length};
 ghost use Rattle.std.specs.Fn.{CalledAt};
 ghost use Rattle.std.specs.List.{FoldsTo};
 ghost use Rattle.std.specs.Option.{option_copied};
@@ -9,7 +9,7 @@ ghost use Rattle.gixobj_files.specs.Edits.{only, raised, with_path};
 ghost use Rattle.gixobj_files.specs.Files.{Path};
 ghost use Rattle.gixobj_files.specs.HandingOut.{HandsOutSome, Leaves, Saves, entry_with};
 ghost use Rattle.gixobj_files.specs.Opening.{in_path};
-ghost use Rattle.gixobj_directories.specs.Calls.{IsCallableOnTrees, IsStorable, names_of};
+ghost use Rattle.gixobj_directories.specs.Calls.{IsCallableOnTrees, IsStorable, names_of, answered, denied};
 ghost use Rattle.gixobj_directories.specs.Handing.{Stopped, Visits, pairs_behind_next, child_side, kept_with, next_child};
 ghost use Rattle.gixobj_directories.specs.Nested.{base_side, bases_of, dirs_of, entries_side, opened};
 ghost use Rattle.gixobj_directories.specs.OwnTrees.{IsBeside, so_far};
@@ -78,16 +78,14 @@ fn leaves<E, F: FnMut(&Tree) -> Result<ObjectId, E>>(
     pairs: &mut Vec<(ObjectId, Tree)>,
     saved: &mut usize,
 ) -> Result<OwnTree, WriteError<E>>
-    requires callable { IsCallableOnTrees F.pre (λ f p g. CalledAt F.FnMut f p.1 (Ok p.0) g)
-        out.old }
+    requires callable { IsCallableOnTrees F.pre (answered F.FnMut) out.old }
     ensures beside { IfOk result (IsBeside base.now) }
     ensures ok { IfOk result (λ own. (below : List Pair) × (count : ℕ)
         × Leaves (dirs_of node.now) (bases_of node.now) below (so_far base.now own) count
         × (saved.new ≡ raised saved.old count) × (pairs.new.items ≡ pairs.old.items ++ below)
-        × FoldsTo (λ f p g. CalledAt F.FnMut f p.1 (Ok p.0) g) out.old below out.new) }
+        × FoldsTo (answered F.FnMut) out.old below out.new) }
     ensures storable { IfOk result (λ own. IsStorable (so_far base.now own)) }
-    ensures stopped { IfErr result (Stopped (λ f p g. CalledAt F.FnMut f p.1 (Ok p.0) g)
-        (λ f t e g. CalledAt F.FnMut f t (Err e) g)
+    ensures stopped { IfErr result (Stopped (answered F.FnMut) (denied F.FnMut)
         (λ ps. (own : List EntryView) × (count : ℕ)
         × Leaves (dirs_of node.now) (bases_of node.now) ps own count) out.old out.new) }
 {
@@ -126,16 +124,13 @@ fn visit<E, F: FnMut(&Tree) -> Result<ObjectId, E>>(
     pairs: &mut Vec<(ObjectId, Tree)>,
     saved: &mut usize,
 ) -> Result<Option<ObjectId>, WriteError<E>>
-    requires callable { IsCallableOnTrees F.pre (λ f p g. CalledAt F.FnMut f p.1 (Ok p.0) g)
-        out.old }
+    requires callable { IsCallableOnTrees F.pre (answered F.FnMut) out.old }
     ensures ok { IfOk result (λ id. (inner : List Pair) × (count : ℕ)
         × Visits (child_side entries_side (option_copied child.entry))
         (child_side base_side (option_copied child.entry)) entry.now inner (kept_with entry.now id)
-        count
-        × (saved.new ≡ raised saved.old count) × (pairs.new.items ≡ pairs.old.items ++ inner)
-        × FoldsTo (λ f p g. CalledAt F.FnMut f p.1 (Ok p.0) g) out.old inner out.new) }
-    ensures stopped { IfErr result (Stopped (λ f p g. CalledAt F.FnMut f p.1 (Ok p.0) g)
-        (λ f t e g. CalledAt F.FnMut f t (Err e) g)
+        count × (saved.new ≡ raised saved.old count) × (pairs.new.items ≡ pairs.old.items ++ inner)
+        × FoldsTo (answered F.FnMut) out.old inner out.new) }
+    ensures stopped { IfErr result (Stopped (answered F.FnMut) (denied F.FnMut)
         (λ inner. (kept : List EntryView) × (count : ℕ)
         × Visits (child_side entries_side (option_copied child.entry))
         (child_side base_side (option_copied child.entry)) entry.now inner kept count) out.old
@@ -167,15 +162,13 @@ fn leaves_copied<E, F: FnMut(&Tree) -> Result<ObjectId, E>>(
     pairs: &mut Vec<(ObjectId, Tree)>,
     saved: &mut usize,
 ) -> Result<Tree, WriteError<E>>
-    requires callable { IsCallableOnTrees F.pre (λ f p g. CalledAt F.FnMut f p.1 (Ok p.0) g)
-        out.old }
+    requires callable { IsCallableOnTrees F.pre (answered F.FnMut) out.old }
     ensures ok { IfOk result (λ own. (below : List Pair) × (count : ℕ)
         × Leaves (dirs_of node.now) (bases_of node.now) below own count
         × (saved.new ≡ raised saved.old count) × (pairs.new.items ≡ pairs.old.items ++ below)
-        × FoldsTo (λ f p g. CalledAt F.FnMut f p.1 (Ok p.0) g) out.old below out.new) }
+        × FoldsTo (answered F.FnMut) out.old below out.new) }
     ensures storable { IfOk result IsStorable }
-    ensures stopped { IfErr result (Stopped (λ f p g. CalledAt F.FnMut f p.1 (Ok p.0) g)
-        (λ f t e g. CalledAt F.FnMut f t (Err e) g)
+    ensures stopped { IfErr result (Stopped (answered F.FnMut) (denied F.FnMut)
         (λ ps. (own : List EntryView) × (count : ℕ)
         × Leaves (dirs_of node.now) (bases_of node.now) ps own count) out.old out.new) }
 {
@@ -212,14 +205,12 @@ fn hand<E, F: FnMut(&Tree) -> Result<ObjectId, E>>(
     out: &mut F,
     pairs: &mut Vec<(ObjectId, Tree)>,
 ) -> Result<ObjectId, WriteError<E>>
-    requires callable { IsCallableOnTrees F.pre (λ f p g. CalledAt F.FnMut f p.1 (Ok p.0) g)
-        out.old }
+    requires callable { IsCallableOnTrees F.pre (answered F.FnMut) out.old }
     requires storable { IsStorable tree }
     ensures ok { IfOk result (λ id. (pairs.new.items ≡ pairs.old.items ++ (id, tree) ∷ [])
         × CalledAt F.FnMut out.old tree (Ok id) out.new) }
-    ensures stopped { IfErr result (Stopped (λ f p g. CalledAt F.FnMut f p.1 (Ok p.0) g)
-        (λ f t e g. CalledAt F.FnMut f t (Err e) g) (λ ps. (id : ObjectId) × (ps ≡ (id, tree) ∷ []))
-        out.old out.new) }
+    ensures stopped { IfErr result (Stopped (answered F.FnMut) (denied F.FnMut)
+        (λ ps. (id : ObjectId) × (ps ≡ (id, tree) ∷ [])) out.old out.new) }
 {
     pairs.reserve(1)?;
     match out(&tree) {
@@ -276,17 +267,15 @@ pub fn write_all<E, F: FnMut(&Tree) -> Result<ObjectId, E>>(
     node: &mut Open,
     out: &mut F,
 ) -> Result<Written, WriteError<E>>
-    requires { IsCallableOnTrees F.pre (λ f p g. CalledAt F.FnMut f p.1 (Ok p.0) g) out.old }
+    requires { IsCallableOnTrees F.pre (answered F.FnMut) out.old }
     ensures ok { IfOk result (λ it. (below : List Pair) × (own : List EntryView)
         × Saves (dirs_of node.old) (bases_of node.old) below own it.saved
         × (it.trees.items ≡ below ++ (it.id, own) ∷ [])
-        × FoldsTo (λ f p g. CalledAt F.FnMut f p.1 (Ok p.0) g) out.old (below ++ (it.id, own) ∷ [])
-        out.new × IsStorable own
+        × FoldsTo (answered F.FnMut) out.old (below ++ (it.id, own) ∷ []) out.new × IsStorable own
         × ((base : List EntryView) × (node.new ≡ opened own base []))) }
     ensures bases { OnOk result ((at : Path) → bases_of node.new at ≡ edited_bases
         (dirs_of node.old) (dirs_of node.new) (bases_of node.old) at) }
-    ensures stopped { IfErr result (Stopped (λ f p g. CalledAt F.FnMut f p.1 (Ok p.0) g)
-        (λ f t e g. CalledAt F.FnMut f t (Err e) g)
+    ensures stopped { IfErr result (Stopped (answered F.FnMut) (denied F.FnMut)
         (HandsOutSome (dirs_of node.old) (bases_of node.old)) out.old out.new) }
     ensures unchanged { OnErr result (node.new ≡ node.old) }
 {
@@ -308,21 +297,18 @@ pub fn write_at<E, F: FnMut(&Tree) -> Result<ObjectId, E>>(
     path: &[BString],
     out: &mut F,
 ) -> Result<Written, WriteError<E>>
-    requires callable { IsCallableOnTrees F.pre (λ f p g. CalledAt F.FnMut f p.1 (Ok p.0) g)
-        out.old }
+    requires callable { IsCallableOnTrees F.pre (answered F.FnMut) out.old }
     requires is_open { dirs_of node.old (names_of path.now) ≢ None }
     ensures ok { IfOk result (λ it. (below : List Pair) × (own : List EntryView)
         × Saves (in_path (names_of path.now) (dirs_of node.old))
         (in_path (names_of path.now) (bases_of node.old)) below own it.saved
         × (it.trees.items ≡ below ++ (it.id, own) ∷ [])
-        × FoldsTo (λ f p g. CalledAt F.FnMut f p.1 (Ok p.0) g) out.old (below ++ (it.id, own) ∷ [])
-        out.new × IsStorable own
+        × FoldsTo (answered F.FnMut) out.old (below ++ (it.id, own) ∷ []) out.new × IsStorable own
         × ((at : Path) → dirs_of node.new at ≡ with_path (names_of path.now) (only own)
         (dirs_of node.old) at)) }
     ensures bases { OnOk result ((at : Path) → bases_of node.new at ≡ edited_bases
         (dirs_of node.old) (dirs_of node.new) (bases_of node.old) at) }
-    ensures stopped { IfErr result (Stopped (λ f p g. CalledAt F.FnMut f p.1 (Ok p.0) g)
-        (λ f t e g. CalledAt F.FnMut f t (Err e) g)
+    ensures stopped { IfErr result (Stopped (answered F.FnMut) (denied F.FnMut)
         (HandsOutSome (in_path (names_of path.now) (dirs_of node.old))
         (in_path (names_of path.now) (bases_of node.old))) out.old out.new) }
     ensures unchanged { OnErr result (node.new ≡ node.old) }

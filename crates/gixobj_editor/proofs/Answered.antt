@@ -13,11 +13,12 @@ use Rattle.gixobj_files.specs.Files.{Path}
 use Rattle.gixobj_files.specs.State.{State}
 use Rattle.gixobj_tree.specs.Entries.{Pair}
 use Rattle.gixobj_editor.specs.Commands.{Place, at_cursor, at_root, pairs_handed_out, pairs_of, pairs_of_edit}
-use Rattle.gixobj_editor.specs.Replies.{Answers, AreEditReplies, Gives, IsEditReply, IsReply, IsReplyAt, IsRun, IsWrittenAt, Meaning}
+use Rattle.gixobj_editor.specs.Replies.{Answers, AreEditReplies, Gives, IsEditReply, IsReply, IsReplyAt, IsRun, IsWrittenAt}
 use Rattle.gixobj_editor.specs.declared.reply.EditReply.{EditReply}
 use Rattle.gixobj_editor.specs.declared.reply.EditReply.TheVariants as edit_reply
 use Rattle.gixobj_editor.specs.declared.reply.Reply.{Reply}
 use Rattle.gixobj_editor.specs.declared.reply.Reply.TheVariants as reply
+use Rattle.gixobj_object.specs.Stores.{Meaning}
 
 module _ {S E : Type 0} (means : Meaning S) (answers : Answers E) where
   -- the id is the closure's answer to the tree

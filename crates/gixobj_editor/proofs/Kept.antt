@@ -1,7 +1,7 @@
 -- A write whose trees were then kept.
 use Rattle.std.proofs.Common.{◌≡◌, ◌∙◌, ℕ, All, List, ap, subst, sym}
 use Rattle.gixobj_editor.specs.declared.command.Edit.TheVariants as edit
-use Rattle.gixobj_object.specs.Stores.{Objects}
+use Rattle.gixobj_object.specs.Stores.{Meaning, Objects}
 use Rattle.gixobj_directories.specs.declared.write.Written.{Written}
 use Rattle.gixobj_files.specs.State.{State, with_store}
 use Rattle.gixobj_tree.specs.Entries.{Pair}
@@ -9,7 +9,7 @@ use Rattle.gixobj_hash.specs.declared.hash.object_id.ObjectId.{ObjectId}
 use Rattle.gixobj_find.specs.Keeping.{HasText, StopsKeeping, with_trees}
 use Rattle.gixobj_find.specs.declared.keeping.KeepError.{KeepError}
 use Rattle.gixobj_editor.specs.Commands.{Place}
-use Rattle.gixobj_editor.specs.Replies.{Answers, IsEditReply, IsWriteKept, IsWrittenAt, KeepsAll, Meaning}
+use Rattle.gixobj_editor.specs.Replies.{Answers, IsEditReply, IsWriteKept, IsWrittenAt, KeepsAll}
 use Rattle.gixobj_editor.specs.declared.reply.EditReply.TheVariants as edit_reply
 
 module _ {S E : Type 0} (means : Meaning S) (answers : Answers E) (place : Place) (old between new : State S) (start left : S) (it : Written) (lent : List Pair) (written : IsWrittenAt answers place it old between)

@@ -5,10 +5,10 @@ use Rattle.gixobj_editor.specs.declared.command.Command.{Command}
 use Rattle.gixobj_editor.specs.declared.command.Command.TheVariants as command
 use Rattle.gixobj_editor.specs.declared.command.Edit.{Edit}
 use Rattle.gixobj_editor.specs.declared.command.Edit.TheVariants as edit
-use Rattle.gixobj_object.specs.Stores.{Objects}
+use Rattle.gixobj_object.specs.Stores.{Meaning, Objects}
 use Rattle.gixobj_directories.proofs.NamedTrees.{trees_of}
 use Rattle.gixobj_directories.specs.Calls.{names_of}
-use Rattle.gixobj_directories.specs.Openings.{AreTreesOf}
+use Rattle.gixobj_directories.specs.Openings.{AreTreesOf, OfTrees}
 use Rattle.gixobj_directories.specs.declared.write.Written.{Written}
 use Rattle.gixobj_editor.specs.Cursors.{IsAssured, prefix_of}
 use Rattle.gixobj_files.proofs.EditedFiles.{same_refl}
@@ -20,8 +20,8 @@ use Rattle.gixobj_tree.specs.Entries.{Pair}
 use Rattle.gixobj_files.specs.Tables.{AgreesWithPairs, AgreesWithStore}
 use Rattle.gixobj_find.specs.Keeping.{with_trees}
 use Rattle.gixobj_editor.specs.Commands.{Place, accepted_steps, at_cursor, at_root, kept_of, kept_of_edit, pairs_handed_out, pairs_kept, pairs_of, pairs_of_edit, pairs_of_write, steps_at, steps_of, steps_of_edit, steps_of_edits, written_at, written_by}
-use Rattle.gixobj_editor.specs.Replies.{Answers, AreEditReplies, IsEditReply, IsReply, IsReplyAt, IsRun, IsWriteKept, IsWrittenAt, Meaning}
-use Rattle.gixobj_editor.specs.RunTables.{AgreesWithObjects, AgreesWithRun, OfTrees}
+use Rattle.gixobj_editor.specs.Replies.{Answers, AreEditReplies, IsEditReply, IsReply, IsReplyAt, IsRun, IsWriteKept, IsWrittenAt}
+use Rattle.gixobj_editor.specs.RunTables.{AgreesWithObjects, AgreesWithRun}
 use Rattle.gixobj_editor.specs.declared.reply.EditReply.{EditReply}
 use Rattle.gixobj_editor.specs.declared.reply.EditReply.TheVariants as edit_reply
 use Rattle.gixobj_editor.specs.declared.reply.Reply.{Reply}

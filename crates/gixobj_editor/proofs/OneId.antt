@@ -3,11 +3,12 @@ use Rattle.std.proofs.Common.{◌≡◌, ◌∙◌, ◌↔◌, ◌≤◌, ⊎_el
 use Rattle.std.specs.FinMap as map
 use Rattle.std.specs.List.{AllByRecursion, flat_map}
 use Rattle.std.proofs.lemmas.List.Elements.{All-contains_itself, All-head, All-tail, Contains-append_left, Contains-append_right, Contains-push, recursion_from_All}
+use Rattle.gixobj_directories.specs.Openings.{OfTrees}
 use Rattle.gixobj_editor.specs.declared.command.Command.{Command}
 use Rattle.gixobj_editor.specs.declared.command.Command.TheVariants as command
 use Rattle.gixobj_editor.specs.declared.command.Edit.{Edit}
 use Rattle.gixobj_editor.specs.declared.command.Edit.TheVariants as edit
-use Rattle.gixobj_object.specs.Stores.{Objects}
+use Rattle.gixobj_object.specs.Stores.{Meaning, Objects}
 use Rattle.gixobj_directories.proofs.NamedTrees.{trees_of}
 use Rattle.gixobj_directories.specs.Calls.{names_of}
 use Rattle.gixobj_directories.specs.declared.write.Written.{Written}
@@ -35,8 +36,8 @@ use Rattle.gixobj_editor.proofs.Told.{no_tree_mode, plain_before, told_by_trees,
 use Rattle.gixobj_editor.proofs.Plainly.{AreBuilt, IsPlainState, Within, plain_assured, plain_below, plain_refused, plain_removed, plain_root, plain_upserted}
 use Rattle.gixobj_editor.specs.Commands.{Place, accepted_steps, at_cursor, at_root, kept_of, kept_of_edit, pairs_handed_out, pairs_kept, pairs_of, pairs_of_edit, written_at, written_by}
 use Rattle.gixobj_editor.specs.OneId.{IdsTellFiles, IsPlainRun, NamesNoTree, PutsNoTree, files_before}
-use Rattle.gixobj_editor.specs.Replies.{Answers, AreEditReplies, Gives, IsEditReply, IsReply, IsReplyAt, IsRun, IsWriteKept, IsWrittenAt, Meaning}
-use Rattle.gixobj_editor.specs.RunTables.{AgreesWithObjects, AgreesWithRun, OfTrees}
+use Rattle.gixobj_editor.specs.Replies.{Answers, AreEditReplies, Gives, IsEditReply, IsReply, IsReplyAt, IsRun, IsWriteKept, IsWrittenAt}
+use Rattle.gixobj_editor.specs.RunTables.{AgreesWithObjects, AgreesWithRun}
 use Rattle.gixobj_editor.specs.declared.reply.EditReply.{EditReply}
 use Rattle.gixobj_editor.specs.declared.reply.EditReply.TheVariants as edit_reply
 use Rattle.gixobj_editor.specs.declared.reply.Reply.{Reply}

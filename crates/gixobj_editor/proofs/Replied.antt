@@ -4,6 +4,7 @@ use Rattle.std.specs.Prelude.{IfErr, OnErr, OnOk}
 use Rattle.std.specs.declared.alloc.Global.{Global}
 use Rattle.std.specs.declared.vec.Vec.{Vec}
 use Rattle.bstr.specs.declared.bstring.BString.{BString}
+use Rattle.gixobj_directories.specs.Openings.{OfTrees}
 use Rattle.gixobj_editor.specs.declared.command.Edit.{Edit}
 use Rattle.gixobj_editor.specs.declared.command.Edit.TheVariants as edit
 use Rattle.gixobj_directories.specs.Calls.{names_of}
@@ -14,14 +15,14 @@ use Rattle.gixobj_editor.specs.declared.editor.error.Error.{Error}
 use Rattle.gixobj_files.specs.Edits.{IsNoTree}
 use Rattle.gixobj_files.specs.Files.{Files, Path, SameFiles, Table, Trees}
 use Rattle.gixobj_files.specs.Bases.{HasBases}
+use Rattle.gixobj_object.specs.Stores.{Meaning}
 use Rattle.gixobj_tree.specs.Entries.{EntryView, IsWellFormed}
 use Rattle.gixobj_files.specs.State.{EditorFiles, State, open_bases, open_dirs, root_alone}
 use Rattle.gixobj_hash.specs.declared.hash.object_id.ObjectId.{ObjectId}
 use Rattle.gixobj_tree.specs.Mode.{mode_of_kind}
 use Rattle.gixobj_tree.specs.declared.tree.entry_kind.EntryKind.{EntryKind}
 use Rattle.gixobj_editor.specs.Commands.{Place, at_cursor, path_at}
-use Rattle.gixobj_editor.specs.Replies.{Answers, AreEditReplies, IsEditReply, IsRefusedEdit, IsReplyAt, IsRootSet, Meaning, RefusesEditAt, reply_to}
-use Rattle.gixobj_editor.specs.RunTables.{OfTrees}
+use Rattle.gixobj_editor.specs.Replies.{Answers, AreEditReplies, IsEditReply, IsRefusedEdit, IsReplyAt, IsRootSet, RefusesEditAt, reply_to}
 use Rattle.gixobj_editor.specs.declared.reply.EditReply.{EditReply}
 use Rattle.gixobj_editor.specs.declared.reply.Reply.TheVariants as reply
 

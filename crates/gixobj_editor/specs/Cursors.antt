@@ -2,7 +2,8 @@
 pub mod Stores
 use Rattle.std.specs.Prelude.{◌≡◌, ◌≢◌, ◌⊎◌, ◌++◌, ℕ, Bool, List, [], ◌∷◌, All, None, Some}
 use Rattle.std.specs.List.{FoldsTo}
-use Rattle.gixobj_object.specs.Stores.{Objects}
+use Rattle.gixobj_directories.specs.Openings.{OfTrees}
+use Rattle.gixobj_object.specs.Stores.{Meaning, Objects}
 use Rattle.gixobj_directories.specs.Calls.{AreNames, IsStorable}
 use Rattle.gixobj_directories.specs.declared.opening.Error.TheVariants as opening
 use Rattle.gixobj_directories.specs.declared.write.Written.{Written}
@@ -18,7 +19,7 @@ use Rattle.gixobj_files.specs.Unopened.{inside, unopened_count}
 use Rattle.gixobj_hash.specs.Hash.{null_id}
 use Rattle.gixobj_hash.specs.declared.hash.object_id.ObjectId.{ObjectId}
 use Rattle.gixobj_tree.specs.Entries.{EntryView, Pair}
-use Rattle.gixobj_editor.specs.Upserts.{RefusesNames, RefusesUnopened}
+use Rattle.gixobj_editor.specs.Upserts.{RefusesNames, RefusesUnopened, Refusing}
 use Rattle.gixobj_editor.specs.declared.editor.error.Error.{Error}
 use Rattle.gixobj_editor.specs.declared.editor.error.Error.TheVariants as error
 
@@ -45,6 +46,12 @@ RefusesCursor objects may_fail trees dirs path error.OutOfMemory = AreNames path
 -- why an edit by a cursor is refused: as one of the editor is; or there was no memory for its path from the root
 abbrev pub RefusesFromRoot : Path → (Error → Type 0) → Error → Type 0
 RefusesFromRoot path refuses refusal = refuses refusal ⊎ ((refusal ≡ error.OutOfMemory) × (path ≢ []))
+
+-- the edit at this path from the prefix is refused so, by the trees that the store's objects are and by what is open
+abbrev pub RefusedBelow : {S : Type 0} → Meaning S → State S → Refusing → Path → Error → Type 0
+RefusedBelow means state Refuses path error =
+    OfTrees (means.objects state.store) (λ trees. RefusesFromRoot path
+    (Refuses (means.objects state.store) (means.may_fail state.store) trees (open_dirs state) (from_root state.prefix path)) error)
 
 -- a cursor made at a path: which directories are open, that at the path among them, how many lookups there were, and the files; what
 -- is in the directory is kept, the path is the prefix, and all else stays

@@ -1,11 +1,12 @@
 -- Which reply a command may get, and what it leaves of the editor.
-use Rattle.std.specs.Prelude.{◌≡◌, ◌⊎◌, ℕ, Bool, List, [], ◌∷◌, All, Err, Ok, Result}
+use Rattle.std.specs.Prelude.{◌≡◌, ◌⊎◌, ℕ, List, [], ◌∷◌, All, Err, Ok, Result}
 use denote.Ref.{Bor}
+use Rattle.gixobj_directories.specs.Openings.{OfTrees}
 use Rattle.gixobj_editor.specs.declared.command.Command.{Command}
 use Rattle.gixobj_editor.specs.declared.command.Command.TheVariants as command
 use Rattle.gixobj_editor.specs.declared.command.Edit.{Edit}
 use Rattle.gixobj_editor.specs.declared.command.Edit.TheVariants as edit
-use Rattle.gixobj_object.specs.Stores.{Objects}
+use Rattle.gixobj_object.specs.Stores.{Meaning, Objects}
 use Rattle.gixobj_directories.specs.Calls.{IsStorable, names_of}
 use Rattle.gixobj_directories.specs.Handing.{Stopped}
 use Rattle.gixobj_directories.specs.declared.write.WriteError.{WriteError}
@@ -28,7 +29,6 @@ use Rattle.gixobj_find.specs.Keeping.{HasText, StopsKeeping, with_trees}
 use Rattle.gixobj_tree.specs.Entries.{EntryView, IsWellFormed, Pair}
 use Rattle.gixobj_tree.specs.Mode.{mode_of_kind}
 use Rattle.gixobj_editor.specs.Commands.{Place, at_cursor, at_root, path_at}
-use Rattle.gixobj_editor.specs.RunTables.{OfTrees}
 use Rattle.gixobj_editor.specs.declared.reply.EditReply.{EditReply}
 use Rattle.gixobj_editor.specs.declared.reply.EditReply.TheVariants as edit_reply
 use Rattle.gixobj_editor.specs.declared.reply.Reply.{Reply}
@@ -64,11 +64,6 @@ Denies answers asked tree error answered = answers tree (Err error)
 abbrev pub reply_to : {E : Type 0} → Result (Unit {0}) Error → EditReply E
 reply_to (Ok done) = edit_reply.Done
 reply_to (Err error) = edit_reply.Refused error
-
--- what a store means: which object each of its ids names, and for which a lookup may fail
-pub record Meaning (S : Type 0) : Type 0 where
-  pub objects : S → Objects
-  pub may_fail : S → ObjectId → Bool
 
 -- a refused edit, with the reason
 pub record IsRefusedEdit {S : Type 0} (means : Meaning S) (Refuses : Trees → Type 0) (old : State S) (path : Path) (new : State S) : Type 0 where

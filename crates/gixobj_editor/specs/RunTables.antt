@@ -1,8 +1,8 @@
 -- Which tables agree with a store, and with a run.
 use Rattle.std.specs.Prelude.{◌≡◌, ℕ, List, Some, take}
 use Rattle.gixobj_object.specs.Stores.{Objects}
-use Rattle.gixobj_directories.specs.Openings.{AreTreesOf, NamesTree}
-use Rattle.gixobj_files.specs.Files.{Table, Trees}
+use Rattle.gixobj_directories.specs.Openings.{NamesTree}
+use Rattle.gixobj_files.specs.Files.{Table}
 use Rattle.gixobj_files.specs.Tables.{AgreesWithPairs, IsUnaskedId}
 use Rattle.gixobj_hash.specs.Hash.{id_kind}
 use Rattle.gixobj_hash.specs.declared.hash.object_id.ObjectId.{ObjectId}
@@ -12,10 +12,6 @@ use Rattle.gixobj_tree.specs.Entries.{EntryView, IsWellFormed, Pair}
 use Rattle.gixobj_tree.specs.TreeText.{tree_text}
 use Rattle.gixobj_editor.specs.Commands.{pairs_handed_out, pairs_kept}
 use Rattle.gixobj_editor.specs.declared.reply.Reply.{Reply}
-
--- so it is of the well-formed trees that the objects are
-abbrev pub OfTrees : Objects → (Trees → Type 0) → Type 0
-OfTrees objects P = (trees : Trees) → AreTreesOf objects trees → P trees
 
 -- the table has the well-formed trees that ids name as objects, but for the ids that are never asked for
 abbrev pub AgreesWithObjects : Table → Objects → Type 0

@@ -1,8 +1,8 @@
 -- What an upsert of an editor promises, and an edit that was refused.
 use Rattle.std.specs.Prelude.{◌≡◌, ◌≢◌, ◌≤◌, ◌⊎◌, ◌++◌, ℕ, Bool, List, [], ◌∷◌, Contains, Some, length, ⊤}
-use Rattle.gixobj_object.specs.Stores.{Objects}
+use Rattle.gixobj_object.specs.Stores.{Meaning, Objects}
 use Rattle.gixobj_directories.specs.Calls.{AreNames}
-use Rattle.gixobj_directories.specs.Openings.{EndsBefore, RefusesDirectory}
+use Rattle.gixobj_directories.specs.Openings.{EndsBefore, OfTrees, RefusesDirectory}
 use Rattle.gixobj_directories.specs.declared.opening.Unasked.{Unasked}
 use Rattle.gixobj_files.specs.Bases.{HasBases, edited_bases, opened_bases}
 use Rattle.gixobj_directories.specs.declared.opening.Error as directory
@@ -68,6 +68,15 @@ RefusesUpsert objects may_fail trees dirs path (error.FindExistingObject cause) 
 RefusesUpsert objects may_fail trees dirs path error.MalformedTree = RefusesAbove objects may_fail trees dirs path opening.MalformedTree
 RefusesUpsert objects may_fail trees dirs path (error.CannotRemoveNonLeaf at) = ⊥
 RefusesUpsert objects may_fail trees dirs path error.OutOfMemory = AreNames path × (path ≢ [])
+
+-- which refusals an edit may have
+abbrev pub Refusing : Type 1
+Refusing = Objects → (ObjectId → Bool) → Trees → Dirs → Path → Error → Type 0
+
+-- the edit at this path is refused so, by the trees that the store's objects are and by what is open
+abbrev pub RefusedIn : {S : Type 0} → Meaning S → State S → Refusing → Path → Error → Type 0
+RefusedIn means state Refuses path error =
+    OfTrees (means.objects state.store) (λ trees. Refuses (means.objects state.store) (means.may_fail state.store) trees (open_dirs state) path error)
 
 -- a refusal for a name
 abbrev pub IsForAName : Error → Type 0

@@ -5,6 +5,7 @@ ghost use Rattle.gixobj_directories.specs.Calls.{names_of};
 ghost use Rattle.gixobj_editor.specs.Cursors.{prefix_of};
 ghost use Rattle.gixobj_editor.specs.Commands.{at_cursor};
 ghost use Rattle.gixobj_editor.specs.Replies.{AreEditReplies, IsCallable, IsEditReply, IsReplyAt};
+ghost use Rattle.gixobj_object.specs.Stores.{meaning};
 
 use crate::Edit;
 use crate::editor::{Cursor, Editor, Error};
@@ -25,9 +26,8 @@ pub(crate) fn do_edits_at<S: Keep, E: Drop, F: Fn(&Tree) -> Result<ObjectId, E>>
     out: &F,
 ) -> Reply<E>
     requires callable { IsCallable F.pre out.now }
-    ensures replied { IsReplyAt (record { objects = S.objects; may_fail = S.may_fail })
-        (λ tree answer. FnReturnsAt F.Fn out.now tree answer) (prefix_of (names_of prefix.now))
-        editor.old edits.items result editor.new }
+    ensures replied { IsReplyAt (meaning S.objects S.may_fail) (FnReturnsAt F.Fn out.now)
+        (prefix_of (names_of prefix.now)) editor.old edits.items result editor.new }
 {
     match Vec::with_capacity(alloc, edits.len()) {
         Ok(replies) => do_edits_in(editor, prefix, edits, replies, out),
@@ -46,9 +46,8 @@ fn do_edits_in<S: Keep, E: Drop, F: Fn(&Tree) -> Result<ObjectId, E>>(
     requires callable { IsCallable F.pre out.now }
     requires empty { replies.items ≡ [] }
     requires room { length edits.items ≤ vec_capacity replies }
-    ensures replied { IsReplyAt (record { objects = S.objects; may_fail = S.may_fail })
-        (λ tree answer. FnReturnsAt F.Fn out.now tree answer) (prefix_of (names_of prefix.now))
-        editor.old edits.items result editor.new }
+    ensures replied { IsReplyAt (meaning S.objects S.may_fail) (FnReturnsAt F.Fn out.now)
+        (prefix_of (names_of prefix.now)) editor.old edits.items result editor.new }
 {
     match editor.cursor_at(prefix) {
         Ok(mut cursor) => Reply::At(do_edits(&mut cursor, edits, replies, out)),
@@ -67,8 +66,7 @@ fn do_edits<S: Keep, E: Drop, F: Fn(&Tree) -> Result<ObjectId, E>>(
     requires empty { replies.items ≡ [] }
     requires room { length edits.items ≤ vec_capacity replies }
     ensures same_reference { cursor.new.editor.ghost_name ≡ cursor.old.editor.ghost_name }
-    ensures replied { AreEditReplies (record { objects = S.objects; may_fail = S.may_fail })
-        (λ tree answer. FnReturnsAt F.Fn out.now tree answer)
+    ensures replied { AreEditReplies (meaning S.objects S.may_fail) (FnReturnsAt F.Fn out.now)
         (at_cursor cursor.old.editor.now.prefix) cursor.old.editor.now edits.items result.items
         cursor.new.editor.now }
 {
@@ -89,8 +87,7 @@ fn do_edit_by<S: Keep, E, F: Fn(&Tree) -> Result<ObjectId, E>>(
     requires callable { IsCallable F.pre out.now }
     ensures same_reference { cursor.new.editor.ghost_name ≡ cursor.old.editor.ghost_name }
     ensures prefix { cursor.new.editor.now.prefix ≡ cursor.old.editor.now.prefix }
-    ensures replied { IsEditReply (record { objects = S.objects; may_fail = S.may_fail })
-        (λ tree answer. FnReturnsAt F.Fn out.now tree answer)
+    ensures replied { IsEditReply (meaning S.objects S.may_fail) (FnReturnsAt F.Fn out.now)
         (at_cursor cursor.old.editor.now.prefix) cursor.old.editor.now edit result
         cursor.new.editor.now }
 {
@@ -110,8 +107,7 @@ fn do_write_by<S: Keep, E, F: Fn(&Tree) -> Result<ObjectId, E>>(
     requires callable { IsCallable F.pre out.now }
     ensures same_reference { cursor.new.editor.ghost_name ≡ cursor.old.editor.ghost_name }
     ensures prefix { cursor.new.editor.now.prefix ≡ cursor.old.editor.now.prefix }
-    ensures replied { IsEditReply (record { objects = S.objects; may_fail = S.may_fail })
-        (λ tree answer. FnReturnsAt F.Fn out.now tree answer)
+    ensures replied { IsEditReply (meaning S.objects S.may_fail) (FnReturnsAt F.Fn out.now)
         (at_cursor cursor.old.editor.now.prefix) cursor.old.editor.now Edit.Write result
         cursor.new.editor.now }
 {

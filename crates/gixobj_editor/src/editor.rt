@@ -2,23 +2,23 @@
 //!
 //! It edits a tree and the trees below it by paths, and hands out what is to be stored. A directory is opened, that is
 //! looked up in the store, only where an edit needs it.
-ghost use Rattle.std.specs.Prelude.{◌≡◌, [], Err, IfErr, IfOk, IsOk, Ok, OnErr, OnOk, ℕ};
-ghost use Rattle.std.specs.Fn.{CalledAt};
+ghost use Rattle.std.specs.Prelude.{◌≡◌, [], IfErr, IfOk, IsOk, OnErr, OnOk, ℕ};
 ghost use Rattle.std.specs.Borrow.{Lends, sem};
 ghost use Rattle.std.specs.Option.{option_copied};
+ghost use Rattle.gixobj_object.specs.Stores.{meaning};
 ghost use Rattle.gixobj_tree.specs.Entries.{IsWellFormed};
 ghost use Rattle.gixobj_tree.specs.Mode.{mode_of_kind};
 ghost use Rattle.gixobj_files.specs.Edits.{IsNoTree, entry_at};
-ghost use Rattle.gixobj_files.specs.Files.{Files, SameFiles, Table, Trees};
+ghost use Rattle.gixobj_files.specs.Files.{Files, SameFiles, Table};
 ghost use Rattle.gixobj_files.specs.Opening.{IsOpened};
 ghost use Rattle.gixobj_files.specs.Bases.{HasBases};
 ghost use Rattle.gixobj_files.specs.State.{EditorFiles, open_bases, open_dirs, root_alone, with_store};
 ghost use Rattle.gixobj_files.specs.HandingOut.{HandsOutSome};
-ghost use Rattle.gixobj_directories.specs.Calls.{IsCallableOnTrees, names_of};
+ghost use Rattle.gixobj_directories.specs.Calls.{IsCallableOnTrees, answered, denied, names_of};
 ghost use Rattle.gixobj_directories.specs.Handing.{Stopped};
 ghost use Rattle.gixobj_editor.specs.Writes.{IsWrittenEditor};
-ghost use Rattle.gixobj_directories.specs.Openings.{AreTreesOf};
-ghost use Rattle.gixobj_editor.specs.Upserts.{IsForAName, IsRefused, IsUpserted, RefusesUpsert};
+ghost use Rattle.gixobj_directories.specs.Openings.{OfTrees};
+ghost use Rattle.gixobj_editor.specs.Upserts.{IsForAName, IsRefused, IsUpserted, RefusedIn, RefusesUpsert};
 ghost use Rattle.gixobj_editor.specs.Removals.{IsLeafRemoved, IsRemoved, RefusesLeafRemoval, RefusesRemoval};
 ghost use Rattle.gixobj_editor.specs.contracts.editor.Editor.{the_row};
 
@@ -152,13 +152,11 @@ impl<S: Find> Editor<S> {
         id: ObjectId,
     ) -> Result<&mut Editor<S>, Error>
         ensures same_reference { IfOk result (λ it. it.ghost_name ≡ self.entry.ghost_name) }
-        ensures upserted { IfOk result (λ it. (trees : Trees)
-            → AreTreesOf (S.objects self.old.store) trees
-            → IsUpserted trees self.old (names_of path.now) (mode_of_kind kind) id it.now) }
-        ensures refusal { IfErr result (λ error. (trees : Trees)
-            → AreTreesOf (S.objects self.old.store) trees
-            → RefusesUpsert (S.objects self.old.store) (S.may_fail self.old.store) trees
-            (open_dirs self.old) (names_of path.now) error) }
+        ensures upserted { IfOk result (λ it. OfTrees (S.objects self.old.store)
+            (λ trees. IsUpserted trees self.old (names_of path.now) (mode_of_kind kind) id
+            it.now)) }
+        ensures refusal { IfErr result (RefusedIn (meaning S.objects S.may_fail) self.old
+            RefusesUpsert (names_of path.now)) }
     {
         self.try_upsert(path, kind, id)?;
         Ok(self)
@@ -169,13 +167,10 @@ impl<S: Find> Editor<S> {
     /// that one.
     pub fn remove(&mut self, path: &[BString]) -> Result<&mut Editor<S>, Error>
         ensures same_reference { IfOk result (λ it. it.ghost_name ≡ self.entry.ghost_name) }
-        ensures removed { IfOk result (λ it. (trees : Trees)
-            → AreTreesOf (S.objects self.old.store) trees
-            → IsRemoved IsNoTree trees self.old (names_of path.now) it.now) }
-        ensures refusal { IfErr result (λ error. (trees : Trees)
-            → AreTreesOf (S.objects self.old.store) trees
-            → RefusesRemoval IsNoTree (S.objects self.old.store) (S.may_fail self.old.store) trees
-            (open_dirs self.old) (names_of path.now) error) }
+        ensures removed { IfOk result (λ it. OfTrees (S.objects self.old.store)
+            (λ trees. IsRemoved IsNoTree trees self.old (names_of path.now) it.now)) }
+        ensures refusal { IfErr result (RefusedIn (meaning S.objects S.may_fail) self.old
+            (RefusesRemoval IsNoTree) (names_of path.now)) }
     {
         self.try_remove(path)?;
         Ok(self)
@@ -186,13 +181,10 @@ impl<S: Find> Editor<S> {
     /// something calls that one.
     pub fn remove_leaf(&mut self, path: &[BString]) -> Result<&mut Editor<S>, Error>
         ensures same_reference { IfOk result (λ it. it.ghost_name ≡ self.entry.ghost_name) }
-        ensures removed { IfOk result (λ it. (trees : Trees)
-            → AreTreesOf (S.objects self.old.store) trees
-            → IsLeafRemoved trees self.old (names_of path.now) it.now) }
-        ensures refusal { IfErr result (λ error. (trees : Trees)
-            → AreTreesOf (S.objects self.old.store) trees
-            → RefusesLeafRemoval (S.objects self.old.store) (S.may_fail self.old.store) trees
-            (open_dirs self.old) (names_of path.now) error) }
+        ensures removed { IfOk result (λ it. OfTrees (S.objects self.old.store)
+            (λ trees. IsLeafRemoved trees self.old (names_of path.now) it.now)) }
+        ensures refusal { IfErr result (RefusedIn (meaning S.objects S.may_fail) self.old
+            RefusesLeafRemoval (names_of path.now)) }
     {
         self.try_remove_leaf(path)?;
         Ok(self)
@@ -216,16 +208,13 @@ impl<S: Find> Editor<S> {
         kind: EntryKind,
         id: ObjectId,
     ) -> Result<(), Error>
-        ensures upserted { OnOk result ((trees : Trees)
-            → AreTreesOf (S.objects self.old.store) trees
-            → IsUpserted trees self.old (names_of path.now) (mode_of_kind kind) id self.new) }
-        ensures refused { OnErr result ((trees : Trees)
-            → AreTreesOf (S.objects self.old.store) trees
-            → IsRefused trees self.old (names_of path.now) self.new) }
-        ensures refusal { IfErr result (λ error. (trees : Trees)
-            → AreTreesOf (S.objects self.old.store) trees
-            → RefusesUpsert (S.objects self.old.store) (S.may_fail self.old.store) trees
-            (open_dirs self.old) (names_of path.now) error) }
+        ensures upserted { OnOk result (OfTrees (S.objects self.old.store)
+            (λ trees. IsUpserted trees self.old (names_of path.now) (mode_of_kind kind) id
+            self.new)) }
+        ensures refused { OnErr result (OfTrees (S.objects self.old.store)
+            (λ trees. IsRefused trees self.old (names_of path.now) self.new)) }
+        ensures refusal { IfErr result (RefusedIn (meaning S.objects S.may_fail) self.old
+            RefusesUpsert (names_of path.now)) }
         ensures unasked { IfErr result (λ error. IsForAName error → self.new ≡ self.old) }
     {
         let alloc = self.root.alloc();
@@ -255,15 +244,12 @@ impl<S: Find> Editor<S> {
     /// `OutOfMemory` where memory was wanting, which is taken only where a directory is opened. A
     /// refusal leaves the files as they were; what was opened on the way stays open.
     pub fn try_remove(&mut self, path: &[BString]) -> Result<(), Error>
-        ensures removed { OnOk result ((trees : Trees) → AreTreesOf (S.objects self.old.store) trees
-            → IsRemoved IsNoTree trees self.old (names_of path.now) self.new) }
-        ensures refused { OnErr result ((trees : Trees)
-            → AreTreesOf (S.objects self.old.store) trees
-            → IsRefused trees self.old (names_of path.now) self.new) }
-        ensures refusal { IfErr result (λ error. (trees : Trees)
-            → AreTreesOf (S.objects self.old.store) trees
-            → RefusesRemoval IsNoTree (S.objects self.old.store) (S.may_fail self.old.store) trees
-            (open_dirs self.old) (names_of path.now) error) }
+        ensures removed { OnOk result (OfTrees (S.objects self.old.store)
+            (λ trees. IsRemoved IsNoTree trees self.old (names_of path.now) self.new)) }
+        ensures refused { OnErr result (OfTrees (S.objects self.old.store)
+            (λ trees. IsRefused trees self.old (names_of path.now) self.new)) }
+        ensures refusal { IfErr result (RefusedIn (meaning S.objects S.may_fail) self.old
+            (RefusesRemoval IsNoTree) (names_of path.now)) }
     {
         open_for_removal(
             &mut self.root,
@@ -282,15 +268,12 @@ impl<S: Find> Editor<S> {
     /// `CannotRemoveNonLeaf` where a directory is at the path, beside what refuses a removal;
     /// `OutOfMemory` also where there was no memory for its path.
     pub fn try_remove_leaf(&mut self, path: &[BString]) -> Result<(), Error>
-        ensures removed { OnOk result ((trees : Trees) → AreTreesOf (S.objects self.old.store) trees
-            → IsLeafRemoved trees self.old (names_of path.now) self.new) }
-        ensures refused { OnErr result ((trees : Trees)
-            → AreTreesOf (S.objects self.old.store) trees
-            → IsRefused trees self.old (names_of path.now) self.new) }
-        ensures refusal { IfErr result (λ error. (trees : Trees)
-            → AreTreesOf (S.objects self.old.store) trees
-            → RefusesLeafRemoval (S.objects self.old.store) (S.may_fail self.old.store) trees
-            (open_dirs self.old) (names_of path.now) error) }
+        ensures removed { OnOk result (OfTrees (S.objects self.old.store)
+            (λ trees. IsLeafRemoved trees self.old (names_of path.now) self.new)) }
+        ensures refused { OnErr result (OfTrees (S.objects self.old.store)
+            (λ trees. IsRefused trees self.old (names_of path.now) self.new)) }
+        ensures refusal { IfErr result (RefusedIn (meaning S.objects S.may_fail) self.old
+            RefusesLeafRemoval (names_of path.now)) }
     {
         open_for_removal(
             &mut self.root,
@@ -352,13 +335,11 @@ impl<S> Editor<S> {
         &mut self,
         out: F,
     ) -> Result<Written, WriteError<E>>
-        requires { IsCallableOnTrees F.pre (λ f p g. CalledAt F.FnMut f p.1 (Ok p.0) g) out }
+        requires { IsCallableOnTrees F.pre (answered F.FnMut) out }
         ensures written { IfOk result (λ it. (last : F)
-            × IsWrittenEditor (λ f p g. CalledAt F.FnMut f p.1 (Ok p.0) g) out self.old it self.new
-            last) }
+            × IsWrittenEditor (answered F.FnMut) out self.old it self.new last) }
         ensures stopped { IfErr result (λ error. (last : F)
-            × Stopped (λ f p g. CalledAt F.FnMut f p.1 (Ok p.0) g)
-            (λ f t e g. CalledAt F.FnMut f t (Err e) g)
+            × Stopped (answered F.FnMut) (denied F.FnMut)
             (HandsOutSome (open_dirs self.old) (open_bases self.old)) out last error) }
         ensures unchanged { OnErr result (self.new ≡ self.old) }
     {
@@ -384,11 +365,10 @@ impl<S> Editor<S> {
         &mut self,
         out: &mut F,
     ) -> Result<Written, WriteError<E>>
-        requires { IsCallableOnTrees F.pre (λ f p g. CalledAt F.FnMut f p.1 (Ok p.0) g) out.old }
-        ensures written { IfOk result (λ it. IsWrittenEditor
-            (λ f p g. CalledAt F.FnMut f p.1 (Ok p.0) g) out.old self.old it self.new out.new) }
-        ensures stopped { IfErr result (Stopped (λ f p g. CalledAt F.FnMut f p.1 (Ok p.0) g)
-            (λ f t e g. CalledAt F.FnMut f t (Err e) g)
+        requires { IsCallableOnTrees F.pre (answered F.FnMut) out.old }
+        ensures written { IfOk result (λ it. IsWrittenEditor (answered F.FnMut) out.old self.old it
+            self.new out.new) }
+        ensures stopped { IfErr result (Stopped (answered F.FnMut) (denied F.FnMut)
             (HandsOutSome (open_dirs self.old) (open_bases self.old)) out.old out.new) }
         ensures unchanged { OnErr result (self.new ≡ self.old) }
     {

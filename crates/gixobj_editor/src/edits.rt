@@ -3,6 +3,7 @@ ghost use Rattle.std.specs.Prelude.{◌≡◌, ◌+◌, ◌≤◌, ◌<◌, ◌+
 ghost use Rattle.std.specs.Fn.{FnReturnsAt};
 ghost use Rattle.gixobj_editor.specs.Commands.{at_root};
 ghost use Rattle.gixobj_editor.specs.Replies.{IsCallable, IsEditReply, reply_to};
+ghost use Rattle.gixobj_object.specs.Stores.{meaning};
 
 use crate::Edit;
 use crate::editor::{Editor, Error};
@@ -18,9 +19,8 @@ pub(crate) fn do_edit<S: Keep, E, F: Fn(&Tree) -> Result<ObjectId, E>>(
     out: &F,
 ) -> EditReply<E>
     requires callable { IsCallable F.pre out.now }
-    ensures replied { IsEditReply (record { objects = S.objects; may_fail = S.may_fail })
-        (λ tree answer. FnReturnsAt F.Fn out.now tree answer) at_root editor.old edit result
-        editor.new }
+    ensures replied { IsEditReply (meaning S.objects S.may_fail) (FnReturnsAt F.Fn out.now) at_root
+        editor.old edit result editor.new }
 {
     match edit {
         Edit::Upsert { path, kind, id } => reply_to_edit(editor.try_upsert(&path, kind, id)),
@@ -36,9 +36,8 @@ fn do_write<S: Keep, E, F: Fn(&Tree) -> Result<ObjectId, E>>(
     out: &F,
 ) -> EditReply<E>
     requires callable { IsCallable F.pre out.now }
-    ensures replied { IsEditReply (record { objects = S.objects; may_fail = S.may_fail })
-        (λ tree answer. FnReturnsAt F.Fn out.now tree answer) at_root editor.old Edit.Write result
-        editor.new }
+    ensures replied { IsEditReply (meaning S.objects S.may_fail) (FnReturnsAt F.Fn out.now) at_root
+        editor.old Edit.Write result editor.new }
 {
     let written = match editor.write(out) {
         Ok(written) => written,

@@ -10,6 +10,7 @@ ghost use Rattle.gixobj_editor.specs.Commands.{accepted_steps, written_at};
 ghost use Rattle.gixobj_editor.specs.OneId.{IdsTellFiles, IsPlainRun};
 ghost use Rattle.gixobj_editor.specs.Replies.{IsCallable, IsReply, IsRun};
 ghost use Rattle.gixobj_editor.specs.RunTables.{AgreesWithRun};
+ghost use Rattle.gixobj_object.specs.Stores.{meaning};
 
 use crate::Command;
 use crate::by_cursor::do_edits_at;
@@ -43,10 +44,8 @@ pub fn run<S: Keep, E: Drop, F: Fn(&Tree) -> Result<ObjectId, E> + Drop>(
     out: F,
 ) -> Result<Vec<Reply<E>>, OutOfMemory>
     requires callable { IsCallable F.pre out }
-    ensures replies { IfOk result (λ replies. IsRun
-        (record { objects = S.objects; may_fail = S.may_fail })
-        (λ tree answer. FnReturnsAt F.Fn out tree answer) editor.old commands.items replies.items
-        editor.new) }
+    ensures replies { IfOk result (λ replies. IsRun (meaning S.objects S.may_fail)
+        (FnReturnsAt F.Fn out) editor.old commands.items replies.items editor.new) }
     ensures headline { IfOk result (λ replies. (T : Table) (n k : ℕ) (written : Written)
         → written_at replies.items k ≡ Some written
         → AgreesWithRun T (S.objects editor.old.store) (take k replies.items)
@@ -77,8 +76,8 @@ fn do_command<S: Keep, E: Drop, F: Fn(&Tree) -> Result<ObjectId, E>>(
     out: &F,
 ) -> Reply<E>
     requires callable { IsCallable F.pre out.now }
-    ensures replied { IsReply (record { objects = S.objects; may_fail = S.may_fail })
-        (λ tree answer. FnReturnsAt F.Fn out.now tree answer) editor.old command result editor.new }
+    ensures replied { IsReply (meaning S.objects S.may_fail) (FnReturnsAt F.Fn out.now) editor.old
+        command result editor.new }
 {
     match command {
         Command::Edit(edit) => Reply::Edit(do_edit(editor, edit, out)),

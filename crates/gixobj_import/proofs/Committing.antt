@@ -1,12 +1,11 @@
 -- The commits of steps that are imported one after the other.
 use Rattle.std.proofs.Common.{◌≡◌, inr, List, [], ◌∷◌, Option, None, Some, ap, subst, sym}
 use Rattle.std.proofs.lemmas.List.Elements.{All-cons, All-head, All-nil}
-use Rattle.gixobj_object.specs.Stores.{Objects}
+use Rattle.gixobj_object.specs.Stores.{Meaning, Objects}
 use Rattle.gixobj_hash.specs.Hash.{hex_text}
 use Rattle.gixobj_hash.specs.Hash.Hex.{IsHexOf}
 use Rattle.gixobj_hash.specs.declared.hash.kind.Kind as hash
 use Rattle.gixobj_hash.specs.declared.hash.object_id.ObjectId.{ObjectId}
-use Rattle.gixobj_editor.specs.Replies.{Meaning}
 use Rattle.gixobj_import.specs.ByDigest.{AddsByDigest, NamesByDigest}
 use Rattle.gixobj_import.specs.Commits.{only_parent, step_text}
 use Rattle.gixobj_import.specs.Imports.{AreCommitsOf, IsNewImporter}

@@ -1,6 +1,6 @@
 -- A write whose trees were then kept, or not all of them.
 use Rattle.std.proofs.Common.{◌≡◌, ◌∙◌, ℕ, All, List, ap, subst, sym}
-use Rattle.gixobj_object.specs.Stores.{Objects}
+use Rattle.gixobj_object.specs.Stores.{Meaning, Objects}
 use Rattle.gixobj_directories.specs.declared.write.Written.{Written}
 use Rattle.gixobj_editor.specs.Writes.{IsWrittenEditor}
 use Rattle.gixobj_files.specs.State.{State, with_store}
@@ -10,7 +10,7 @@ use Rattle.gixobj_hash.specs.declared.hash.object_id.ObjectId.{ObjectId}
 use Rattle.gixobj_find.specs.Keeping.{HasText, StopsKeeping, with_trees}
 use Rattle.gixobj_find.specs.declared.keeping.KeepError.{KeepError}
 use Rattle.gixobj_editor.specs.Commands.{at_root}
-use Rattle.gixobj_editor.specs.Replies.{Gives, IsWriteKept, IsWrittenAt, KeepsAll, Meaning}
+use Rattle.gixobj_editor.specs.Replies.{Gives, IsWriteKept, IsWrittenAt, KeepsAll}
 use Rattle.gixobj_editor.specs.declared.reply.EditReply.TheVariants as reply
 use Rattle.gixobj_import.specs.Edited.{Digests, IsWriteReplied}
 

@@ -4,6 +4,7 @@ use Rattle.std.specs.Prelude.{IfErr, OnErr, OnOk}
 use Rattle.std.specs.declared.alloc.Global.{Global}
 use Rattle.std.specs.declared.vec.Vec.{Vec}
 use Rattle.bstr.specs.declared.bstring.BString.{BString}
+use Rattle.gixobj_directories.specs.Openings.{OfTrees}
 use Rattle.gixobj_editor.specs.declared.command.Edit.TheVariants as edit
 use Rattle.gixobj_directories.specs.Calls.{names_of}
 use Rattle.gixobj_editor.specs.Removals.{IsLeafRemoved, IsRemoved, RefusesLeafRemoval, RefusesRemoval}
@@ -13,10 +14,10 @@ use Rattle.gixobj_files.specs.Edits.{IsNoTree}
 use Rattle.gixobj_files.specs.Files.{Trees}
 use Rattle.gixobj_files.specs.State.{State, open_dirs}
 use Rattle.gixobj_hash.specs.declared.hash.object_id.ObjectId.{ObjectId}
+use Rattle.gixobj_object.specs.Stores.{Meaning}
 use Rattle.gixobj_tree.specs.Mode.{mode_of_kind}
 use Rattle.gixobj_tree.specs.declared.tree.entry_kind.EntryKind.{EntryKind}
-use Rattle.gixobj_editor.specs.Replies.{IsRefusedEdit, Meaning, reply_to}
-use Rattle.gixobj_editor.specs.RunTables.{OfTrees}
+use Rattle.gixobj_editor.specs.Replies.{IsRefusedEdit, reply_to}
 use Rattle.gixobj_import.specs.Edited.{IsReplied}
 
 -- an edit at the names that were lent to the call

@@ -9,7 +9,6 @@ use Rattle.gixobj_directories.specs.declared.write.Written.{Written}
 use Rattle.gixobj_files.specs.State.{State}
 use Rattle.gixobj_hash.specs.declared.hash.kind.Kind as hash
 use Rattle.gixobj_hash.specs.declared.hash.object_id.ObjectId.{ObjectId}
-use Rattle.gixobj_editor.specs.Replies.{Meaning}
 use Rattle.gixobj_editor.specs.declared.reply.EditReply.TheVariants as reply
 use Rattle.gixobj_import.specs.Edited.{AreDone, IsWriteBehind, IsWriteReplied}
 use Rattle.gixobj_import.specs.Steps.{AreImported, IsFailed, IsImported, RefusesCommit, RefusesEdits, RefusesStep, RefusesStepText, RefusesWrite, Stops}
@@ -18,6 +17,7 @@ use Rattle.gixobj_import.specs.declared.import.ImportError.TheVariants as import
 use Rattle.gixobj_import.specs.declared.import.Imported.{Imported}
 use Rattle.gixobj_import.specs.declared.import.Importer.{Importer}
 use Rattle.gixobj_import.specs.declared.import.Step.{Step}
+use Rattle.gixobj_object.specs.Stores.{Meaning}
 
 found : (steps : List Step) (index : ℕ) (it : Step) → index < length steps → it ≡ get_or steps index it → slice_get steps index ≡ Some it
 found [] zero it within is = absurd (omega arith)

@@ -1,6 +1,5 @@
 -- An import of a new importer that came to a stop.
 use Rattle.std.proofs.Common.{inl, inr, List, [], ◌∷◌, None, ap, length, take}
-use Rattle.gixobj_editor.specs.Replies.{Meaning}
 use Rattle.gixobj_import.specs.ByDigest.{AddsByDigest}
 use Rattle.gixobj_import.specs.Imports.{AreCommitsOf, HaveFilesOfNothing, IsNewImporter}
 use Rattle.gixobj_import.specs.Steps.{Stops}
@@ -13,6 +12,7 @@ use Rattle.gixobj_import.proofs.Committing.{commits_of_new}
 use Rattle.gixobj_import.proofs.Digests.{adds_none, adds_then}
 use Rattle.gixobj_import.proofs.Filing.{files_of_new}
 use Rattle.gixobj_import.proofs.Known.{OfStores}
+use Rattle.gixobj_object.specs.Stores.{Meaning}
 
 module _ {S : Type 0} (means : Meaning S) (laws : OfStores) where
   pub stopped_adds : (old new : Importer S) (steps : List Step) (imported : List Imported) (error : ImportError) → Stops means old steps imported error new → AddsByDigest (objects_of means laws old) (objects_of means laws new)

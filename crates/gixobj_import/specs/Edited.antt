@@ -1,8 +1,8 @@
 -- Edits of a step, which come through one after the other, and the write behind them.
-use Rattle.std.specs.Prelude.{◌≡◌, ℕ, Bool, List, [], ◌∷◌, Err, Ok, Some, slice_get, take, ⊤}
+use Rattle.std.specs.Prelude.{◌≡◌, ℕ, List, [], ◌∷◌, Err, Ok, Some, slice_get, take, ⊤}
 use Rattle.gixobj_editor.specs.declared.command.Edit.{Edit}
 use Rattle.gixobj_editor.specs.declared.command.Edit.TheVariants as edit
-use Rattle.gixobj_object.specs.Stores.{Objects}
+use Rattle.gixobj_object.specs.Stores.{Meaning}
 use Rattle.gixobj_directories.specs.Calls.{names_of}
 use Rattle.gixobj_editor.specs.declared.editor.error.Error.{Error}
 use Rattle.gixobj_fields.specs.declared.encode.Error as encode
@@ -11,11 +11,10 @@ use Rattle.gixobj_files.specs.History.{Step, remove, upsert}
 use Rattle.gixobj_files.specs.State.{State}
 use Rattle.gixobj_hash.specs.Hash.{id_of}
 use Rattle.gixobj_hash.specs.declared.hash.kind.Kind as hash
-use Rattle.gixobj_hash.specs.declared.hash.object_id.ObjectId.{ObjectId}
 use Rattle.gixobj_hash.specs.declared.kind.Kind.TheVariants.{Tree}
 use Rattle.gixobj_find.specs.Keeping.{HasNoText, HasText}
 use Rattle.gixobj_editor.specs.Commands.{at_root}
-use Rattle.gixobj_editor.specs.Replies.{Answers, IsEditReply, Meaning}
+use Rattle.gixobj_editor.specs.Replies.{Answers, IsEditReply}
 use Rattle.gixobj_editor.specs.declared.reply.EditReply.{EditReply}
 use Rattle.gixobj_editor.specs.declared.reply.EditReply.TheVariants as reply
 use Rattle.gixobj_tree.specs.Mode.{mode_of_kind}
@@ -38,10 +37,6 @@ Digests hash tree (Err other) = HasNoText tree
 -- no tree is handed out
 abbrev pub NoAnswers : Answers encode.Error
 NoAnswers tree answer = ⊥
-
--- what the objects of a store, and the ids for which its lookups may fail, are
-abbrev pub meaning : {S : Type 0} → (S → Objects) → (S → ObjectId → Bool) → Meaning S
-meaning objects may_fail = record { objects = objects; may_fail = may_fail }
 
 module _ {S : Type 0} (means : Meaning S) where
   -- the edit may get this reply, as in a run

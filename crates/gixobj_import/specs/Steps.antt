@@ -14,7 +14,6 @@ use Rattle.gixobj_hash.specs.declared.kind.Kind.TheVariants.{Commit}
 use Rattle.gixobj_find.specs.Keeping.{RefusesKeepCommit, with_commit}
 use Rattle.gixobj_find.specs.declared.keeping.KeepError.{KeepError}
 use Rattle.gixobj_commit.specs.Commit.{IsCommitText}
-use Rattle.gixobj_editor.specs.Replies.{Meaning}
 use Rattle.gixobj_editor.specs.declared.reply.EditReply.TheVariants as reply
 use Rattle.gixobj_import.specs.Commits.{NamesSignature, only_parent, step_commit, step_text}
 use Rattle.gixobj_import.specs.Edited.{AreDone, IsRefusedAt, IsWriteBehind, IsWriteReplied}
@@ -23,6 +22,7 @@ use Rattle.gixobj_import.specs.declared.import.ImportError.TheVariants as import
 use Rattle.gixobj_import.specs.declared.import.Imported.{Imported}
 use Rattle.gixobj_import.specs.declared.import.Importer.{Importer}
 use Rattle.gixobj_import.specs.declared.import.Step.{Step}
+use Rattle.gixobj_object.specs.Stores.{Meaning}
 
 -- the importer with another store
 abbrev pub over_store : {S : Type 0} → Importer S → S → Importer S

@@ -3,8 +3,8 @@ ghost use Rattle.std.specs.Prelude.{◌≡◌, IfErr, IfOk, OnOk};
 ghost use Rattle.gixobj_actor.specs.ActorWriting.{IsLegal, owned_text};
 ghost use Rattle.gixobj_commit.specs.CommitViews.{owned_commit_lines};
 ghost use Rattle.gixobj_import.specs.Commits.{NamesSignature, SameActor, only_parent, step_commit, step_text};
-ghost use Rattle.gixobj_import.specs.Edited.{meaning};
 ghost use Rattle.gixobj_import.specs.Steps.{IsCommitKept, RefusesCommit, RefusesStepText};
+ghost use Rattle.gixobj_object.specs.Stores.{meaning};
 
 use crate::import::{ImportError, Step};
 use crate::written::is_an_id;

@@ -1,7 +1,8 @@
 //! The edits of a step.
 ghost use Rattle.std.specs.Prelude.{◌≢◌, ◌↔◌, Contains, IfErr, IsTrue, OnOk};
-ghost use Rattle.gixobj_import.specs.Edited.{AreDone, IsRefusedAt, IsReplied, meaning};
+ghost use Rattle.gixobj_import.specs.Edited.{AreDone, IsRefusedAt, IsReplied};
 ghost use Rattle.gixobj_editor.specs.Replies.{reply_to};
+ghost use Rattle.gixobj_object.specs.Stores.{meaning};
 
 use gixobj_editor::Edit;
 use gixobj_editor::editor::{Editor, Error};

@@ -5,10 +5,10 @@ ghost use Rattle.gixobj_files.specs.Bases.{HasBases};
 ghost use Rattle.gixobj_files.specs.Files.{Table};
 ghost use Rattle.gixobj_files.specs.State.{open_bases, open_dirs};
 ghost use Rattle.gixobj_import.specs.ByDigest.{AddsByDigest};
-ghost use Rattle.gixobj_import.specs.Edited.{meaning};
 ghost use Rattle.gixobj_import.specs.Imports.{AgreesWithStep, AreCommitsOf, HasFilesOf, HaveFilesOfNothing, IsNewImporter, before};
 ghost use Rattle.gixobj_import.specs.Steps.{AreImported, IsImported, RefusesStep, Stops, over_store};
 ghost use Rattle.gixobj_import.specs.contracts.import.Importer.{the_row};
+ghost use Rattle.gixobj_object.specs.Stores.{meaning};
 
 use crate::commits::keep_commit_of;
 use crate::edits::hold_a_write;

@@ -5,10 +5,11 @@ ghost use Rattle.gixobj_editor.specs.Writes.{IsWrittenEditor};
 ghost use Rattle.gixobj_files.specs.HandingOut.{HandsOutSome};
 ghost use Rattle.gixobj_files.specs.State.{open_bases, open_dirs};
 ghost use Rattle.gixobj_hash.specs.Hash.{IsId};
-ghost use Rattle.gixobj_import.specs.Edited.{Digests, IsWriteBehind, IsWriteReplied, meaning};
+ghost use Rattle.gixobj_import.specs.Edited.{Digests, IsWriteBehind, IsWriteReplied};
 ghost use Rattle.gixobj_import.specs.Steps.{HaveHex, RefusesEdits, RefusesWrite};
 ghost use Rattle.gixobj_editor.specs.Replies.{Denies, Gives};
 ghost use Rattle.hex.specs.Hex.{IsBytes};
+ghost use Rattle.gixobj_object.specs.Stores.{meaning};
 
 use crate::edits::do_edits;
 use crate::import::ImportError;

@@ -49,3 +49,12 @@ IsHeaderFound objects id found = found ≡ option_map header (named objects id)
 abbrev pub RefusesFind : (ObjectId → Bool) → ObjectId → Error → Type 0
 RefusesFind may_fail id (Store message) = IsTrue (may_fail id)
 RefusesFind may_fail id OutOfMemory = ⊤
+
+-- what a store means: which object each of its ids names, and for which a lookup may fail
+pub record Meaning (S : Type 0) : Type 0 where
+  pub objects : S → Objects
+  pub may_fail : S → ObjectId → Bool
+
+-- what the objects of a store, and the ids for which its lookups may fail, are
+abbrev pub meaning : {S : Type 0} → (S → Objects) → (S → ObjectId → Bool) → Meaning S
+meaning objects may_fail = record { objects = objects; may_fail = may_fail }

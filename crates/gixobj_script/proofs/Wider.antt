@@ -5,7 +5,7 @@ use Rattle.gixobj_editor.specs.declared.command.Command.{Command}
 use Rattle.gixobj_editor.specs.declared.command.Command.TheVariants as command
 use Rattle.gixobj_editor.specs.declared.command.Edit.{Edit}
 use Rattle.gixobj_editor.specs.declared.command.Edit.TheVariants as edit
-use Rattle.gixobj_object.specs.Stores.{Objects}
+use Rattle.gixobj_object.specs.Stores.{Meaning, Objects}
 use Rattle.gixobj_directories.specs.Calls.{names_of}
 use Rattle.gixobj_directories.specs.Handing.{Stopped}
 use Rattle.gixobj_directories.specs.declared.write.WriteError.{WriteError}
@@ -18,7 +18,7 @@ use Rattle.gixobj_files.specs.State.{State, open_bases, open_dirs}
 use Rattle.gixobj_hash.specs.declared.hash.object_id.ObjectId.{ObjectId}
 use Rattle.gixobj_tree.specs.Entries.{EntryView, Pair}
 use Rattle.gixobj_editor.specs.Commands.{Place, at_cursor, at_root}
-use Rattle.gixobj_editor.specs.Replies.{Answers, AreEditReplies, Denies, Gives, IsEditReply, IsRefusedWrite, IsReply, IsReplyAt, IsRun, IsWriteKept, IsWrittenAt, Meaning, dirs_at}
+use Rattle.gixobj_editor.specs.Replies.{Answers, AreEditReplies, Denies, Gives, IsEditReply, IsRefusedWrite, IsReply, IsReplyAt, IsRun, IsWriteKept, IsWrittenAt, dirs_at}
 use Rattle.gixobj_editor.specs.declared.reply.EditReply.{EditReply}
 use Rattle.gixobj_editor.specs.declared.reply.EditReply.TheVariants as edit_reply
 use Rattle.gixobj_editor.specs.declared.reply.Reply.{Reply}

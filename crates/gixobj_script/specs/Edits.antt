@@ -3,13 +3,14 @@ use Rattle.std.specs.Prelude.{◌≡◌, ◌⊎◌, ℕ, false, List, [], map}
 use Rattle.std.specs.FinMap as finite
 use Rattle.gixobj_editor.specs.Views.{CommandView, command_view}
 use Rattle.gixobj_editor.specs.declared.command.Command.{Command}
+use Rattle.gixobj_object.specs.Stores.{Meaning}
 use Rattle.gixobj_script.specs.Digests.{IsAnsweredDigest}
 use Rattle.gixobj_script.specs.Telling.{answers_to_all}
 use Rattle.gixobj_script.specs.declared.editing.EditError.{EditError}
 use Rattle.gixobj_script.specs.declared.editing.EditError.TheVariants as editing
 use Rattle.gixobj_files.specs.State.{State, root_alone}
 use Rattle.gixobj_hash.specs.declared.hash.kind.Kind as hash
-use Rattle.gixobj_editor.specs.Replies.{Answers, IsRun, Meaning}
+use Rattle.gixobj_editor.specs.Replies.{Answers, IsRun}
 use Rattle.gixobj_editor.specs.declared.reply.Reply.{Reply}
 use Rattle.gixobj_script.specs.Answers.{answer_lines_of}
 use Rattle.gixobj_script.specs.Scripts.{IsFirstBad, IsScript, RefusesScript}

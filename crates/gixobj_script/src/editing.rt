@@ -1,6 +1,7 @@
 //! Scripts, run on an editor and told.
 ghost use Rattle.std.specs.Prelude.{◌≡◌, ◌⊎◌, ℕ, IfErr, IfOk, OnErr};
 ghost use Rattle.std.specs.Fn.{FnReturnsAt};
+ghost use Rattle.gixobj_object.specs.Stores.{meaning};
 ghost use Rattle.gixobj_script.specs.Digests.{IsAnsweredDigest};
 ghost use Rattle.gixobj_script.specs.Edits.{IsEdit, IsTold, RefusesEdit, WasRun};
 ghost use Rattle.gixobj_script.specs.declared.editing.EditError.TheVariants as editing;
@@ -85,16 +86,14 @@ pub fn edit_on<S: Keep, E: Drop, F: Fn(&Tree) -> Result<ObjectId, E> + Drop>(
     out: F,
 ) -> Result<Vec<u8>, EditError>
     requires callable { IsCallable F.pre out }
-    ensures told { IfOk result
-        (λ text. IsTold (record { objects = S.objects; may_fail = S.may_fail })
-        (λ tree answer. FnReturnsAt F.Fn out tree answer) hash script.now editor.old text.items
-        editor.new) }
+    ensures told { IfOk result (λ text. IsTold (meaning S.objects S.may_fail) (FnReturnsAt F.Fn out)
+        hash script.now editor.old text.items editor.new) }
     ensures refusal { IfErr result (RefusesEdit hash script.now) }
     ensures not_run { IfErr result (λ error. (number : ℕ) → error ≡ editing.BadLine number
         → editor.new ≡ editor.old) }
     ensures left { OnErr result ((editor.new ≡ editor.old)
-        ⊎ WasRun (record { objects = S.objects; may_fail = S.may_fail })
-        (λ tree answer. FnReturnsAt F.Fn out tree answer) hash script.now editor.old editor.new) }
+        ⊎ WasRun (meaning S.objects S.may_fail) (FnReturnsAt F.Fn out) hash script.now editor.old
+        editor.new) }
 {
     let commands = read_script(alloc, script, hash)?;
     let replies = run(alloc, editor, commands, out)?;

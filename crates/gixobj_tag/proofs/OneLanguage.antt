@@ -1,7 +1,7 @@
 -- The two readers of tags read one language.
 use Rattle.std.proofs.Common.{◌≡◌, ◌≢◌, ℕ, List, [], ◌∷◌, ◌++◌, Option, Some, None, ap, refl, subst, sym}
 use Rattle.std.specs.Prelude.{codes}
-use Rattle.gixobj_actor.specs.Actor.{IsActorLine}
+use Rattle.gixobj_actor.specs.Actor.{ActorView, IsActorLineOf}
 use Rattle.gixobj_fields.proofs.HeaderFields.{of_an_id}
 use Rattle.gixobj_fields.specs.HeaderReading.{HasId}
 use Rattle.gixobj_fields.specs.HeaderText.{HasField}
@@ -50,15 +50,15 @@ body_told kind (byte ∷ body) message signature is =
 
 -- ---- a tagger and a body, told
 
-behind_tagger : (kind : hash.Kind) (input line rest message : List ℕ) (signature : Option (List ℕ)) (name email time bytes : List ℕ) → HasField (codes "tagger") input line rest → IsActorLine line name email time bytes
-    → TailTold kind state.Body rest (body_token message signature ∷ []) → TailTold kind state.Tagger input (tagger_token name email time ∷ body_token message signature ∷ [])
-behind_tagger kind input line rest message signature name email time bytes field actor tail =
+behind_tagger : (kind : hash.Kind) (input line rest message : List ℕ) (signature : Option (List ℕ)) (actor : ActorView) (bytes : List ℕ) → HasField (codes "tagger") input line rest → IsActorLineOf line actor bytes
+    → TailTold kind state.Body rest (body_token message signature ∷ []) → TailTold kind state.Tagger input (tagger_token actor ∷ body_token message signature ∷ [])
+behind_tagger kind input line rest message signature actor bytes field is tail =
     record {
-      tokens = tagger_token name email time ∷ tail.tokens;
+      tokens = tagger_token actor ∷ tail.tokens;
       missing = tail.missing;
-      told = tells_piece state.Tagger state.Body input rest (tagger_token name email time) tail.tokens complete (tagger_comes input line rest name email time bytes field actor) tail.told;
+      told = tells_piece state.Tagger state.Body input rest (tagger_token actor) tail.tokens complete (tagger_comes input line rest actor bytes field is) tail.told;
       may = tail.may;
-      joined = ap (λ (it : List TagTokenView). tagger_token name email time ∷ it) tail.joined;
+      joined = ap (λ (it : List TagTokenView). tagger_token actor ∷ it) tail.joined;
     }
 
 untagged_told : (kind : hash.Kind) (body message : List ℕ) (signature : Option (List ℕ)) → HasTagger body None body → IsBody body message signature → TailTold kind state.Tagger body (no_tagger_token ∷ body_token message signature ∷ [])
@@ -92,11 +92,12 @@ tail_told kind input None body message signature (lacks, same) is =
     let has : HasTagger body None body = (subst (λ (it : List ℕ). HasTagger it None body) (sym same) (lacks, same)) in
     let told = untagged_told kind body message signature has is in
     record { token = no_tagger_token; tells = tells_no_tagger; tail = subst (λ (it : List ℕ). TailTold kind state.Tagger it (no_tagger_token ∷ body_token message signature ∷ [])) same told }
-tail_told kind input (Some line) body message signature (field, (name, email, time, bytes, actor)) is =
+tail_told kind input (Some line) body message signature (field, (name, email, time, bytes, named)) is =
+    let actor : ActorView = record { name = name; email = email; time = time } in
     record {
-      token = tagger_token name email time;
-      tells = tells_tagger line name email time bytes actor;
-      tail = behind_tagger kind input line body message signature name email time bytes field actor (body_told kind body message signature is);
+      token = tagger_token actor;
+      tells = tells_tagger line actor bytes named;
+      tail = behind_tagger kind input line body message signature actor bytes field named (body_told kind body message signature is);
     }
 
 -- ---- the law: told
@@ -173,8 +174,8 @@ read_tail kind input tokens (tells_end _) =
       may = misses_tagger_and_body;
       joined = refl;
     }
-read_tail kind input tokens (tells_piece _ _ _ rest _ others _ (tagger_comes _ line _ name email time bytes field is) told) =
-    read_body kind input (Some line) rest (tagger_token name email time) others (field, (name, email, time, bytes, is)) (tells_tagger line name email time bytes is) told
+read_tail kind input tokens (tells_piece _ _ _ rest _ others _ (tagger_comes _ line _ actor bytes field is) told) =
+    read_body kind input (Some line) rest (tagger_token actor) others (field, (actor.name, actor.email, actor.time, bytes, is)) (tells_tagger line actor bytes is) told
 read_tail kind input tokens (tells_piece _ _ _ _ _ others _ (no_tagger_comes _ filled lacks) told) = read_body kind input None input no_tagger_token others (lacks, refl) tells_no_tagger told
 
 -- a tag of this text with these tokens

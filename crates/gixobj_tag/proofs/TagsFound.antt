@@ -40,11 +40,11 @@ last_apart (a ∷ xs) (b ∷ ys) x y same =
     (cc (heads, more.0), more.1)
 
 is_tagger : (line : Option (List ℕ)) (token : TagTokenView) → TellsTagger line token → IsTaggerToken token
-is_tagger line token (tells_tagger _ name email time rest is) = tt
+is_tagger line token (tells_tagger _ actor rest is) = tt
 is_tagger line token tells_no_tagger = tt
 
 no_line : (line : Option (List ℕ)) (token : TagTokenView) → TellsTagger line token → token ≡ no_tagger_token → line ≡ None
-no_line line token (tells_tagger _ name email time rest is) same = absurd (cc same)
+no_line line token (tells_tagger _ actor rest is) same = absurd (cc same)
 no_line line token tells_no_tagger same = refl
 
 told_is_tagger : (tagger : Option SignatureRef) → IsTaggerToken (told_tagger tagger)

@@ -4,8 +4,8 @@ use Rattle.std.proofs.lemmas.List.{append-nil}
 use Rattle.std.specs.Prelude.{codes}
 use Rattle.bstr.specs.BStr.{bstr_bytes}
 use Rattle.bstr.specs.declared.bstr.BStr.{BStr}
-use Rattle.gixobj_actor.proofs.ActorLines.{one_actor}
-use Rattle.gixobj_actor.specs.Actor.{IsActorLine}
+use Rattle.gixobj_actor.proofs.ActorLines.{one_view}
+use Rattle.gixobj_actor.specs.Actor.{IsActorLineOf, actor_view}
 use Rattle.gixobj_actor.specs.declared.actor.SignatureRef.{SignatureRef}
 use Rattle.gixobj_fields.proofs.HeaderFields.{field_alone, one_field}
 use Rattle.gixobj_fields.specs.HeaderReading.{HasId}
@@ -30,13 +30,13 @@ use Rattle.gixobj_tag.specs.declared.ref_iter.State.TheVariants as state
 -- ---- the tagger
 
 pub told_actor : (tagger : Option (BStr × SignatureRef)) (line : BStr) (actor : SignatureRef) → IsParsedTagger tagger → tagger ≡ Some (line, actor)
-    → TellsTagger (line_if_some tagger) (tagger_token (bstr_bytes actor.name) (bstr_bytes actor.email) (bstr_bytes actor.time))
+    → TellsTagger (line_if_some tagger) (tagger_token (actor_view actor))
 told_actor tagger line actor parsed same =
     let it : IsParsedTagger (Some (line, actor)) = subst IsParsedTagger same parsed in
-    rw same (tells_tagger (bstr_bytes line) (bstr_bytes actor.name) (bstr_bytes actor.email) (bstr_bytes actor.time) it.0 it.1)
+    rw same (tells_tagger (bstr_bytes line) (actor_view actor) it.0 it.1)
 
 told_comes : (kind : hash.Kind) (input rest : List ℕ) (line : Option (List ℕ)) (token : TagTokenView) → input ≢ [] → HasTagger input line rest → TellsTagger line token → HasTagToken kind state.Tagger input token state.Body rest
-told_comes kind input rest (Some line) token filled (field, actor) (tells_tagger _ name email time behind is) = tagger_comes input line rest name email time behind field is
+told_comes kind input rest (Some line) token filled (field, _) (tells_tagger _ actor behind is) = tagger_comes input line rest actor behind field is
 told_comes kind input rest None token filled (lacks, same) tells_no_tagger =
     rw same (no_tagger_comes input filled lacks)
 
@@ -47,7 +47,7 @@ tagger_told kind before input rest line token same filled has tells = rw same (t
 -- ---- no token
 
 none_told : (kind : hash.Kind) (input : List ℕ) (token : TagTokenView) (behind : State) (rest : List ℕ) → HasNoTagger input → HasTagToken kind state.Tagger input token behind rest → ⊥
-none_told kind input token behind rest none (tagger_comes _ line _ name email time bytes field is) = none (Some line) rest (field, (name, email, time, bytes, is))
+none_told kind input token behind rest none (tagger_comes _ line _ actor bytes field is) = none (Some line) rest (field, (actor.name, actor.email, actor.time, bytes, is))
 none_told kind input token behind rest none (no_tagger_comes _ filled lacks) = none None input (lacks, refl)
 
 pub no_tagger_token_comes : (kind : hash.Kind) (before : State) (input : List ℕ) → before ≡ state.Tagger → HasNoTagger input → HasNoPiece (HasTagToken kind) before input
@@ -64,7 +64,7 @@ pub no_longer : (kind : hash.Kind) (before : State) (input : List ℕ) (token : 
 no_longer kind before input token behind rest (target_comes _ hex _ id has spells) = let less = field_shortens (codes "object") input hex rest has.0 in omega (arith, less)
 no_longer kind before input token behind rest (kind_comes _ _ of field) = let less = field_shortens (codes "type") input (kind_word of) rest field in omega (arith, less)
 no_longer kind before input token behind rest (name_comes _ name _ has) = let less = field_shortens (codes "tag") input name rest has.0 in omega (arith, less)
-no_longer kind before input token behind rest (tagger_comes _ line _ name email time bytes field is) = let less = field_shortens (codes "tagger") input line rest field in omega (arith, less)
+no_longer kind before input token behind rest (tagger_comes _ line _ actor bytes field is) = let less = field_shortens (codes "tagger") input line rest field in omega (arith, less)
 no_longer kind before input token behind rest (no_tagger_comes _ filled lacks) = omega arith
 no_longer kind before input token behind rest (body_comes _ message signature filled is) = omega arith
 
@@ -72,7 +72,7 @@ fewer_states : (kind : hash.Kind) (before : State) (input : List ℕ) (token : T
 fewer_states kind before input token behind rest (target_comes _ hex _ id has spells) = omega arith
 fewer_states kind before input token behind rest (kind_comes _ _ of field) = omega arith
 fewer_states kind before input token behind rest (name_comes _ name _ has) = omega arith
-fewer_states kind before input token behind rest (tagger_comes _ line _ name email time bytes field is) = omega arith
+fewer_states kind before input token behind rest (tagger_comes _ line _ actor bytes field is) = omega arith
 fewer_states kind before input token behind rest (no_tagger_comes _ filled lacks) = omega arith
 fewer_states kind before input token behind rest (body_comes _ message signature filled is) = omega arith
 
@@ -86,7 +86,7 @@ pub no_token_of_nothing : (kind : hash.Kind) (before : State) (input : List ℕ)
 no_token_of_nothing kind before input token behind rest bare (target_comes _ hex _ id has spells) = let less = field_shortens (codes "object") input hex rest has.0 in omega (arith, less, ap length bare)
 no_token_of_nothing kind before input token behind rest bare (kind_comes _ _ of field) = let less = field_shortens (codes "type") input (kind_word of) rest field in omega (arith, less, ap length bare)
 no_token_of_nothing kind before input token behind rest bare (name_comes _ name _ has) = let less = field_shortens (codes "tag") input name rest has.0 in omega (arith, less, ap length bare)
-no_token_of_nothing kind before input token behind rest bare (tagger_comes _ line _ name email time bytes field is) = let less = field_shortens (codes "tagger") input line rest field in omega (arith, less, ap length bare)
+no_token_of_nothing kind before input token behind rest bare (tagger_comes _ line _ actor bytes field is) = let less = field_shortens (codes "tagger") input line rest field in omega (arith, less, ap length bare)
 no_token_of_nothing kind before input token behind rest bare (no_tagger_comes _ filled lacks) = filled bare
 no_token_of_nothing kind before input token behind rest bare (body_comes _ message signature filled is) = filled bare
 
@@ -103,13 +103,12 @@ one_token kind before input a b s t x y (kind_comes _ _ of field) (kind_comes _ 
     let same = one_field (codes "type") input (kind_word of) x (kind_word of') y field field' in (ap kind_token (one_kind of of' same.0), refl, same.1)
 one_token kind before input a b s t x y (name_comes _ name _ has) (name_comes _ name' _ has') =
     let same = one_field (codes "tag") input name x name' y has.0 has'.0 in (ap name_token same.0, refl, same.1)
-one_token kind before input a b s t x y (tagger_comes _ line _ name email time bytes field is) (tagger_comes _ line' _ name' email' time' bytes' field' is') =
+one_token kind before input a b s t x y (tagger_comes _ line _ actor bytes field is) (tagger_comes _ line' _ actor' bytes' field' is') =
     let same = one_field (codes "tagger") input line x line' y field field' in
-    let there = subst (λ (it : List ℕ). IsActorLine it name email time bytes) same.0 is in
-    let parts = one_actor line' name email time bytes name' email' time' bytes' there is' in
-    (cc (parts.0, parts.1, parts.2), refl, same.1)
-one_token kind before input a b s t x y (tagger_comes _ line _ name email time bytes field is) (no_tagger_comes _ filled lacks) = absurd (begins_field (codes "tagger") input line x field lacks)
-one_token kind before input a b s t x y (no_tagger_comes _ filled lacks) (tagger_comes _ line _ name email time bytes field is) = absurd (begins_field (codes "tagger") input line y field lacks)
+    let there = subst (λ (it : List ℕ). IsActorLineOf it actor bytes) same.0 is in
+    (ap tagger_token (one_view line' actor actor' bytes bytes' there is'), refl, same.1)
+one_token kind before input a b s t x y (tagger_comes _ line _ actor bytes field is) (no_tagger_comes _ filled lacks) = absurd (begins_field (codes "tagger") input line x field lacks)
+one_token kind before input a b s t x y (no_tagger_comes _ filled lacks) (tagger_comes _ line _ actor bytes field is) = absurd (begins_field (codes "tagger") input line y field lacks)
 one_token kind before input a b s t x y (no_tagger_comes _ filled lacks) (no_tagger_comes _ _ _) = (refl, refl, refl)
 one_token kind before input a b s t x y (body_comes _ message signature filled is) (body_comes _ message' signature' _ is') =
     let same = one_body input message message' signature signature' is is' in (cc (same.0, same.1), refl, refl)
@@ -123,7 +122,7 @@ text_of_token kind before input token behind rest (kind_comes _ _ of field) =
     (field_text (codes "type") (kind_word of), field.joined, (before, behind, kind_comes _ [] of (field_alone (codes "type") input (kind_word of) rest field)))
 text_of_token kind before input token behind rest (name_comes _ name _ has) =
     (field_text (codes "tag") name, has.0.joined, (before, behind, name_comes _ name [] (field_alone (codes "tag") input name rest has.0, has.1)))
-text_of_token kind before input token behind rest (tagger_comes _ line _ name email time bytes field is) =
-    (field_text (codes "tagger") line, field.joined, (before, behind, tagger_comes _ line [] name email time bytes (field_alone (codes "tagger") input line rest field) is))
+text_of_token kind before input token behind rest (tagger_comes _ line _ actor bytes field is) =
+    (field_text (codes "tagger") line, field.joined, (before, behind, tagger_comes _ line [] actor bytes (field_alone (codes "tagger") input line rest field) is))
 text_of_token kind before input token behind rest (no_tagger_comes _ filled lacks) = ([], refl, refl)
 text_of_token kind before input token behind rest (body_comes _ message signature filled is) = (input, sym (append-nil input), (before, behind, body_comes input message signature filled is))

@@ -1,6 +1,6 @@
 -- A tag and its tokens.
 use Rattle.std.specs.Prelude.{◌≡◌, ℕ, List, [], ◌∷◌, ◌++◌, Option, Some, None, ⊤}
-use Rattle.gixobj_actor.specs.Actor.{IsActorLine}
+use Rattle.gixobj_actor.specs.Actor.{ActorView, IsActorLineOf}
 use Rattle.gixobj_hash.specs.Hash.{Spells}
 use Rattle.gixobj_hash.specs.declared.hash.object_id.ObjectId.{ObjectId}
 use Rattle.gixobj_tag.specs.TagText.{TagLines}
@@ -8,7 +8,7 @@ use Rattle.gixobj_tag.specs.TagTokens.{TagTokenView, body_token, kind_token, nam
 
 -- the token tells the line of a tagger, or that none comes
 pub data TellsTagger : Option (List ℕ) → TagTokenView → Type 0 where
-  tells_tagger : (line name email time rest : List ℕ) → IsActorLine line name email time rest → TellsTagger (Some line) (tagger_token name email time)
+  tells_tagger : (line : List ℕ) (actor : ActorView) (rest : List ℕ) → IsActorLineOf line actor rest → TellsTagger (Some line) (tagger_token actor)
   tells_no_tagger : TellsTagger None no_tagger_token
 
 -- a name came

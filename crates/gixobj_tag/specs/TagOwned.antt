@@ -1,8 +1,7 @@
 -- Taggers taken apart, and tags with parts of their own.
 use Rattle.std.specs.Prelude.{◌≡◌, ℕ, List, Option, Some, None, ⊤}
-use Rattle.bstr.specs.BStr.{bstr_bytes}
 use Rattle.bstr.specs.Owned.{bstring_bytes}
-use Rattle.gixobj_actor.specs.Actor.{IsActor, IsNoActor, IsOwnedActor, IsTrimmedActor, NamesActor}
+use Rattle.gixobj_actor.specs.Actor.{IsActorOf, IsNoActor, IsOwnedActor, IsTrimmedActor, NamesActor, actor_view}
 use Rattle.gixobj_actor.specs.declared.actor.Signature.{Signature}
 use Rattle.gixobj_actor.specs.declared.actor.SignatureRef.{SignatureRef}
 use Rattle.gixobj_hash.specs.Hash.{Spells}
@@ -22,7 +21,7 @@ IsTrimmedTagger (Some line) None = ⊥
 -- the tagger of the line, as it stands, or none without a line
 abbrev pub IsTagger : Option (List ℕ) → Option SignatureRef → Type 0
 IsTagger None None = ⊤
-IsTagger (Some line) (Some actor) = IsActor line (bstr_bytes actor.name) (bstr_bytes actor.email) (bstr_bytes actor.time)
+IsTagger (Some line) (Some actor) = IsActorOf line (actor_view actor)
 IsTagger None (Some actor) = ⊥
 IsTagger (Some line) None = ⊥
 

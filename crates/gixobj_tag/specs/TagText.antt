@@ -23,9 +23,13 @@ pub record TagLines : Type 0 where
 
 -- ---- lines
 
+-- the line of a target, and behind it that of its kind
+abbrev pub front_text : List ℕ → Kind → List ℕ
+front_text target_line kind = target_line ++ field_text (codes "type") (kind_word kind)
+
 -- the lines of the target and of its kind
 abbrev pub target_text : TagLines → List ℕ
-target_text tag = field_text (codes "object") tag.target ++ field_text (codes "type") (kind_word tag.target_kind)
+target_text tag = front_text (field_text (codes "object") tag.target) tag.target_kind
 
 -- the line of a tagger, or nothing
 abbrev pub tagger_text : Option (List ℕ) → List ℕ

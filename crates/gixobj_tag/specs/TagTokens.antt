@@ -1,7 +1,7 @@
 -- Tags told token by token.
 use Rattle.std.specs.Prelude.{◌≡◌, ◌≢◌, ℕ, List, [], Option, Some, None, codes}
 use Rattle.bstr.specs.BStr.{bstr_bytes}
-use Rattle.gixobj_actor.specs.Actor.{IsActorLine}
+use Rattle.gixobj_actor.specs.Actor.{ActorView, IsActorLineOf, actor_view}
 use Rattle.gixobj_fields.specs.HeaderReading.{HasId}
 use Rattle.gixobj_fields.specs.HeaderText.{HasField, LacksName}
 use Rattle.gixobj_hash.specs.Hash.{Spells}
@@ -22,7 +22,7 @@ pub data TagTokenView : Type 0 where
   target_token : ObjectId → TagTokenView
   kind_token : Kind → TagTokenView
   name_token : List ℕ → TagTokenView
-  tagger_token : List ℕ → List ℕ → List ℕ → TagTokenView
+  tagger_token : ActorView → TagTokenView
   no_tagger_token : TagTokenView
   body_token : List ℕ → Option (List ℕ) → TagTokenView
 
@@ -30,7 +30,7 @@ abbrev pub tag_token_view : Token → TagTokenView
 tag_token_view (token.Target id) = target_token id
 tag_token_view (token.TargetKind kind) = kind_token kind
 tag_token_view (token.Name name) = name_token (bstr_bytes name)
-tag_token_view (token.Tagger (Some actor)) = tagger_token (bstr_bytes actor.name) (bstr_bytes actor.email) (bstr_bytes actor.time)
+tag_token_view (token.Tagger (Some actor)) = tagger_token (actor_view actor)
 tag_token_view (token.Tagger None) = no_tagger_token
 tag_token_view (token.Body message signature) = body_token (bstr_bytes message) (bytes_if_some signature)
 
@@ -39,8 +39,8 @@ pub data HasTagToken (kind : hash.Kind) : State → List ℕ → TagTokenView �
   target_comes : (input hex rest : List ℕ) (id : ObjectId) → HasId (codes "object") kind input hex rest → Spells hex id → HasTagToken kind state.Target input (target_token id) state.TargetKind rest
   kind_comes : (input rest : List ℕ) (of : Kind) → HasField (codes "type") input (kind_word of) rest → HasTagToken kind state.TargetKind input (kind_token of) state.Name rest
   name_comes : (input name rest : List ℕ) → HasName input name rest → HasTagToken kind state.Name input (name_token name) state.Tagger rest
-  tagger_comes : (input line rest name email time behind : List ℕ) → HasField (codes "tagger") input line rest → IsActorLine line name email time behind
-      → HasTagToken kind state.Tagger input (tagger_token name email time) state.Body rest
+  tagger_comes : (input line rest : List ℕ) (actor : ActorView) (behind : List ℕ) → HasField (codes "tagger") input line rest → IsActorLineOf line actor behind
+      → HasTagToken kind state.Tagger input (tagger_token actor) state.Body rest
   no_tagger_comes : (input : List ℕ) → input ≢ [] → LacksName (codes "tagger") input → HasTagToken kind state.Tagger input no_tagger_token state.Body input
   body_comes : (input message : List ℕ) (signature : Option (List ℕ)) → input ≢ [] → IsBody input message signature → HasTagToken kind state.Body input (body_token message signature) state.End []
 

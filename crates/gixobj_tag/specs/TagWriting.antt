@@ -5,6 +5,8 @@ use Rattle.gixobj_actor.specs.declared.actor.Signature.{Signature}
 use Rattle.gixobj_fields.specs.HeaderText.{field_text}
 use Rattle.gixobj_fields.specs.Writing.{Refused, bad_name, name_with_dash}
 use Rattle.gixobj_fields.specs.declared.encode.RefNameFault.{RefNameFault}
+use Rattle.gixobj_hash.specs.Kind.{kind_word}
+use Rattle.gixobj_hash.specs.declared.kind.Kind.{Kind}
 use Rattle.gixobj_tag.specs.NameRule.{BeginsWithDash, HasNoFault, IsFirstFault, IsTagName}
 use Rattle.gixobj_tag.specs.TagText.{TagLines, are_newlines, lines_text, target_text}
 use Rattle.gixobj_tag.specs.TagViews.{owned_tag_lines}
@@ -25,6 +27,11 @@ signature_text (Some signature) = newline ∷ signature
 -- the body of a tag as it is written
 abbrev pub body_text : List ℕ → Option (List ℕ) → List ℕ
 body_text message signature = message_text message ++ signature_text signature
+
+-- the text of a tag by its parts: the line of its target, the target's kind, the name, the tagger's line, the body
+abbrev pub parts_text : List ℕ → Kind → List ℕ → List ℕ → List ℕ → List ℕ
+parts_text target_line kind name tagger_line body =
+    target_line ++ field_text (codes "type") (kind_word kind) ++ field_text (codes "tag") name ++ tagger_line ++ body
 
 -- a tag as it is written
 abbrev pub tag_text : TagLines → List ℕ

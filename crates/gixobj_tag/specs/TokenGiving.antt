@@ -2,7 +2,7 @@
 use Rattle.std.specs.Prelude.{◌≡◌, ◌+◌, ℕ, List, Option, Some, None, Result, Ok, Err, length, ⊤}
 use Rattle.std.specs.Iterator.{Count, at_most}
 use Rattle.std.specs.List.{AllZip, concat}
-use Rattle.bstr.specs.BStr.{bstr_bytes}
+use Rattle.gixobj_actor.specs.Actor.{actor_view}
 use Rattle.gixobj_actor.specs.declared.actor.SignatureRef.{SignatureRef}
 use Rattle.gixobj_fields.specs.Readers as readers
 use Rattle.gixobj_fields.specs.Readers.{Gives, Standing}
@@ -71,7 +71,7 @@ abbrev pub tag_token_id : TagTokenView → Option ObjectId
 tag_token_id (target_token id) = Some id
 tag_token_id (kind_token kind) = None
 tag_token_id (name_token name) = None
-tag_token_id (tagger_token name email time) = None
+tag_token_id (tagger_token actor) = None
 tag_token_id no_tagger_token = None
 tag_token_id (body_token message signature) = None
 
@@ -94,13 +94,13 @@ GivesIdOfTag before result = (answer : Option (Result Token Error)) × (after : 
 
 -- the token tells whether a tagger comes, and which
 abbrev pub IsTaggerToken : TagTokenView → Type 0
-IsTaggerToken (tagger_token name email time) = ⊤
+IsTaggerToken (tagger_token actor) = ⊤
 IsTaggerToken no_tagger_token = ⊤
 IsTaggerToken _ = ⊥
 
 -- the token that tells this tagger, or that none comes
 abbrev pub told_tagger : Option SignatureRef → TagTokenView
-told_tagger (Some actor) = tagger_token (bstr_bytes actor.name) (bstr_bytes actor.email) (bstr_bytes actor.time)
+told_tagger (Some actor) = tagger_token (actor_view actor)
 told_tagger None = no_tagger_token
 
 -- past the tokens before it, the one comes that tells this tagger, or that there is none

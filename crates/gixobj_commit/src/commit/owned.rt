@@ -1,7 +1,7 @@
 //! Commits with parts of their own, copied from borrowed ones.
 ghost use Rattle.std.specs.Prelude.{◌≡◌, ℕ, All, IfOk, List, map};
 ghost use Rattle.bstr.specs.BStr.{bstr_bytes};
-ghost use Rattle.gixobj_actor.specs.Actor.{IsActor, IsOwnedActor};
+ghost use Rattle.gixobj_actor.specs.Actor.{IsActorOf, IsOwnedActor, actor_view};
 ghost use Rattle.std.specs.List.{AllZip};
 ghost use Rattle.gixobj_hash.specs.Hash.{IsHexOfAnId, Spells};
 ghost use Rattle.gixobj_fields.specs.HeaderReading.{header_of, owned_header_of};
@@ -31,10 +31,8 @@ pub(super) fn commit(
     committer: SignatureRef<'_>,
 ) -> Result<Commit, OutOfMemory>
     requires ids { HasIds (commit_lines commit.now) }
-    requires author { IsActor (bstr_bytes commit.now.author) (bstr_bytes author.name)
-        (bstr_bytes author.email) (bstr_bytes author.time) }
-    requires committer { IsActor (bstr_bytes commit.now.committer) (bstr_bytes committer.name)
-        (bstr_bytes committer.email) (bstr_bytes committer.time) }
+    requires author { IsActorOf (bstr_bytes commit.now.author) (actor_view author) }
+    requires committer { IsActorOf (bstr_bytes commit.now.committer) (actor_view committer) }
     ensures { IfOk result (IsOwnedFormOfCommit (commit_lines commit.now)) }
 {
     Ok(Commit {

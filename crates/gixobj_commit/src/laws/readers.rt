@@ -2,7 +2,7 @@
 ghost use Rattle.std.specs.Prelude.{◌≡◌, ◌++◌, ◌∷◌, [], ℕ, Err, List, None, Result, Ok, Some};
 ghost use Rattle.std.specs.List.{AllZip};
 ghost use Rattle.std.proofs.lemmas.Iterator.{YieldsList};
-ghost use Rattle.gixobj_actor.specs.Actor.{IsActor};
+ghost use Rattle.gixobj_actor.specs.Actor.{ActorView, IsActorOf};
 ghost use Rattle.gixobj_hash.specs.Hash.{Spells};
 ghost use Rattle.gixobj_hash.specs.declared.decode.Error.{Error};
 ghost use Rattle.gixobj_hash.specs.declared.decode.Error.TheVariants.{Malformed};
@@ -71,17 +71,16 @@ pub fn ids_are_found()
 /// them but for want of memory.
 pub fn actors_are_found()
     ensures author { (kind : Kind) (text : List ℕ) (commit : CommitLines) (reader : CommitRefIter)
-        (name email time : List ℕ) →
-        IsCommitText kind text commit → IsAtStartOfCommit kind text reader
-        → FindsAuthor reader name email time → IsActor commit.author name email time }
+        (actor : ActorView) → IsCommitText kind text commit → IsAtStartOfCommit kind text reader
+        → FindsAuthor reader actor → IsActorOf commit.author actor }
     ensures has_author { (kind : Kind) (text : List ℕ) (commit : CommitLines)
         (reader : CommitRefIter) →
         IsCommitText kind text commit → IsAtStartOfCommit kind text reader
         → ¬ FindsNone IsAuthorToken reader Malformed }
     ensures committer { (kind : Kind) (text : List ℕ) (commit : CommitLines)
-        (reader : CommitRefIter) (name email time : List ℕ) →
-        IsCommitText kind text commit → IsAtStartOfCommit kind text reader
-        → FindsCommitter reader name email time → IsActor commit.committer name email time }
+        (reader : CommitRefIter) (actor : ActorView) → IsCommitText kind text commit
+        → IsAtStartOfCommit kind text reader → FindsCommitter reader actor
+        → IsActorOf commit.committer actor }
     ensures has_committer { (kind : Kind) (text : List ℕ) (commit : CommitLines)
         (reader : CommitRefIter) →
         IsCommitText kind text commit → IsAtStartOfCommit kind text reader

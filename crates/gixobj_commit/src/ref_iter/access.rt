@@ -1,6 +1,7 @@
 //! What a reader of tokens is asked for.
 ghost use Rattle.std.specs.Prelude.{IfErr, IfOk};
 ghost use Rattle.bstr.specs.BStr.{bstr_bytes};
+ghost use Rattle.gixobj_actor.specs.Actor.{actor_view};
 ghost use Rattle.gixobj_commit.specs.TokenGiving.{GivesIdOfCommit};
 ghost use Rattle.gixobj_commit.specs.TokenPassing.{FindsAuthor, FindsCommitter, FindsFault, FindsMessage, FindsNone, IsAuthorToken, IsCommitterToken, IsMessageToken};
 
@@ -33,8 +34,7 @@ impl<'a> CommitRefIter<'a> {
     /// The error that comes before it, or `Malformed` where none comes.
     #[tactic(auto, using(crate::proofs::TokenRuns::seeks_start, crate::proofs::TokenRuns::seeks_first))]
     pub fn author(self) -> Result<SignatureRef<'a>, Error>
-        ensures found { IfOk result (λ it. FindsAuthor self.entry (bstr_bytes it.name)
-            (bstr_bytes it.email) (bstr_bytes it.time)) }
+        ensures found { IfOk result (λ it. FindsAuthor self.entry (actor_view it)) }
         ensures refusal { IfErr result (FindsNone IsAuthorToken self.entry) }
     {
         for item in self {
@@ -51,8 +51,7 @@ impl<'a> CommitRefIter<'a> {
     /// The error that comes before it, or `Malformed` where none comes.
     #[tactic(auto, using(crate::proofs::TokenRuns::seeks_start, crate::proofs::TokenRuns::seeks_first))]
     pub fn committer(self) -> Result<SignatureRef<'a>, Error>
-        ensures found { IfOk result (λ it. FindsCommitter self.entry (bstr_bytes it.name)
-            (bstr_bytes it.email) (bstr_bytes it.time)) }
+        ensures found { IfOk result (λ it. FindsCommitter self.entry (actor_view it)) }
         ensures refusal { IfErr result (FindsNone IsCommitterToken self.entry) }
     {
         for item in self {

@@ -1,6 +1,7 @@
 //! Tokens that are looked for.
 ghost use Rattle.std.specs.Prelude.{◌≡◌, MatchOption};
 ghost use Rattle.bstr.specs.BStr.{bstr_bytes};
+ghost use Rattle.gixobj_actor.specs.Actor.{actor_view};
 ghost use Rattle.gixobj_commit.specs.CommitTokens.{author_token, committer_token, message_token, parent_token, commit_token_view};
 ghost use Rattle.gixobj_commit.specs.TokenPassing.{IsActorToken, IsActorTokenOf, IsAuthorToken, IsCommitterToken, IsMessageToken, IsParentToken};
 
@@ -24,8 +25,7 @@ impl<'a> Token<'a> {
     /// The actor of an author.
     pub(super) fn as_author(&self) -> Option<SignatureRef<'a>>
         ensures { MatchOption result (¬ IsAuthorToken (commit_token_view self.now))
-            (λ it. commit_token_view self.now ≡ author_token (bstr_bytes it.name)
-            (bstr_bytes it.email) (bstr_bytes it.time)) }
+            (λ it. commit_token_view self.now ≡ author_token (actor_view it)) }
     {
         match self {
             Token::Author { signature } => Some(*signature),
@@ -36,8 +36,7 @@ impl<'a> Token<'a> {
     /// The actor of a committer.
     pub(super) fn as_committer(&self) -> Option<SignatureRef<'a>>
         ensures { MatchOption result (¬ IsCommitterToken (commit_token_view self.now))
-            (λ it. commit_token_view self.now ≡ committer_token (bstr_bytes it.name)
-            (bstr_bytes it.email) (bstr_bytes it.time)) }
+            (λ it. commit_token_view self.now ≡ committer_token (actor_view it)) }
     {
         match self {
             Token::Committer { signature } => Some(*signature),
@@ -48,8 +47,7 @@ impl<'a> Token<'a> {
     /// The actor of an author or a committer.
     pub(super) fn as_actor(&self) -> Option<SignatureRef<'a>>
         ensures { MatchOption result (¬ IsActorToken (commit_token_view self.now))
-            (λ it. IsActorTokenOf (bstr_bytes it.name) (bstr_bytes it.email) (bstr_bytes it.time)
-            (commit_token_view self.now)) }
+            (λ it. IsActorTokenOf (actor_view it) (commit_token_view self.now)) }
     {
         match self {
             Token::Author { signature } | Token::Committer { signature } => Some(*signature),

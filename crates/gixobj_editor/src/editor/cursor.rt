@@ -1,22 +1,22 @@
 //! Cursors of an editor: its calls, by paths that go on from a directory.
-ghost use Rattle.std.specs.Prelude.{◌≡◌, ◌≢◌, [], Err, IfErr, IfOk, IsOk, None, Ok, OnErr, OnOk};
+ghost use Rattle.std.specs.Prelude.{◌≡◌, ◌≢◌, [], IfErr, IfOk, IsOk, None, OnErr, OnOk};
 ghost use Rattle.std.specs.Borrow.{RestsIfErr, sem};
-ghost use Rattle.std.specs.Fn.{CalledAt};
 ghost use Rattle.std.specs.Option.{option_copied};
-ghost use Rattle.gixobj_directories.specs.Calls.{IsCallableOnTrees, names_of};
+ghost use Rattle.gixobj_directories.specs.Calls.{IsCallableOnTrees, answered, denied, names_of};
 ghost use Rattle.gixobj_directories.specs.Handing.{Stopped};
-ghost use Rattle.gixobj_directories.specs.Openings.{AreTreesOf};
-ghost use Rattle.gixobj_editor.specs.Cursors.{IsAssured, IsWrittenBelow, RefusesCursor, RefusesFromRoot, from_root, prefix_of};
+ghost use Rattle.gixobj_directories.specs.Openings.{OfTrees};
+ghost use Rattle.gixobj_editor.specs.Cursors.{IsAssured, IsWrittenBelow, RefusedBelow, RefusesCursor, from_root, prefix_of};
 ghost use Rattle.gixobj_editor.specs.Removals.{IsLeafRemoved, IsRemoved, RefusesLeafRemoval, RefusesRemoval};
-ghost use Rattle.gixobj_editor.specs.Upserts.{IsForAName, IsRefused, IsUpserted, RefusesUpsert};
+ghost use Rattle.gixobj_editor.specs.Upserts.{IsForAName, IsRefused, IsUpserted, RefusedIn, RefusesUpsert};
 ghost use Rattle.gixobj_editor.specs.contracts.editor.Editor.{the_row};
 ghost use Rattle.gixobj_files.specs.Edits.{IsNoTree, entry_at};
-ghost use Rattle.gixobj_files.specs.Files.{Path, Trees};
+ghost use Rattle.gixobj_files.specs.Files.{Path};
 ghost use Rattle.gixobj_files.specs.HandingOut.{HandsOutSome};
 ghost use Rattle.gixobj_files.specs.Bases.{opened_bases};
 ghost use Rattle.gixobj_files.specs.Opening.{IsOpened, in_path};
 ghost use Rattle.gixobj_files.specs.State.{open_bases, open_dirs};
 ghost use Rattle.gixobj_files.specs.Unopened.{inside};
+ghost use Rattle.gixobj_object.specs.Stores.{meaning};
 ghost use Rattle.gixobj_tree.specs.Mode.{mode_of_kind};
 
 use super::names::{check_names, copy_names, join_paths};
@@ -95,18 +95,15 @@ impl<S: Find> Editor<S> {
     /// way stays open.
     pub fn cursor_at(&mut self, path: &[BString]) -> Result<Cursor<'_, S>, Error>
         ensures* refused { sem 𝓛 (RestsIfErr (the_row S.row) self.entry (λ c. c.editor.ghost_name)
-            result (λ left. ((trees : Trees) → AreTreesOf (S.objects self.old.store) trees
-            → IsRefused trees self.old (inside (prefix_of (names_of path.now))) left)
+            result (λ left. OfTrees (S.objects self.old.store)
+            (λ trees. IsRefused trees self.old (inside (prefix_of (names_of path.now))) left)
             × IfErr result (λ error. IsForAName error → left ≡ self.old))) }
         ensures same_reference { IfOk result (λ c. c.editor.ghost_name ≡ self.entry.ghost_name) }
         ensures prefix { IfOk result (λ c. c.editor.now.prefix ≡ prefix_of (names_of path.now)) }
-        ensures assured { IfOk result (λ c. (trees : Trees)
-            → AreTreesOf (S.objects self.old.store) trees
-            → IsAssured trees self.old (prefix_of (names_of path.now)) c.editor.now) }
-        ensures refusal { IfErr result (λ error. (trees : Trees)
-            → AreTreesOf (S.objects self.old.store) trees
-            → RefusesCursor (S.objects self.old.store) (S.may_fail self.old.store) trees
-            (open_dirs self.old) (prefix_of (names_of path.now)) error) }
+        ensures assured { IfOk result (λ c. OfTrees (S.objects self.old.store)
+            (λ trees. IsAssured trees self.old (prefix_of (names_of path.now)) c.editor.now)) }
+        ensures refusal { IfErr result (RefusedIn (meaning S.objects S.may_fail) self.old
+            RefusesCursor (prefix_of (names_of path.now))) }
     {
         self.open_prefix(path)?;
         Ok(Cursor {
@@ -119,15 +116,12 @@ impl<S: Find> Editor<S> {
     fn open_prefix(&mut self, path: &[BString]) -> Result<(), Error>
         ensures prefix { OnOk result (self.new.prefix ≡ prefix_of (names_of path.now)) }
         ensures is_open { OnOk result (open_dirs self.new self.new.prefix ≢ None) }
-        ensures assured { OnOk result ((trees : Trees) → AreTreesOf (S.objects self.old.store) trees
-            → IsAssured trees self.old (prefix_of (names_of path.now)) self.new) }
-        ensures refused { OnErr result ((trees : Trees)
-            → AreTreesOf (S.objects self.old.store) trees
-            → IsRefused trees self.old (inside (prefix_of (names_of path.now))) self.new) }
-        ensures refusal { IfErr result (λ error. (trees : Trees)
-            → AreTreesOf (S.objects self.old.store) trees
-            → RefusesCursor (S.objects self.old.store) (S.may_fail self.old.store) trees
-            (open_dirs self.old) (prefix_of (names_of path.now)) error) }
+        ensures assured { OnOk result (OfTrees (S.objects self.old.store)
+            (λ trees. IsAssured trees self.old (prefix_of (names_of path.now)) self.new)) }
+        ensures refused { OnErr result (OfTrees (S.objects self.old.store)
+            (λ trees. IsRefused trees self.old (inside (prefix_of (names_of path.now))) self.new)) }
+        ensures refusal { IfErr result (RefusedIn (meaning S.objects S.may_fail) self.old
+            RefusesCursor (prefix_of (names_of path.now))) }
         ensures unasked { IfErr result (λ error. IsForAName error → self.new ≡ self.old) }
     {
         self.assure(without_a_single_empty_name(path))
@@ -135,17 +129,14 @@ impl<S: Find> Editor<S> {
 
     /// Makes the directory at a path, and each one above it, an open directory, and the path the prefix.
     fn assure(&mut self, path: &[BString]) -> Result<(), Error>
-        ensures assured { OnOk result ((trees : Trees) → AreTreesOf (S.objects self.old.store) trees
-            → IsAssured trees self.old (names_of path.now) self.new) }
+        ensures assured { OnOk result (OfTrees (S.objects self.old.store)
+            (λ trees. IsAssured trees self.old (names_of path.now) self.new)) }
         ensures prefix { OnOk result (self.new.prefix ≡ names_of path.now) }
         ensures is_open { OnOk result (open_dirs self.new self.new.prefix ≢ None) }
-        ensures refused { OnErr result ((trees : Trees)
-            → AreTreesOf (S.objects self.old.store) trees
-            → IsRefused trees self.old (inside (names_of path.now)) self.new) }
-        ensures refusal { IfErr result (λ error. (trees : Trees)
-            → AreTreesOf (S.objects self.old.store) trees
-            → RefusesCursor (S.objects self.old.store) (S.may_fail self.old.store) trees
-            (open_dirs self.old) (names_of path.now) error) }
+        ensures refused { OnErr result (OfTrees (S.objects self.old.store)
+            (λ trees. IsRefused trees self.old (inside (names_of path.now)) self.new)) }
+        ensures refusal { IfErr result (RefusedIn (meaning S.objects S.may_fail) self.old
+            RefusesCursor (names_of path.now)) }
         ensures unasked { IfErr result (λ error. IsForAName error → self.new ≡ self.old) }
     {
         let alloc = self.root.alloc();
@@ -188,14 +179,11 @@ impl<S> Editor<S> {
         &mut self,
         out: &mut F,
     ) -> Result<Written, WriteError<E>>
-        requires callable { IsCallableOnTrees F.pre (λ f p g. CalledAt F.FnMut f p.1 (Ok p.0) g)
-            out.old }
+        requires callable { IsCallableOnTrees F.pre (answered F.FnMut) out.old }
         requires is_open { open_dirs self.old self.old.prefix ≢ None }
-        ensures written { IfOk result (λ it. IsWrittenBelow
-            (λ f p g. CalledAt F.FnMut f p.1 (Ok p.0) g) out.old self.old self.old.prefix it
-            self.new out.new) }
-        ensures stopped { IfErr result (Stopped (λ f p g. CalledAt F.FnMut f p.1 (Ok p.0) g)
-            (λ f t e g. CalledAt F.FnMut f t (Err e) g)
+        ensures written { IfOk result (λ it. IsWrittenBelow (answered F.FnMut) out.old self.old
+            self.old.prefix it self.new out.new) }
+        ensures stopped { IfErr result (Stopped (answered F.FnMut) (denied F.FnMut)
             (HandsOutSome (in_path self.old.prefix (open_dirs self.old))
             (in_path self.old.prefix (open_bases self.old))) out.old out.new) }
         ensures unchanged { OnErr result (self.new ≡ self.old) }
@@ -230,17 +218,12 @@ impl<S: Find> Cursor<'_, S> {
         ensures same_editor { IfOk result
             (λ it. it.now.editor.ghost_name ≡ self.old.editor.ghost_name) }
         ensures prefix { IfOk result (λ it. it.now.editor.now.prefix ≡ self.old.editor.now.prefix) }
-        ensures upserted { IfOk result (λ it. (trees : Trees)
-            → AreTreesOf (S.objects self.old.editor.now.store) trees
-            → IsUpserted trees self.old.editor.now
+        ensures upserted { IfOk result (λ it. OfTrees (S.objects self.old.editor.now.store)
+            (λ trees. IsUpserted trees self.old.editor.now
             (from_root self.old.editor.now.prefix (names_of path.now)) (mode_of_kind kind) id
-            it.now.editor.now) }
-        ensures refusal { IfErr result (λ error. (trees : Trees)
-            → AreTreesOf (S.objects self.old.editor.now.store) trees
-            → RefusesFromRoot (names_of path.now)
-            (RefusesUpsert (S.objects self.old.editor.now.store)
-            (S.may_fail self.old.editor.now.store) trees (open_dirs self.old.editor.now)
-            (from_root self.old.editor.now.prefix (names_of path.now))) error) }
+            it.now.editor.now)) }
+        ensures refusal { IfErr result (RefusedBelow (meaning S.objects S.may_fail)
+            self.old.editor.now RefusesUpsert (names_of path.now)) }
     {
         self.try_upsert(path, kind, id)?;
         Ok(self)
@@ -258,21 +241,15 @@ impl<S: Find> Cursor<'_, S> {
     ) -> Result<(), Error>
         ensures same_reference { self.new.editor.ghost_name ≡ self.old.editor.ghost_name }
         ensures prefix { self.new.editor.now.prefix ≡ self.old.editor.now.prefix }
-        ensures upserted { OnOk result ((trees : Trees)
-            → AreTreesOf (S.objects self.old.editor.now.store) trees
-            → IsUpserted trees self.old.editor.now
+        ensures upserted { OnOk result (OfTrees (S.objects self.old.editor.now.store)
+            (λ trees. IsUpserted trees self.old.editor.now
             (from_root self.old.editor.now.prefix (names_of path.now)) (mode_of_kind kind) id
-            self.new.editor.now) }
-        ensures refused { OnErr result ((trees : Trees)
-            → AreTreesOf (S.objects self.old.editor.now.store) trees
-            → IsRefused trees self.old.editor.now (from_root self.old.editor.now.prefix
-            (names_of path.now)) self.new.editor.now) }
-        ensures refusal { IfErr result (λ error. (trees : Trees)
-            → AreTreesOf (S.objects self.old.editor.now.store) trees
-            → RefusesFromRoot (names_of path.now)
-            (RefusesUpsert (S.objects self.old.editor.now.store)
-            (S.may_fail self.old.editor.now.store) trees (open_dirs self.old.editor.now)
-            (from_root self.old.editor.now.prefix (names_of path.now))) error) }
+            self.new.editor.now)) }
+        ensures refused { OnErr result (OfTrees (S.objects self.old.editor.now.store)
+            (λ trees. IsRefused trees self.old.editor.now
+            (from_root self.old.editor.now.prefix (names_of path.now)) self.new.editor.now)) }
+        ensures refusal { IfErr result (RefusedBelow (meaning S.objects S.may_fail)
+            self.old.editor.now RefusesUpsert (names_of path.now)) }
         ensures unasked { IfErr result (λ error. IsForAName error
             → self.new.editor.now ≡ self.old.editor.now) }
     {
@@ -288,16 +265,11 @@ impl<S: Find> Cursor<'_, S> {
         ensures same_editor { IfOk result
             (λ it. it.now.editor.ghost_name ≡ self.old.editor.ghost_name) }
         ensures prefix { IfOk result (λ it. it.now.editor.now.prefix ≡ self.old.editor.now.prefix) }
-        ensures removed { IfOk result (λ it. (trees : Trees)
-            → AreTreesOf (S.objects self.old.editor.now.store) trees
-            → IsRemoved IsNoTree trees self.old.editor.now
-            (from_root self.old.editor.now.prefix (names_of path.now)) it.now.editor.now) }
-        ensures refusal { IfErr result (λ error. (trees : Trees)
-            → AreTreesOf (S.objects self.old.editor.now.store) trees
-            → RefusesFromRoot (names_of path.now)
-            (RefusesRemoval IsNoTree (S.objects self.old.editor.now.store)
-            (S.may_fail self.old.editor.now.store) trees (open_dirs self.old.editor.now)
-            (from_root self.old.editor.now.prefix (names_of path.now))) error) }
+        ensures removed { IfOk result (λ it. OfTrees (S.objects self.old.editor.now.store)
+            (λ trees. IsRemoved IsNoTree trees self.old.editor.now
+            (from_root self.old.editor.now.prefix (names_of path.now)) it.now.editor.now)) }
+        ensures refusal { IfErr result (RefusedBelow (meaning S.objects S.may_fail)
+            self.old.editor.now (RefusesRemoval IsNoTree) (names_of path.now)) }
     {
         self.try_remove(path)?;
         Ok(self)
@@ -310,20 +282,14 @@ impl<S: Find> Cursor<'_, S> {
     pub fn try_remove(&mut self, path: &[BString]) -> Result<(), Error>
         ensures same_reference { self.new.editor.ghost_name ≡ self.old.editor.ghost_name }
         ensures prefix { self.new.editor.now.prefix ≡ self.old.editor.now.prefix }
-        ensures removed { OnOk result ((trees : Trees)
-            → AreTreesOf (S.objects self.old.editor.now.store) trees
-            → IsRemoved IsNoTree trees self.old.editor.now
-            (from_root self.old.editor.now.prefix (names_of path.now)) self.new.editor.now) }
-        ensures refused { OnErr result ((trees : Trees)
-            → AreTreesOf (S.objects self.old.editor.now.store) trees
-            → IsRefused trees self.old.editor.now (from_root self.old.editor.now.prefix
-            (names_of path.now)) self.new.editor.now) }
-        ensures refusal { IfErr result (λ error. (trees : Trees)
-            → AreTreesOf (S.objects self.old.editor.now.store) trees
-            → RefusesFromRoot (names_of path.now)
-            (RefusesRemoval IsNoTree (S.objects self.old.editor.now.store)
-            (S.may_fail self.old.editor.now.store) trees (open_dirs self.old.editor.now)
-            (from_root self.old.editor.now.prefix (names_of path.now))) error) }
+        ensures removed { OnOk result (OfTrees (S.objects self.old.editor.now.store)
+            (λ trees. IsRemoved IsNoTree trees self.old.editor.now
+            (from_root self.old.editor.now.prefix (names_of path.now)) self.new.editor.now)) }
+        ensures refused { OnErr result (OfTrees (S.objects self.old.editor.now.store)
+            (λ trees. IsRefused trees self.old.editor.now
+            (from_root self.old.editor.now.prefix (names_of path.now)) self.new.editor.now)) }
+        ensures refusal { IfErr result (RefusedBelow (meaning S.objects S.may_fail)
+            self.old.editor.now (RefusesRemoval IsNoTree) (names_of path.now)) }
     {
         let path = self.editor.path_from_root(path)?;
         self.editor.try_remove(&path)
@@ -337,16 +303,11 @@ impl<S: Find> Cursor<'_, S> {
         ensures same_editor { IfOk result
             (λ it. it.now.editor.ghost_name ≡ self.old.editor.ghost_name) }
         ensures prefix { IfOk result (λ it. it.now.editor.now.prefix ≡ self.old.editor.now.prefix) }
-        ensures removed { IfOk result (λ it. (trees : Trees)
-            → AreTreesOf (S.objects self.old.editor.now.store) trees
-            → IsLeafRemoved trees self.old.editor.now
-            (from_root self.old.editor.now.prefix (names_of path.now)) it.now.editor.now) }
-        ensures refusal { IfErr result (λ error. (trees : Trees)
-            → AreTreesOf (S.objects self.old.editor.now.store) trees
-            → RefusesFromRoot (names_of path.now)
-            (RefusesLeafRemoval (S.objects self.old.editor.now.store)
-            (S.may_fail self.old.editor.now.store) trees (open_dirs self.old.editor.now)
-            (from_root self.old.editor.now.prefix (names_of path.now))) error) }
+        ensures removed { IfOk result (λ it. OfTrees (S.objects self.old.editor.now.store)
+            (λ trees. IsLeafRemoved trees self.old.editor.now
+            (from_root self.old.editor.now.prefix (names_of path.now)) it.now.editor.now)) }
+        ensures refusal { IfErr result (RefusedBelow (meaning S.objects S.may_fail)
+            self.old.editor.now RefusesLeafRemoval (names_of path.now)) }
     {
         self.try_remove_leaf(path)?;
         Ok(self)
@@ -360,20 +321,14 @@ impl<S: Find> Cursor<'_, S> {
     pub fn try_remove_leaf(&mut self, path: &[BString]) -> Result<(), Error>
         ensures same_reference { self.new.editor.ghost_name ≡ self.old.editor.ghost_name }
         ensures prefix { self.new.editor.now.prefix ≡ self.old.editor.now.prefix }
-        ensures removed { OnOk result ((trees : Trees)
-            → AreTreesOf (S.objects self.old.editor.now.store) trees
-            → IsLeafRemoved trees self.old.editor.now
-            (from_root self.old.editor.now.prefix (names_of path.now)) self.new.editor.now) }
-        ensures refused { OnErr result ((trees : Trees)
-            → AreTreesOf (S.objects self.old.editor.now.store) trees
-            → IsRefused trees self.old.editor.now (from_root self.old.editor.now.prefix
-            (names_of path.now)) self.new.editor.now) }
-        ensures refusal { IfErr result (λ error. (trees : Trees)
-            → AreTreesOf (S.objects self.old.editor.now.store) trees
-            → RefusesFromRoot (names_of path.now)
-            (RefusesLeafRemoval (S.objects self.old.editor.now.store)
-            (S.may_fail self.old.editor.now.store) trees (open_dirs self.old.editor.now)
-            (from_root self.old.editor.now.prefix (names_of path.now))) error) }
+        ensures removed { OnOk result (OfTrees (S.objects self.old.editor.now.store)
+            (λ trees. IsLeafRemoved trees self.old.editor.now
+            (from_root self.old.editor.now.prefix (names_of path.now)) self.new.editor.now)) }
+        ensures refused { OnErr result (OfTrees (S.objects self.old.editor.now.store)
+            (λ trees. IsRefused trees self.old.editor.now
+            (from_root self.old.editor.now.prefix (names_of path.now)) self.new.editor.now)) }
+        ensures refusal { IfErr result (RefusedBelow (meaning S.objects S.may_fail)
+            self.old.editor.now RefusesLeafRemoval (names_of path.now)) }
     {
         let path = self.editor.path_from_root(path)?;
         self.editor.try_remove_leaf(&path)
@@ -416,15 +371,14 @@ impl<S> Cursor<'_, S> {
         &mut self,
         out: F,
     ) -> Result<Written, WriteError<E>>
-        requires { IsCallableOnTrees F.pre (λ f p g. CalledAt F.FnMut f p.1 (Ok p.0) g) out }
+        requires { IsCallableOnTrees F.pre (answered F.FnMut) out }
         ensures same_reference { self.new.editor.ghost_name ≡ self.old.editor.ghost_name }
         ensures prefix { self.new.editor.now.prefix ≡ self.old.editor.now.prefix }
         ensures written { IfOk result (λ it. (last : F)
-            × IsWrittenBelow (λ f p g. CalledAt F.FnMut f p.1 (Ok p.0) g) out self.old.editor.now
-            self.old.editor.now.prefix it self.new.editor.now last) }
+            × IsWrittenBelow (answered F.FnMut) out self.old.editor.now self.old.editor.now.prefix
+            it self.new.editor.now last) }
         ensures stopped { IfErr result (λ error. (last : F)
-            × Stopped (λ f p g. CalledAt F.FnMut f p.1 (Ok p.0) g)
-            (λ f t e g. CalledAt F.FnMut f t (Err e) g)
+            × Stopped (answered F.FnMut) (denied F.FnMut)
             (HandsOutSome (in_path self.old.editor.now.prefix (open_dirs self.old.editor.now))
             (in_path self.old.editor.now.prefix (open_bases self.old.editor.now))) out last error) }
         ensures unchanged { OnErr result (self.new.editor.now ≡ self.old.editor.now) }
@@ -447,14 +401,12 @@ impl<S> Cursor<'_, S> {
         &mut self,
         out: &mut F,
     ) -> Result<Written, WriteError<E>>
-        requires { IsCallableOnTrees F.pre (λ f p g. CalledAt F.FnMut f p.1 (Ok p.0) g) out.old }
+        requires { IsCallableOnTrees F.pre (answered F.FnMut) out.old }
         ensures same_reference { self.new.editor.ghost_name ≡ self.old.editor.ghost_name }
         ensures prefix { self.new.editor.now.prefix ≡ self.old.editor.now.prefix }
-        ensures written { IfOk result (λ it. IsWrittenBelow
-            (λ f p g. CalledAt F.FnMut f p.1 (Ok p.0) g) out.old self.old.editor.now
-            self.old.editor.now.prefix it self.new.editor.now out.new) }
-        ensures stopped { IfErr result (Stopped (λ f p g. CalledAt F.FnMut f p.1 (Ok p.0) g)
-            (λ f t e g. CalledAt F.FnMut f t (Err e) g)
+        ensures written { IfOk result (λ it. IsWrittenBelow (answered F.FnMut) out.old
+            self.old.editor.now self.old.editor.now.prefix it self.new.editor.now out.new) }
+        ensures stopped { IfErr result (Stopped (answered F.FnMut) (denied F.FnMut)
             (HandsOutSome (in_path self.old.editor.now.prefix (open_dirs self.old.editor.now))
             (in_path self.old.editor.now.prefix (open_bases self.old.editor.now))) out.old
             out.new) }

@@ -2,12 +2,12 @@
 ghost use Rattle.std.specs.Prelude.{◌≡◌, ◌⊎◌, ◌∷◌, [], true, false, IfErr, IfOk, List, None, OnErr, OnOk, Some};
 ghost use Rattle.bstr.specs.Owned.{bstring_bytes, joined};
 ghost use Rattle.gixobj_files.specs.Edits.{Opens, counted, entry_at};
-ghost use Rattle.gixobj_files.specs.Files.{Path, Trees};
+ghost use Rattle.gixobj_files.specs.Files.{Path};
 ghost use Rattle.gixobj_files.specs.Opening.{IsOpened};
 ghost use Rattle.gixobj_directories.specs.Calls.{AreNames, names_of};
 ghost use Rattle.gixobj_directories.specs.Nested.{bases_of, dirs_of};
 ghost use Rattle.gixobj_files.specs.Bases.{opened_bases};
-ghost use Rattle.gixobj_directories.specs.Openings.{AreTreesOf, EndsBefore};
+ghost use Rattle.gixobj_directories.specs.Openings.{EndsBefore, OfTrees};
 ghost use Rattle.gixobj_hash.specs.declared.hash.object_id.ObjectId.{ObjectId};
 ghost use Rattle.gixobj_hash.specs.Bytes.{slash};
 ghost use Rattle.gixobj_tree.specs.Entries.{EntryView, IsEntryName};
@@ -31,18 +31,17 @@ pub(crate) fn open_for_removal<S: Find>(
     store: &S,
     lookups: &mut u64,
 ) -> Result<(), Error>
-    ensures opened { OnOk result ((trees : Trees) → AreTreesOf (S.objects store.now) trees
-        → (asked : List ObjectId) × Opens (EndsBefore unasked) trees
+    ensures opened { OnOk result (OfTrees (S.objects store.now)
+        (λ trees. (asked : List ObjectId) × Opens (EndsBefore unasked) trees
         (directory_of (names_of path.now)) (dirs_of root.old) (dirs_of root.new) asked
         × (lookups.new ≡ counted lookups.old asked)
         × ((name : List _) → Judges (EndsBefore unasked) trees (dirs_of root.old)
-        (names_of path.now) name → IsEntryName name)) }
-    ensures refused { IfErr result (λ error. (trees : Trees)
-        → AreTreesOf (S.objects store.now) trees
-        → IsOpenedInPart (EndsBefore unasked) trees (names_of path.now) (dirs_of root.old)
+        (names_of path.now) name → IsEntryName name))) }
+    ensures refused { IfErr result (λ error. OfTrees (S.objects store.now)
+        (λ trees. IsOpenedInPart (EndsBefore unasked) trees (names_of path.now) (dirs_of root.old)
         (dirs_of root.new) lookups.old lookups.new
         × RefusesRemoval (EndsBefore unasked) (S.objects store.now) (S.may_fail store.now) trees
-        (dirs_of root.old) (names_of path.now) error) }
+        (dirs_of root.old) (names_of path.now) error)) }
     ensures still_opened { IsOpened (dirs_of root.old) → IsOpened (dirs_of root.new) }
     ensures bases { (at : Path) → bases_of root.new at ≡ opened_bases (dirs_of root.old)
         (dirs_of root.new) (bases_of root.old) at }

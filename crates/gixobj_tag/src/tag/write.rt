@@ -5,9 +5,9 @@ ghost use Rattle.bstr.specs.BStr.{bstr_bytes};
 ghost use Rattle.gixobj_fields.specs.HeaderText.{field_text};
 ghost use Rattle.gixobj_fields.specs.Streams.{Puts, PutsOrFails};
 ghost use Rattle.gixobj_fields.specs.Writing.{AddsSize, IsSize, RefusesNothing, RefusesWriting};
-ghost use Rattle.gixobj_hash.specs.Kind.{kind_word};
 ghost use Rattle.gixobj_tag.specs.NameRule.{IsTagName, RefusesTagName};
-ghost use Rattle.gixobj_tag.specs.TagWriting.{RefusesNameLine, RefusesParts, body_text, message_text, signature_text};
+ghost use Rattle.gixobj_tag.specs.TagText.{front_text};
+ghost use Rattle.gixobj_tag.specs.TagWriting.{RefusesNameLine, RefusesParts, body_text, message_text, parts_text, signature_text};
 ghost use Rattle.gixobj_hash.specs.Optional.{bytes_if_some};
 
 mod owned;
@@ -85,18 +85,18 @@ fn put_tag<'a, T: Target, A: Tagger, S: Sink>(
     sink: &mut S,
 ) -> Result<(), encode::Error>
     ensures written { OnOk result (Puts (S.view sink.old) (S.view sink.new)
-        (T.target_line target.now ++ field_text (codes "type") (kind_word target_kind) ++ field_text
-        (codes "tag") (bstr_bytes name.entry) ++ A.tagger_line tagger.now ++ body_text
-        (bstr_bytes message.entry) (bytes_if_some signature.entry))) }
+        (parts_text (T.target_line target.now) target_kind (bstr_bytes name.entry)
+        (A.tagger_line tagger.now) (body_text (bstr_bytes message.entry)
+        (bytes_if_some signature.entry)))) }
     ensures nothing_refused { OnOk result (RefusesNothing
-        (RefusesParts (T.target_line target.now ++ field_text (codes "type")
-        (kind_word target_kind)) (bstr_bytes name.entry) (A.refuses tagger.now))) }
+        (RefusesParts (front_text (T.target_line target.now) target_kind) (bstr_bytes name.entry)
+        (A.refuses tagger.now))) }
     ensures refusal { IfErr result (RefusesWriting
-        (RefusesParts (T.target_line target.now ++ field_text (codes "type")
-        (kind_word target_kind)) (bstr_bytes name.entry) (A.refuses tagger.now)) (S.view sink.old)
-        (S.view sink.new) (T.target_line target.now ++ field_text (codes "type")
-        (kind_word target_kind) ++ field_text (codes "tag") (bstr_bytes name.entry) ++ A.tagger_line
-        tagger.now ++ body_text (bstr_bytes message.entry) (bytes_if_some signature.entry))) }
+        (RefusesParts (front_text (T.target_line target.now) target_kind) (bstr_bytes name.entry)
+        (A.refuses tagger.now)) (S.view sink.old) (S.view sink.new)
+        (parts_text (T.target_line target.now) target_kind (bstr_bytes name.entry)
+        (A.tagger_line tagger.now) (body_text (bstr_bytes message.entry)
+        (bytes_if_some signature.entry)))) }
     ensures same_loan { S.loan sink.new ≡ S.loan sink.old }
 {
     put_target(target, target_kind, sink)?;
@@ -115,9 +115,9 @@ fn tag_size<T: Target, A: Tagger>(
     message: BStr<'_>,
     signature: Option<BStr<'_>>,
 ) -> Option<u64>
-    ensures { IsSize result (T.target_line target.now ++ field_text (codes "type")
-        (kind_word target_kind) ++ field_text (codes "tag") (bstr_bytes name.entry) ++ A.tagger_line
-        tagger.now ++ body_text (bstr_bytes message.entry) (bytes_if_some signature.entry)) }
+    ensures { IsSize result (parts_text (T.target_line target.now) target_kind
+        (bstr_bytes name.entry) (A.tagger_line tagger.now)
+        (body_text (bstr_bytes message.entry) (bytes_if_some signature.entry))) }
 {
     let target = size_with_field(target.size_with_target(0)?, b"type", target_kind.as_bytes())?;
     let named = size_with_field(target, b"tag", name.as_bytes())?;
@@ -256,7 +256,7 @@ impl Tagger for Option<Signature> {
 #[tactic(auto, using(gixobj_fields::proofs::Puts::front_first, gixobj_fields::proofs::Puts::puts_or_fails_more))]
 fn put_target<T: Target, S: Sink>(target: &T, kind: Kind, sink: &mut S) -> io::Result<()>
     ensures put { PutsOrFails result (S.view sink.old) (S.view sink.new)
-        (T.target_line target.now ++ field_text (codes "type") (kind_word kind)) }
+        (front_text (T.target_line target.now) kind) }
     ensures same_loan { S.loan sink.new ≡ S.loan sink.old }
 {
     target.put_target_line(sink)?;

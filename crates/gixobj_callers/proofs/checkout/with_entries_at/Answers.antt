@@ -9,7 +9,7 @@ use Rattle.gixobj_editor.specs.Cursors.{prefix_of}
 use Rattle.gixobj_files.specs.Bases.{HasBases}
 use Rattle.gixobj_files.specs.Files.{Files, SameFiles}
 use Rattle.gixobj_files.specs.State.{EditorFiles, State, open_bases, open_dirs}
-use Rattle.gixobj_editor.specs.Replies.{Meaning}
+use Rattle.gixobj_object.specs.Stores.{Meaning}
 
 pub returns-in-Err-clause-refusal : goal.returns-in-Err-clause-refusal
 returns-in-Err-clause-refusal g c =

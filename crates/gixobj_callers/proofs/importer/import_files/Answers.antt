@@ -5,7 +5,7 @@ use Rattle.gixobj_base.specs.Entries.{EntryView}
 use Rattle.gixobj_base.specs.hash.hash.object_id.ObjectId.{ObjectId}
 use Rattle.gixobj_callers.proofs.Imported.{all_kept, bases_left, files_left, named_files, write_done}
 use Rattle.gixobj_callers.proofs.importer.import_files.Goals as goal
-use Rattle.gixobj_editor.specs.Replies.{Meaning}
+use Rattle.gixobj_object.specs.Stores.{Meaning}
 
 pub returns-in-Written-clause-root : goal.returns-in-Written-clause-root
 returns-in-Written-clause-root g c =

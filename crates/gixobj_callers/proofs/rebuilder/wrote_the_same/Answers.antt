@@ -7,7 +7,7 @@ use Rattle.gixobj_callers.proofs.Planned.{is_started}
 use Rattle.gixobj_callers.proofs.Rebuilt.{is_told, none_at_first, none_at_second}
 use Rattle.gixobj_callers.proofs.rebuilder.wrote_the_same.Goals as goal
 use Rattle.gixobj_files.specs.State.{root_alone}
-use Rattle.gixobj_editor.specs.Replies.{Meaning}
+use Rattle.gixobj_object.specs.Stores.{Meaning}
 
 pub returns-in-Err-clause-refusal : goal.returns-in-Err-clause-refusal
 returns-in-Err-clause-refusal g c =

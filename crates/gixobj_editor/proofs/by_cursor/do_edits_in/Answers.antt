@@ -8,8 +8,9 @@ use Rattle.gixobj_files.specs.Files.{Trees}
 use Rattle.gixobj_files.specs.State.{State}
 use Rattle.gixobj_files.specs.Unopened.{inside}
 use Rattle.gixobj_hash.specs.declared.hash.object_id.ObjectId.{ObjectId}
+use Rattle.gixobj_object.specs.Stores.{Meaning}
 use Rattle.gixobj_tree.specs.Entries.{EntryView}
-use Rattle.gixobj_editor.specs.Replies.{IsReplyAt, Meaning}
+use Rattle.gixobj_editor.specs.Replies.{IsReplyAt}
 use Rattle.gixobj_editor.specs.declared.reply.Reply.TheVariants as reply
 use Rattle.gixobj_editor.proofs.Replied.{done_at}
 use Rattle.gixobj_editor.proofs.by_cursor.do_edits_in.Goals as goal

@@ -4,9 +4,9 @@ use Rattle.gixobj_files.specs.HandingOut.{HandsOutSome}
 use Rattle.gixobj_files.specs.Opening.{in_path}
 use Rattle.gixobj_files.specs.State.{State, open_bases, open_dirs}
 use Rattle.gixobj_hash.specs.declared.hash.object_id.ObjectId.{ObjectId}
+use Rattle.gixobj_object.specs.Stores.{Meaning}
 use Rattle.gixobj_tree.specs.Entries.{EntryView}
 use Rattle.gixobj_editor.specs.Commands.{at_cursor}
-use Rattle.gixobj_editor.specs.Replies.{Meaning}
 use Rattle.gixobj_editor.proofs.Calling.{callable, stopped, written_below}
 use Rattle.gixobj_editor.proofs.Kept.{kept_all, not_kept}
 use Rattle.gixobj_editor.proofs.by_cursor.do_write_by.Goals as goal

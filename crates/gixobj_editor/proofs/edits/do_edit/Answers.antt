@@ -1,9 +1,9 @@
 use Rattle.std.proofs.Common.{List, Result}
 use Rattle.std.specs.Fn.{FnReturnsAt}
 use Rattle.gixobj_hash.specs.declared.hash.object_id.ObjectId.{ObjectId}
+use Rattle.gixobj_object.specs.Stores.{Meaning}
 use Rattle.gixobj_tree.specs.Entries.{EntryView}
 use Rattle.gixobj_editor.specs.Commands.{at_root}
-use Rattle.gixobj_editor.specs.Replies.{Meaning}
 use Rattle.gixobj_editor.proofs.Replied.{leaf_removal_replied, removal_replied, upsert_replied}
 use Rattle.gixobj_editor.proofs.edits.do_edit.Goals as goal
 

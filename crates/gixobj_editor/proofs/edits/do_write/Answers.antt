@@ -3,9 +3,9 @@ use Rattle.std.specs.Fn.{FnReturnsAt}
 use Rattle.gixobj_files.specs.HandingOut.{HandsOutSome}
 use Rattle.gixobj_files.specs.State.{State, open_bases, open_dirs}
 use Rattle.gixobj_hash.specs.declared.hash.object_id.ObjectId.{ObjectId}
+use Rattle.gixobj_object.specs.Stores.{Meaning}
 use Rattle.gixobj_tree.specs.Entries.{EntryView}
 use Rattle.gixobj_editor.specs.Commands.{at_root}
-use Rattle.gixobj_editor.specs.Replies.{Meaning}
 use Rattle.gixobj_editor.proofs.Calling.{callable, stopped, written}
 use Rattle.gixobj_editor.proofs.Kept.{kept_all, not_kept}
 use Rattle.gixobj_editor.proofs.edits.do_write.Goals as goal

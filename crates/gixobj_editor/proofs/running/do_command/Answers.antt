@@ -4,8 +4,9 @@ use Rattle.bstr.specs.declared.bstring.BString.{BString}
 use Rattle.gixobj_directories.specs.Calls.{names_of}
 use Rattle.gixobj_editor.specs.Cursors.{prefix_of}
 use Rattle.gixobj_hash.specs.declared.hash.object_id.ObjectId.{ObjectId}
+use Rattle.gixobj_object.specs.Stores.{Meaning}
 use Rattle.gixobj_tree.specs.Entries.{EntryView}
-use Rattle.gixobj_editor.specs.Replies.{IsReplyAt, Meaning}
+use Rattle.gixobj_editor.specs.Replies.{IsReplyAt}
 use Rattle.gixobj_editor.proofs.Replied.{root_set}
 use Rattle.gixobj_editor.proofs.running.do_command.Goals as goal
 

@@ -1,8 +1,8 @@
 use Rattle.std.proofs.Common.{length, List, arith, ap, refl, Result}
 use Rattle.std.specs.Fn.{FnReturnsAt}
 use Rattle.gixobj_hash.specs.declared.hash.object_id.ObjectId.{ObjectId}
+use Rattle.gixobj_object.specs.Stores.{Meaning}
 use Rattle.gixobj_tree.specs.Entries.{EntryView}
-use Rattle.gixobj_editor.specs.Replies.{Meaning}
 use Rattle.gixobj_editor.proofs.Named.{names_history}
 use Rattle.gixobj_editor.proofs.OneId.{ids_tell_files}
 use Rattle.gixobj_editor.proofs.OneMore.{no_more, one_more}

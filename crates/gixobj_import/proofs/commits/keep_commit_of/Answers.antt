@@ -4,11 +4,11 @@ use Rattle.gixobj_hash.specs.declared.kind.Kind.TheVariants.{Commit}
 use Rattle.gixobj_hash.specs.declared.hash.object_id.ObjectId.{ObjectId}
 use Rattle.gixobj_find.specs.Keeping.{RefusesKeepCommit, with_commit}
 use Rattle.gixobj_import.specs.Commits.{step_text}
-use Rattle.gixobj_import.specs.Edited.{meaning}
 use Rattle.gixobj_import.proofs.Digests.{hex_of_id, kind_of_digest}
 use Rattle.gixobj_import.proofs.Legal.{step_text_reads}
 use Rattle.gixobj_import.proofs.Stepping.{text_refused}
 use Rattle.gixobj_import.proofs.commits.keep_commit_of.Goals as goal
+use Rattle.gixobj_object.specs.Stores.{meaning}
 
 pub returns-in-Ok-keep_commit-clause-kept : goal.returns-in-Ok-keep_commit-clause-kept
 returns-in-Ok-keep_commit-clause-kept g c =

@@ -1,6 +1,6 @@
-use Rattle.gixobj_import.specs.Edited.{meaning}
 use Rattle.gixobj_import.proofs.Doing.{all_done, no_write_at, one_more_done, refused_at}
 use Rattle.gixobj_import.proofs.edits.do_edits.Goals as goal
+use Rattle.gixobj_object.specs.Stores.{meaning}
 
 pub do_edit-requires : goal.do_edit-requires
 do_edit-requires g c = no_write_at c.args.edits.now c.loop-index.index c.index-edits-index.result c.loop-index-test.true c.index-edits-index.is c.requires.no_write

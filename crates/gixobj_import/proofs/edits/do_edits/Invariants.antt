@@ -1,6 +1,7 @@
 use Rattle.std.proofs.Common.{take}
-use Rattle.gixobj_import.specs.Edited.{AreDone, meaning}
+use Rattle.gixobj_import.specs.Edited.{AreDone}
 use Rattle.gixobj_import.proofs.edits.do_edits.Given as goal
+use Rattle.gixobj_object.specs.Stores.{meaning}
 
 -- so many edits came through
 abbrev pub invariant-loop-index : goal.invariant-loop-index

@@ -1,6 +1,5 @@
 use Rattle.std.proofs.Common.{◌+◌, ◌∷◌, ◌∙◌, [], arith, ap, inr, length, refl, subst, sym, take, List}
 use Rattle.std.proofs.lemmas.List.{length-append}
-use Rattle.gixobj_import.specs.Edited.{meaning}
 use Rattle.gixobj_import.specs.Steps.{AreImported, Stops}
 use Rattle.gixobj_import.specs.declared.import.Imported.{Imported}
 use Rattle.gixobj_import.proofs.Committing.{commits_of_new}
@@ -11,6 +10,7 @@ use Rattle.gixobj_import.proofs.Known.{OfStores}
 use Rattle.gixobj_import.proofs.Stepping.{all_imported, one_more_imported, stopped_at}
 use Rattle.gixobj_import.proofs.Stopping.{commits_of_stopped, files_of_stopped, stopped_adds}
 use Rattle.gixobj_import.proofs.import.import_all.Goals as goal
+use Rattle.gixobj_object.specs.Stores.{meaning}
 
 pub loop-step-preserved : goal.loop-step-preserved
 loop-step-preserved g c =

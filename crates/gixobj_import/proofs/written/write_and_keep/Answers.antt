@@ -1,8 +1,8 @@
 use Rattle.std.proofs.Common.{refl}
-use Rattle.gixobj_import.specs.Edited.{meaning}
 use Rattle.gixobj_import.proofs.Digests.{hex_of_id, root_kind}
 use Rattle.gixobj_import.proofs.Kept.{kept_all, not_kept}
 use Rattle.gixobj_import.proofs.written.write_and_keep.Goals as goal
+use Rattle.gixobj_object.specs.Stores.{meaning}
 
 pub returns-in-Ok-keep_all-clause-written : goal.returns-in-Ok-keep_all-clause-written
 returns-in-Ok-keep_all-clause-written g c =

@@ -1,6 +1,6 @@
-use Rattle.gixobj_import.specs.Edited.{meaning}
 use Rattle.gixobj_import.proofs.Stepping.{write_behind, write_refused_behind}
 use Rattle.gixobj_import.proofs.written.write_edits.Goals as goal
+use Rattle.gixobj_object.specs.Stores.{meaning}
 
 pub returns-clause-written : goal.returns-clause-written
 returns-clause-written g c =

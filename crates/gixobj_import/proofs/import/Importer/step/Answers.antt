@@ -3,7 +3,7 @@ use Rattle.std.specs.Prelude.{Contains}
 use Rattle.gixobj_editor.specs.declared.command.Edit.{Edit}
 use Rattle.gixobj_editor.specs.declared.command.Edit.TheVariants as edit
 use Rattle.gixobj_editor.specs.declared.reply.EditReply.TheVariants as reply
-use Rattle.gixobj_import.specs.Edited.{IsWriteBehind, meaning}
+use Rattle.gixobj_import.specs.Edited.{IsWriteBehind}
 use Rattle.gixobj_import.specs.Steps.{IsImported, RefusesEdits}
 use Rattle.gixobj_import.specs.declared.import.Imported.{Imported}
 use Rattle.gixobj_import.specs.declared.import.Importer.{Importer}
@@ -13,6 +13,7 @@ use Rattle.gixobj_import.proofs.Filing.{step_bases, step_files}
 use Rattle.gixobj_import.proofs.Known.{OfStores}
 use Rattle.gixobj_import.proofs.Stepping.{free_of, has_a_write, refuses_step}
 use Rattle.gixobj_import.proofs.import.Importer.step.Goals as goal
+use Rattle.gixobj_object.specs.Stores.{meaning}
 
 pub write_edits-requires : goal.write_edits-requires
 write_edits-requires g c = record {
