@@ -11,7 +11,7 @@ use Rattle.gixobj_hash.specs.declared.hash.object_id.ObjectId.{ObjectId}
 use Rattle.gixobj_fields.specs.declared.encode.Error.{Error}
 use Rattle.gixobj_find.specs.declared.memory.Memory.{Memory}
 use Rattle.gixobj_tree.specs.Entries.{EntryView}
-use Rattle.gixobj_script.specs.Digests.{IsAnsweredDigest}
+use Rattle.gixobj_tree.specs.TreeText.{IsAnsweredDigest}
 use Rattle.gixobj_script.specs.Edits.{IsEdit, IsNewEditor, IsTold, memory_means}
 use Rattle.gixobj_script.specs.declared.editing.EditError.{EditError}
 use Rattle.gixobj_script.proofs.Wider.{run_wider}

@@ -3,7 +3,7 @@ use Rattle.std.specs.Prelude.{◌≡◌, ◌⊎◌, ℕ, false, List, [], map}
 use Rattle.std.specs.FinMap as finite
 use Rattle.gixobj_editor.specs.Views.{CommandView, command_view}
 use Rattle.gixobj_editor.specs.declared.command.Command.{Command}
-use Rattle.gixobj_script.specs.Digests.{IsAnsweredDigest}
+use Rattle.gixobj_tree.specs.TreeText.{IsAnsweredDigest}
 use Rattle.gixobj_script.specs.Telling.{answers_to_all}
 use Rattle.gixobj_script.specs.declared.editing.EditError.{EditError}
 use Rattle.gixobj_script.specs.declared.editing.EditError.TheVariants as editing

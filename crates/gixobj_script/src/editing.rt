@@ -1,12 +1,11 @@
 //! Scripts, run on an editor and told.
 ghost use Rattle.std.specs.Prelude.{◌≡◌, ◌⊎◌, ℕ, IfErr, IfOk, OnErr};
 ghost use Rattle.std.specs.Fn.{FnReturnsAt};
-ghost use Rattle.gixobj_script.specs.Digests.{IsAnsweredDigest};
+ghost use Rattle.gixobj_tree.specs.TreeText.{IsAnsweredDigest};
 ghost use Rattle.gixobj_script.specs.Edits.{IsEdit, IsTold, RefusesEdit, WasRun};
 ghost use Rattle.gixobj_script.specs.declared.editing.EditError.TheVariants as editing;
 ghost use Rattle.gixobj_editor.specs.Replies.{IsCallable};
 
-use crate::digest::digest_of;
 use crate::telling::answers_of;
 use crate::{ScriptError, answer_lines, read_script};
 use gixobj_editor::editor::Editor;
@@ -66,7 +65,7 @@ pub fn edit(alloc: Global, script: &[u8], hash: Kind) -> Result<Vec<u8>, EditErr
         hash,
         |tree: &Tree|
             ensures { IsAnsweredDigest hash tree.now result }
-        { digest_of(alloc, tree, hash) },
+        { tree.compute_id(alloc, hash) },
     )
 }
 

@@ -3,7 +3,6 @@
 #![tactic(auto)]
 
 pub mod answers;
-mod digest;
 pub mod editing;
 pub mod engine;
 pub mod fault;
