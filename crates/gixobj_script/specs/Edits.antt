@@ -5,8 +5,6 @@ use Rattle.gixobj_editor.specs.Views.{CommandView, command_view}
 use Rattle.gixobj_editor.specs.declared.command.Command.{Command}
 use Rattle.gixobj_tree.specs.TreeText.{IsAnsweredDigest}
 use Rattle.gixobj_script.specs.Telling.{answers_to_all}
-use Rattle.gixobj_script.specs.declared.editing.EditError.{EditError}
-use Rattle.gixobj_script.specs.declared.editing.EditError.TheVariants as editing
 use Rattle.gixobj_files.specs.State.{State, root_alone}
 use Rattle.gixobj_hash.specs.declared.hash.kind.Kind as hash
 use Rattle.gixobj_editor.specs.Replies.{Answers, IsRun, Meaning}
@@ -53,13 +51,8 @@ pub record IsEdit (hash : hash.Kind) (script text : List ℕ) : Type 0 where
   pub begun : IsNewEditor hash old
   pub told : IsTold memory_means (IsAnsweredDigest hash) hash script old text new
 
--- the refusal to read a script is that to run it
-abbrev pub edit_error : ScriptError → EditError
-edit_error (script.BadLine number) = editing.BadLine number
-edit_error script.OutOfMemory = editing.OutOfMemory
-
 -- why nothing is told of a script: its first bad line has this number; or memory was wanting, for a command before any bad line, or where
 -- no line is bad
-abbrev pub RefusesEdit : hash.Kind → List ℕ → EditError → Type 0
-RefusesEdit hash text (editing.BadLine number) = IsFirstBad hash text number
-RefusesEdit hash text editing.OutOfMemory = RefusesScript hash text script.OutOfMemory ⊎ ((commands : List CommandView) × IsScript hash text commands)
+abbrev pub RefusesEdit : hash.Kind → List ℕ → ScriptError → Type 0
+RefusesEdit hash text (script.BadLine number) = IsFirstBad hash text number
+RefusesEdit hash text script.OutOfMemory = RefusesScript hash text script.OutOfMemory ⊎ ((commands : List CommandView) × IsScript hash text commands)

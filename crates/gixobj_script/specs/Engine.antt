@@ -2,9 +2,9 @@
 use Rattle.std.specs.Prelude.{ℕ, List, Option}
 use Rattle.gixobj_script.specs.Edits.{IsEdit, RefusesEdit}
 use Rattle.gixobj_script.specs.Words.{AsksForEdit, AsksToEdit}
-use Rattle.gixobj_script.specs.declared.editing.EditError.TheVariants as editing
 use Rattle.gixobj_script.specs.declared.fault.Fault.{Fault}
 use Rattle.gixobj_script.specs.declared.fault.Fault.TheVariants as fault
+use Rattle.gixobj_script.specs.declared.script.ScriptError.TheVariants as script
 use Rattle.gixobj_fields.specs.Streams.{Puts, PutsFront, SinkView}
 use Rattle.gixobj_hash.specs.declared.hash.kind.Kind as hash
 use Rattle.gixobj_show.specs.Engine.{ReadsAll, Unwritten}
@@ -23,7 +23,7 @@ Edited words rest rest' out out' = (text : List ℕ) × IsToldOfInput words rest
 -- memory was wanting
 abbrev pub RefusesEditing : List (List ℕ) → Option (List ℕ) → Option (List ℕ) → Type 0 → SinkView → SinkView → Fault → Type 0
 RefusesEditing words rest rest' may_fail out out' (fault.BadLine number) =
-    (hash : hash.Kind) × (script : List ℕ) × AsksForEdit words hash × ReadsAll rest rest' script × RefusesEdit hash script (editing.BadLine number)
+    (hash : hash.Kind) × (text : List ℕ) × AsksForEdit words hash × ReadsAll rest rest' text × RefusesEdit hash text (script.BadLine number)
 RefusesEditing words rest rest' may_fail out out' (fault.Refused refusal.InputFailed) = AsksToEdit words × may_fail
 RefusesEditing words rest rest' may_fail out out' (fault.Refused refusal.OutputFailed) =
     (text : List ℕ) × IsToldOfInput words rest rest' text × PutsFront out out' text

@@ -15,6 +15,6 @@ pub mod telling;
 pub mod words;
 
 pub use answers::{Answer, Refusal, answer_lines};
-pub use editing::{EditError, edit, edit_on};
+pub use editing::{edit, edit_on};
 pub use script::{ScriptError, read_script};
 pub use telling::answers_of;
