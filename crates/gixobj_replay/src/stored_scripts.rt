@@ -9,7 +9,7 @@ use gixobj_editor::editor::{Editor, Error};
 use gixobj_editor::{EditReply, Reply, run};
 use gixobj_find::Memory;
 use gixobj_find::find::existing_object;
-use gixobj_script::{answer_lines, answers_of, read_script};
+use gixobj_script::{read_script, told_lines};
 use std::alloc::{AllocError, Global};
 
 /// What is told of a script, run on the empty root over a store of these objects, and the cause of each directory that
@@ -55,8 +55,7 @@ fn told_of(
     let out = |tree: &Tree| tree.compute_id(alloc, hash_kind);
     let replies = run(alloc, &mut editor, commands, out)?;
     let causes = causes_of(alloc, &replies)?;
-    let answers = answers_of(alloc, replies)?;
-    let mut told = answer_lines(alloc, &answers, editor.lookups())?;
+    let mut told = told_lines(alloc, &replies, editor.lookups())?;
     told.extend_from_slice(causes.as_bytes())?;
     Ok(told)
 }

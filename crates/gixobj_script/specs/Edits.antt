@@ -4,12 +4,11 @@ use Rattle.std.specs.FinMap as finite
 use Rattle.gixobj_editor.specs.Views.{CommandView, command_view}
 use Rattle.gixobj_editor.specs.declared.command.Command.{Command}
 use Rattle.gixobj_tree.specs.TreeText.{IsAnsweredDigest}
-use Rattle.gixobj_script.specs.Telling.{answers_to_all}
+use Rattle.gixobj_script.specs.Telling.{told_lines_of}
 use Rattle.gixobj_files.specs.State.{State, root_alone}
 use Rattle.gixobj_hash.specs.declared.hash.kind.Kind as hash
 use Rattle.gixobj_editor.specs.Replies.{Answers, IsRun, Meaning}
 use Rattle.gixobj_editor.specs.declared.reply.Reply.{Reply}
-use Rattle.gixobj_script.specs.Answers.{answer_lines_of}
 use Rattle.gixobj_script.specs.Scripts.{IsFirstBad, IsScript, RefusesScript}
 use Rattle.gixobj_script.specs.declared.script.ScriptError.{ScriptError}
 use Rattle.gixobj_script.specs.declared.script.ScriptError.TheVariants as script
@@ -23,7 +22,7 @@ pub record IsTold {S E : Type 0} (means : Meaning S) (answers : Answers E) (hash
   pub replies : List (Reply E)
   pub reads : IsScript hash script (map command_view commands)
   pub ran : IsRun means answers old commands replies new
-  pub tells : text ≡ answer_lines_of (answers_to_all replies) new.lookups
+  pub tells : text ≡ told_lines_of replies new.lookups
 
 -- the script is that of commands, and these were run on the old state and left the new one
 pub record WasRun {S E : Type 0} (means : Meaning S) (answers : Answers E) (hash : hash.Kind) (script : List ℕ) (old new : State S) : Type 0 where

@@ -1,4 +1,3 @@
-pub mod Answers
 pub mod Cuts
 pub mod Digests
 pub mod Edits

@@ -6,8 +6,7 @@ ghost use Rattle.gixobj_script.specs.Edits.{IsEdit, IsTold, RefusesEdit, WasRun}
 ghost use Rattle.gixobj_script.specs.declared.script.ScriptError.TheVariants.{BadLine};
 ghost use Rattle.gixobj_editor.specs.Replies.{IsCallable};
 
-use crate::telling::answers_of;
-use crate::{ScriptError, answer_lines, read_script};
+use crate::{ScriptError, read_script, told_lines};
 use gixobj_editor::editor::Editor;
 use gixobj_editor::run;
 use gixobj_find::{Keep, Memory};
@@ -61,7 +60,6 @@ pub fn edit_on<S: Keep, E: Drop, F: Fn(&Tree) -> Result<ObjectId, E> + Drop>(
 {
     let commands = read_script(alloc, script, hash)?;
     let replies = run(alloc, editor, commands, out)?;
-    let answers = answers_of(alloc, replies)?;
-    let text = answer_lines(alloc, &answers, editor.lookups())?;
+    let text = told_lines(alloc, &replies, editor.lookups())?;
     Ok(text)
 }

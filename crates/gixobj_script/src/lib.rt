@@ -2,7 +2,6 @@
 //! does with its words, its input and its outputs.
 #![tactic(auto)]
 
-pub mod answers;
 pub mod editing;
 pub mod engine;
 pub mod fault;
@@ -14,7 +13,6 @@ pub mod store;
 pub mod telling;
 pub mod words;
 
-pub use answers::{Answer, Refusal, answer_lines};
 pub use editing::{edit, edit_on};
 pub use script::{ScriptError, read_script};
-pub use telling::answers_of;
+pub use telling::told_lines;
