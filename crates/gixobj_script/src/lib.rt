@@ -9,7 +9,6 @@ pub mod laws;
 mod line;
 mod path;
 pub mod script;
-pub mod store;
 pub mod telling;
 pub mod words;
 
