@@ -2,7 +2,6 @@
 //! of a plain list that went through the same.
 
 use crate::listing::Listed;
-use crate::samples::id_of;
 use crate::scripts::{self, Numbers, begins, copy_of, drawn_path, forget, names, put, writes};
 use bstr::BString;
 use gix_object::Tree;
@@ -100,7 +99,7 @@ fn visit(
     if numbers.draw() & 1 == 0 {
         return Ok(None);
     }
-    match cursor.write(|tree: &Tree| id_of(alloc, tree)) {
+    match cursor.write(|tree: &Tree| tree.compute_id(alloc, HashKind::Sha1)) {
         Ok(written) => Ok(Some(written)),
         Err(_) => Err("a refused write")?,
     }

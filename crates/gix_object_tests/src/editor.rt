@@ -11,7 +11,7 @@ ghost use Rattle.gixobj_files.specs.Files.{NamedFiles, SameFiles, Table};
 ghost use Rattle.gixobj_files.specs.Tables.{AgreesWithPairs, AgreesWithStore};
 ghost use Rattle.gixobj_files.specs.History.{History, remove, upsert};
 
-use crate::samples::{id, id_of, path_of};
+use crate::samples::{id, path_of};
 use bstr::BString;
 use gix_object::find::Never;
 use gix_object::hash::{Kind as HashKind, ObjectId};
@@ -42,7 +42,7 @@ fn editor_with(
 
 /// Whether a write hands out the tree of the file `a`, and nothing else.
 fn writes_a(alloc: Global, editor: &mut Editor<Never>) -> bool {
-    match editor.write(|tree: &Tree| id_of(alloc, tree)) {
+    match editor.write(|tree: &Tree| tree.compute_id(alloc, HashKind::Sha1)) {
         Ok(written) => written.trees.len() == 1 && written.id == id(A),
         Err(_) => false,
     }
@@ -129,7 +129,7 @@ fn edited_and_written<S: Find, E: Drop, F: FnMut(&Tree) -> Result<ObjectId, E> +
 fn leaves_a(alloc: Global) -> Result<bool, Fail> {
     let mut editor = editor_with(alloc, "b", EntryKind::Tree, BAK)?;
     let (a, b) = (path_of(alloc, &["a"])?, path_of(alloc, &["b"])?);
-    let out = |tree: &Tree| id_of(alloc, tree);
+    let out = |tree: &Tree| tree.compute_id(alloc, HashKind::Sha1);
     match edited_and_written(&mut editor, &a, id(TEST), &b, out)? {
         Some(written) => Ok(written.id == id(A)),
         None => Ok(false),

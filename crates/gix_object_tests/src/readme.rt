@@ -5,7 +5,7 @@ use gix_object::find::Never;
 use gix_object::hash::{Kind as HashKind, ObjectId};
 use gix_object::tree::EntryKind;
 use gix_object::tree::editor::Editor;
-use gix_object::{CommitRef, Kind, Tree, WriteTo, compute_hash, decode, encode};
+use gix_object::{CommitRef, Tree, decode};
 use std::alloc::Global;
 use std::test::Fail;
 
@@ -13,13 +13,6 @@ use std::test::Fail;
 fn tree_of(alloc: Global, text: &[u8]) -> Result<ObjectId, decode::Error> {
     let commit = CommitRef::from_bytes(alloc, text, HashKind::Sha1)?;
     Ok(commit.tree())
-}
-
-/// The id of a tree: that of its bytes.
-fn id_of(alloc: Global, tree: &Tree) -> Result<ObjectId, encode::Error> {
-    let mut bytes = Vec::new(alloc);
-    tree.write_to_vec(alloc, &mut bytes)?;
-    Ok(compute_hash(HashKind::Sha1, Kind::Tree, &bytes))
 }
 
 const BLOB: &[u8] = b"ce013625030ba8dba906f756967f9e9ca394464a";
@@ -38,7 +31,7 @@ fn commit_read_and_tree_edited(rt: HostRuntime) -> Result<(), Fail> {
     let blob = ObjectId::from_hex(BLOB).ok_or("an id")?;
     let mut editor = Editor::new(Tree::empty(alloc), Never, HashKind::Sha1);
     editor.upsert(&path, EntryKind::Blob, blob)?;
-    let Ok(written) = editor.write(|tree: &Tree| id_of(alloc, tree)) else {
+    let Ok(written) = editor.write(|tree: &Tree| tree.compute_id(alloc, HashKind::Sha1)) else {
         return Err("a refused write")?;
     };
     assert_eq!(rt; written.id, ObjectId::from_hex(TREE).ok_or("an id")?);

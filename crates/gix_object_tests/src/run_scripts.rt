@@ -2,7 +2,6 @@
 
 use crate::cursor_scripts::{assure, below, joined};
 use crate::listing::{Listed, files_of};
-use crate::samples::id_of;
 use crate::scripts::{Numbers, are_same, begins, drawn_path, forget, put};
 use bstr::BString;
 use gix_object::hash::{Kind as HashKind, ObjectId};
@@ -295,7 +294,7 @@ fn store_tree(
     table: &mut Vec<(ObjectId, Tree)>,
     tree: Tree,
 ) -> Result<ObjectId, Fail> {
-    let id = id_of(alloc, &tree)?;
+    let id = tree.compute_id(alloc, HashKind::Sha1)?;
     store.keep(id, &tree)?;
     table.push((id, tree))?;
     Ok(id)
@@ -316,7 +315,7 @@ fn agrees(alloc: Global, seed: u64) -> Result<bool, Fail> {
     let same_commands = drawn_commands(alloc, &mut Numbers { state: seed }, stored, 1000)?;
     let mut editor = Editor::new(Tree::empty(alloc), store, HashKind::Sha1);
     let replies = run(alloc, &mut editor, commands, |tree: &Tree| {
-        id_of(alloc, tree)
+        tree.compute_id(alloc, HashKind::Sha1)
     })?;
     let mut listing = Listing {
         files: Vec::new(alloc),

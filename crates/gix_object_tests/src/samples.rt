@@ -2,7 +2,7 @@
 
 use bstr::BString;
 use gix_object::hash::{Kind as HashKind, ObjectId};
-use gix_object::{Kind, Tree, WriteTo, compute_hash, encode};
+use gix_object::{Tree, WriteTo, encode};
 use std::alloc::{AllocError, Global};
 
 /// The path of these names.
@@ -24,10 +24,4 @@ pub(crate) fn text_of(alloc: Global, tree: &Tree) -> Result<Vec<u8>, encode::Err
     let mut text = Vec::new(alloc);
     tree.write_to(alloc, &mut text)?;
     Ok(text)
-}
-
-/// The id of a tree's written bytes.
-pub(crate) fn id_of(alloc: Global, tree: &Tree) -> Result<ObjectId, encode::Error> {
-    let text = text_of(alloc, tree)?;
-    Ok(compute_hash(HashKind::Sha1, Kind::Tree, &text))
 }

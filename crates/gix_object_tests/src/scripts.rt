@@ -2,7 +2,7 @@
 //! edits.
 
 use crate::listing::{Listed, files_of};
-use crate::samples::{id_of, text_of};
+use crate::samples::text_of;
 use bstr::BString;
 use gix_object::hash::{Kind as HashKind, ObjectId};
 use gix_object::tree::EntryKind;
@@ -130,7 +130,7 @@ pub(crate) fn edit(
 }
 
 fn written(alloc: Global, editor: &mut Editor<Memory>) -> Result<Written, Fail> {
-    match editor.write(|tree: &Tree| id_of(alloc, tree)) {
+    match editor.write(|tree: &Tree| tree.compute_id(alloc, HashKind::Sha1)) {
         Ok(written) => Ok(written),
         Err(_) => Err("a refused write")?,
     }

@@ -5,10 +5,10 @@ mod paths;
 use crate::clock::{Each, nanos_since};
 use crate::fault::Fault;
 use bstr::BString;
+use gixobj_base::Tree;
 use gixobj_base::hash::Kind::Sha1;
 use gixobj_base::hash::ObjectId;
 use gixobj_base::tree::EntryKind;
-use gixobj_base::{Kind, Tree, WriteTo, compute_hash, encode};
 use gixobj_editor::editor::Editor;
 use gixobj_find::find::Never;
 use paths::{Shape, paths_of};
@@ -44,13 +44,6 @@ struct Round {
     trees: usize,
     /// The id of the root.
     root: ObjectId,
-}
-
-/// The id of a tree: that of its bytes.
-fn id_of(alloc: Global, tree: &Tree) -> Result<ObjectId, encode::Error> {
-    let mut bytes = Vec::new(alloc);
-    tree.write_to_vec(alloc, &mut bytes)?;
-    Ok(compute_hash(Sha1, Kind::Tree, &bytes))
 }
 
 /// Measures all cases.
@@ -119,7 +112,7 @@ fn measure_round<R: Clock + AllocGlobal>(
     }
     let upserts = nanos_since(rt, start)?;
     let start = Instant::now(rt)?;
-    let Ok(written) = editor.write(|tree: &Tree| id_of(alloc, tree)) else {
+    let Ok(written) = editor.write(|tree: &Tree| tree.compute_id(alloc, Sha1)) else {
         return Err(Fault::Refused);
     };
     let write = nanos_since(rt, start)?;

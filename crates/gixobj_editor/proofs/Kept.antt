@@ -6,7 +6,8 @@ use Rattle.gixobj_directories.specs.declared.write.Written.{Written}
 use Rattle.gixobj_files.specs.State.{State, with_store}
 use Rattle.gixobj_tree.specs.Entries.{Pair}
 use Rattle.gixobj_hash.specs.declared.hash.object_id.ObjectId.{ObjectId}
-use Rattle.gixobj_find.specs.Keeping.{HasText, StopsKeeping, with_trees}
+use Rattle.gixobj_find.specs.Keeping.{StopsKeeping, with_trees}
+use Rattle.gixobj_tree.specs.TreeText.{HasText}
 use Rattle.gixobj_find.specs.declared.keeping.KeepError.{KeepError}
 use Rattle.gixobj_editor.specs.Commands.{Place}
 use Rattle.gixobj_editor.specs.Replies.{Answers, IsEditReply, IsWriteKept, IsWrittenAt, KeepsAll}

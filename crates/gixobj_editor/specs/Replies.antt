@@ -25,8 +25,9 @@ use Rattle.gixobj_files.specs.Opening.{Dirs, in_path}
 use Rattle.gixobj_files.specs.State.{EditorFiles, State, open_bases, open_dirs, root_alone, with_store}
 use Rattle.gixobj_files.specs.Unopened.{inside}
 use Rattle.gixobj_hash.specs.declared.hash.object_id.ObjectId.{ObjectId}
-use Rattle.gixobj_find.specs.Keeping.{HasText, StopsKeeping, with_trees}
+use Rattle.gixobj_find.specs.Keeping.{StopsKeeping, with_trees}
 use Rattle.gixobj_tree.specs.Entries.{EntryView, IsWellFormed, Pair}
+use Rattle.gixobj_tree.specs.TreeText.{HasText}
 use Rattle.gixobj_tree.specs.Mode.{mode_of_kind}
 use Rattle.gixobj_editor.specs.Commands.{Place, at_cursor, at_root, path_at}
 use Rattle.gixobj_editor.specs.declared.reply.EditReply.{EditReply}

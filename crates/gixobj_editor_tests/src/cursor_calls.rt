@@ -2,8 +2,8 @@
 //! `git mktree --missing` answers, and of trees with the mode `040000`, `git hash-object -t tree --literally`.
 
 use crate::samples::{
-    FILE, editor_of, empty_editor, id_of, number, path_of, stored_file, text_of, told, tree_of,
-    upserted, went_out, writes,
+    FILE, editor_of, empty_editor, number, path_of, stored_file, text_of, told, tree_of, upserted,
+    went_out, writes,
 };
 use bstr::BString;
 use gixobj_base::hash::{Kind as HashKind, ObjectId};
@@ -36,7 +36,7 @@ pub(crate) fn upserted_by(
 
 /// Whether a write by a cursor hands out trees of these ids, in this order, the last one being its own.
 pub(crate) fn hands_out(alloc: Global, cursor: &mut Cursor<'_, Memory>, ids: &[&[u8]]) -> bool {
-    match cursor.write(|tree: &Tree| id_of(alloc, tree)) {
+    match cursor.write(|tree: &Tree| tree.compute_id(alloc, HashKind::Sha1)) {
         Ok(written) => went_out(alloc, &written, ids),
         Err(_) => false,
     }

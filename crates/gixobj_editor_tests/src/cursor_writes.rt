@@ -1,8 +1,9 @@
 //! Refused writes by cursors, and writes behind them. Ids are those that `git mktree --missing` answers.
 
 use crate::cursor_calls::{hands_out, upserted_by};
-use crate::samples::{FILE, empty_editor, id_of, path_of, upserted, writes};
+use crate::samples::{FILE, empty_editor, path_of, upserted, writes};
 use gixobj_base::Tree;
+use gixobj_base::hash::Kind as HashKind;
 use gixobj_editor::editor::{Cursor, Editor, WriteError};
 use gixobj_find::Memory;
 use std::alloc::Global;
@@ -16,7 +17,7 @@ fn stops_at(alloc: Global, cursor: &mut Cursor<'_, Memory>, number: u8) -> bool 
         if calls == number {
             return Err(7u8);
         }
-        match id_of(alloc, tree) {
+        match tree.compute_id(alloc, HashKind::Sha1) {
             Ok(id) => Ok(id),
             Err(_) => Err(8),
         }

@@ -1,9 +1,10 @@
 //! Four rows whose answers stay the same where a growth is refused on the way, and the call is made again: what was
 //! refused has lost nothing.
 
-use crate::samples::{FILE, empty_editor, id_of, names, path_of, stored_file};
+use crate::samples::{FILE, empty_editor, names, path_of, stored_file};
 use crate::writes::stops_at_the_second;
 use bstr::BString;
+use gixobj_base::hash::Kind as HashKind;
 use gixobj_base::tree::EntryKind;
 use gixobj_base::{Tree, encode};
 use gixobj_editor::editor::{Editor, Error, WriteError, Written};
@@ -24,9 +25,9 @@ fn written(
     alloc: Global,
     editor: &mut Editor<Memory>,
 ) -> Result<Written, WriteError<encode::Error>> {
-    match editor.write(|tree: &Tree| id_of(alloc, tree)) {
+    match editor.write(|tree: &Tree| tree.compute_id(alloc, HashKind::Sha1)) {
         Ok(written) => Ok(written),
-        Err(_) => editor.write(|tree: &Tree| id_of(alloc, tree)),
+        Err(_) => editor.write(|tree: &Tree| tree.compute_id(alloc, HashKind::Sha1)),
     }
 }
 

@@ -3,7 +3,7 @@
 use bstr::BString;
 use gixobj_base::hash::{Kind as HashKind, ObjectId};
 use gixobj_base::tree::{Entry, EntryKind};
-use gixobj_base::{Kind, Tree, WriteTo, compute_hash, encode};
+use gixobj_base::{Kind, Tree, WriteTo, encode};
 use gixobj_editor::editor::{Editor, Error, Written};
 use gixobj_find::Memory;
 use std::alloc::{AllocError, Global};
@@ -43,12 +43,6 @@ pub(crate) fn text_of(alloc: Global, tree: &Tree) -> Result<Vec<u8>, encode::Err
     let mut text = Vec::new(alloc);
     tree.write_to(alloc, &mut text)?;
     Ok(text)
-}
-
-/// The id of a tree by SHA-1: that of its written bytes.
-pub(crate) fn id_of(alloc: Global, tree: &Tree) -> Result<ObjectId, encode::Error> {
-    let text = text_of(alloc, tree)?;
-    Ok(compute_hash(HashKind::Sha1, Kind::Tree, &text))
 }
 
 /// An editor of this root, or why there is none.
@@ -134,7 +128,7 @@ pub(crate) fn told(entry: Option<&Entry>) -> Option<(EntryKind, ObjectId)> {
 /// Whether this tree went out with this id, which is that of its written bytes.
 fn is_named(alloc: Global, pair: &(ObjectId, Tree), hex: &[u8]) -> bool {
     let (id, tree) = pair;
-    match id_of(alloc, tree) {
+    match tree.compute_id(alloc, HashKind::Sha1) {
         Ok(own) => own == *id && ObjectId::from_hex(hex) == Some(own),
         Err(_) => false,
     }
@@ -156,7 +150,7 @@ pub(crate) fn went_out(alloc: Global, written: &Written, ids: &[&[u8]]) -> bool 
 
 /// Whether a write hands out trees of these ids.
 pub(crate) fn writes(alloc: Global, editor: &mut Editor<Memory>, ids: &[&[u8]]) -> bool {
-    match editor.write(|tree: &Tree| id_of(alloc, tree)) {
+    match editor.write(|tree: &Tree| tree.compute_id(alloc, HashKind::Sha1)) {
         Ok(written) => went_out(alloc, &written, ids),
         Err(_) => false,
     }

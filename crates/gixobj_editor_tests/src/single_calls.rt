@@ -8,7 +8,7 @@ use gixobj_base::{Tree, encode};
 use gixobj_editor::editor::{Cursor, Editor, Error};
 use gixobj_editor::{EditReply, Reply};
 use gixobj_find::Memory;
-use gixobj_script::{answer_lines, answers_of};
+use gixobj_script::told_lines;
 use std::alloc::{AllocError, Global};
 use std::test::Fail;
 
@@ -88,8 +88,7 @@ fn null_behind_another(rt: HostRuntime) -> Result<(), Fail> {
 fn told_of_a_slash(rt: HostRuntime) -> Result<(), Fail> {
     let alloc = rt.alloc();
     let slash: EditReply<encode::Error> = EditReply::Refused(Error::SlashInPathComponent);
-    let answers = answers_of(alloc, vec![in alloc; Reply::Edit(slash)]?)?;
-    let lines = answer_lines(alloc, &answers, 0)?;
+    let lines = told_lines(alloc, &[Reply::Edit(slash)], 0)?;
     assert!(rt; lines.as_slice() == b"refused 2\nlookups 0\n".as_slice());
     Ok(())
 }

@@ -2,7 +2,7 @@
 //! handed out. Ids are those that `git mktree --missing` answers.
 
 use crate::cursor_calls::upserted_by;
-use crate::samples::{FILE, editor_of, id_of, path_of, stored_file, tree_of, upserted, went_out};
+use crate::samples::{FILE, editor_of, path_of, stored_file, tree_of, upserted, went_out};
 use bstr::BString;
 use gixobj_base::hash::{Kind as HashKind, ObjectId};
 use gixobj_base::tree::{Entry, EntryKind};
@@ -17,7 +17,7 @@ pub(crate) fn saves<S>(alloc: Global, editor: &mut Editor<S>, saved: usize, ids:
     let mut calls = 0usize;
     let out = |tree: &Tree| {
         calls = calls.saturating_add(1);
-        id_of(alloc, tree)
+        tree.compute_id(alloc, HashKind::Sha1)
     };
     let is_told = match editor.write(out) {
         Ok(written) => written.saved == saved && went_out(alloc, &written, ids),
@@ -120,7 +120,7 @@ fn saves_by_a_cursor(
     let directory = path_of(alloc, b"a")?;
     let mut cursor = editor.cursor_at(&directory)?;
     upserted_by(alloc, &mut cursor, path)?;
-    match cursor.write(|tree: &Tree| id_of(alloc, tree)) {
+    match cursor.write(|tree: &Tree| tree.compute_id(alloc, HashKind::Sha1)) {
         Ok(written) => Ok(written.saved == saved && went_out(alloc, &written, &[id])),
         Err(_) => Ok(false),
     }
@@ -167,7 +167,7 @@ fn writes_by_an_old_id(alloc: Global, editor: &mut Editor<Memory>) -> bool {
         if tree.entries.len() == 2 {
             return Ok(old);
         }
-        id_of(alloc, tree)
+        tree.compute_id(alloc, HashKind::Sha1)
     };
     match editor.write(out) {
         Ok(written) => is_as_it_was(&written),

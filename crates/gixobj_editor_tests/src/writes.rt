@@ -1,7 +1,7 @@
 //! What a write hands out where it was refused before, and where a tree gets the null id; and a copy of an editor. Ids are
 //! those that `git mktree --missing` answers.
 
-use crate::samples::{FILE, empty_editor, id_of, path_of, text_of, tree_of, upserted, went_out};
+use crate::samples::{FILE, empty_editor, path_of, text_of, tree_of, upserted, went_out};
 use crate::unchanged::saves;
 use gixobj_base::hash::{Kind as HashKind, ObjectId};
 use gixobj_base::tree::EntryKind;
@@ -19,7 +19,7 @@ pub(crate) fn stops_at_the_second(alloc: Global, editor: &mut Editor<Memory>) ->
             return Err(7u8);
         }
         asked = true;
-        match id_of(alloc, tree) {
+        match tree.compute_id(alloc, HashKind::Sha1) {
             Ok(id) => Ok(id),
             Err(_) => Err(8),
         }
@@ -29,7 +29,7 @@ pub(crate) fn stops_at_the_second(alloc: Global, editor: &mut Editor<Memory>) ->
 
 /// Whether a write through a borrowed closure hands out trees of these ids.
 fn writes_by_a_borrowed(alloc: Global, editor: &mut Editor<Memory>, ids: &[&[u8]]) -> bool {
-    match editor.try_write(&mut |tree: &Tree| id_of(alloc, tree)) {
+    match editor.try_write(&mut |tree: &Tree| tree.compute_id(alloc, HashKind::Sha1)) {
         Ok(written) => went_out(alloc, &written, ids),
         Err(_) => false,
     }

@@ -4,7 +4,8 @@ use Rattle.std.proofs.Math.Seq.{take-suc}
 use Rattle.std.proofs.lemmas.List.Elements.{All-append, All-cons, All-nil}
 use Rattle.gixobj_object.specs.Stores.{Objects}
 use Rattle.gixobj_tree.specs.Entries.{Pair}
-use Rattle.gixobj_find.specs.Keeping.{HasText, with_tree, with_trees}
+use Rattle.gixobj_find.specs.Keeping.{with_tree, with_trees}
+use Rattle.gixobj_tree.specs.TreeText.{HasText}
 
 -- trees that are kept behind others
 pub kept_on : (first then : List Pair) (objects : Objects) → with_trees (first ++ then) objects ≡ with_trees then (with_trees first objects)

@@ -2,12 +2,11 @@
 use Rattle.std.specs.Prelude.{◌≡◌, ◌⊎◌, ℕ, Bool, IsTrue, List, [], ◌∷◌, All, Some, slice_get, take, ⊤}
 use Rattle.std.specs.FinMap as map
 use Rattle.gixobj_object.specs.Stores.{Objects, StoredObject}
-use Rattle.gixobj_fields.specs.Writing.{Refused, RefusesNothing}
 use Rattle.gixobj_hash.specs.Hash.{id_kind}
 use Rattle.gixobj_hash.specs.declared.hash.object_id.ObjectId.{ObjectId}
 use Rattle.gixobj_hash.specs.declared.kind.Kind.TheVariants.{Commit, Tree}
 use Rattle.gixobj_tree.specs.Entries.{EntryView, Pair}
-use Rattle.gixobj_tree.specs.TreeText.{RefusesTree, tree_text}
+use Rattle.gixobj_tree.specs.TreeText.{tree_text, HasNoText, HasText}
 use Rattle.gixobj_find.specs.declared.keeping.KeepError.{KeepError}
 use Rattle.gixobj_find.specs.declared.keeping.KeepError.TheVariants.{OutOfMemory, Store}
 
@@ -23,14 +22,6 @@ with_tree it objects = map.insert objects it.0 (tree_object it.0 it.1)
 abbrev pub with_trees : List Pair → Objects → Objects
 with_trees [] objects = objects
 with_trees (it ∷ trees) objects = with_trees trees (with_tree it objects)
-
--- the tree can be written
-abbrev pub HasText : List EntryView → Type 0
-HasText entries = RefusesNothing (RefusesTree entries)
-
--- the tree can't be written
-abbrev pub HasNoText : List EntryView → Type 0
-HasNoText entries = (value : Refused) × (parts : List ℕ) × RefusesTree entries value parts
 
 -- why a tree isn't kept: the store failed, and lookups of this id may fail, or the tree can't be written; or memory was wanting
 abbrev pub RefusesKeep : (ObjectId → Bool) → ObjectId → List EntryView → KeepError → Type 0

@@ -2,7 +2,8 @@
 
 ghost use Rattle.std.specs.Prelude.{◌≡◌, All, IfErr, OnErr, OnOk};
 ghost use Rattle.gixobj_hash.specs.declared.hash.object_id.ObjectId.{ObjectId};
-ghost use Rattle.gixobj_find.specs.Keeping.{HasText, RefusesKeep, RefusesKeepCommit, StopsKeeping, with_commit, with_tree, with_trees};
+ghost use Rattle.gixobj_find.specs.Keeping.{RefusesKeep, RefusesKeepCommit, StopsKeeping, with_commit, with_tree, with_trees};
+ghost use Rattle.gixobj_tree.specs.TreeText.{HasText};
 
 use bstr::BString;
 use gixobj_hash::OutOfMemory;

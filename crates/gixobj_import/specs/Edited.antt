@@ -1,24 +1,20 @@
 -- Edits of a step, which come through one after the other, and the write behind them.
-use Rattle.std.specs.Prelude.{◌≡◌, ℕ, List, [], ◌∷◌, Err, Ok, Some, slice_get, take, ⊤}
+use Rattle.std.specs.Prelude.{◌≡◌, ℕ, List, [], ◌∷◌, Some, slice_get, take}
 use Rattle.gixobj_editor.specs.declared.command.Edit.{Edit}
 use Rattle.gixobj_editor.specs.declared.command.Edit.TheVariants as edit
 use Rattle.gixobj_object.specs.Stores.{Meaning}
 use Rattle.gixobj_directories.specs.Calls.{names_of}
 use Rattle.gixobj_editor.specs.declared.editor.error.Error.{Error}
 use Rattle.gixobj_fields.specs.declared.encode.Error as encode
-use Rattle.gixobj_fields.specs.declared.encode.Error.TheVariants.{Writer}
 use Rattle.gixobj_files.specs.History.{Step, remove, upsert}
 use Rattle.gixobj_files.specs.State.{State}
-use Rattle.gixobj_hash.specs.Hash.{id_of}
 use Rattle.gixobj_hash.specs.declared.hash.kind.Kind as hash
-use Rattle.gixobj_hash.specs.declared.kind.Kind.TheVariants.{Tree}
-use Rattle.gixobj_find.specs.Keeping.{HasNoText, HasText}
 use Rattle.gixobj_editor.specs.Commands.{at_root}
 use Rattle.gixobj_editor.specs.Replies.{Answers, IsEditReply}
 use Rattle.gixobj_editor.specs.declared.reply.EditReply.{EditReply}
 use Rattle.gixobj_editor.specs.declared.reply.EditReply.TheVariants as reply
 use Rattle.gixobj_tree.specs.Mode.{mode_of_kind}
-use Rattle.gixobj_tree.specs.TreeText.{tree_text}
+use Rattle.gixobj_tree.specs.TreeText.{IsAnsweredDigest}
 
 -- what an edit does to the files; a write does nothing
 abbrev pub steps_if_done : Edit → List Step
@@ -26,13 +22,6 @@ steps_if_done (edit.Upsert path kind id) = upsert (names_of path.items) (mode_of
 steps_if_done (edit.Remove path) = remove (names_of path.items) ∷ []
 steps_if_done (edit.RemoveLeaf path) = remove (names_of path.items) ∷ []
 steps_if_done edit.Write = []
-
--- the answer to a tree is the digest of its written bytes; or there was no memory for them, or it
--- can't be written
-abbrev pub Digests : hash.Kind → Answers encode.Error
-Digests hash tree (Ok id) = HasText tree × (id ≡ id_of hash Tree (tree_text tree))
-Digests hash tree (Err (Writer cause)) = ⊤
-Digests hash tree (Err other) = HasNoText tree
 
 -- no tree is handed out
 abbrev pub NoAnswers : Answers encode.Error
@@ -45,7 +34,7 @@ module _ {S : Type 0} (means : Meaning S) where
 
   -- a write by digests, whose trees the store then keeps, may get this reply, as in a run
   abbrev pub IsWriteReplied : hash.Kind → State S → EditReply encode.Error → State S → Type 0
-  IsWriteReplied hash old its_reply new = IsEditReply means (Digests hash) at_root old edit.Write its_reply new
+  IsWriteReplied hash old its_reply new = IsEditReply means (IsAnsweredDigest hash) at_root old edit.Write its_reply new
 
   -- the edits come through, one after the other
   abbrev pub AreDone : State S → List Edit → State S → Type 0

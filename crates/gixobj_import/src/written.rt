@@ -5,7 +5,8 @@ ghost use Rattle.gixobj_editor.specs.Writes.{IsWrittenEditor};
 ghost use Rattle.gixobj_files.specs.HandingOut.{HandsOutSome};
 ghost use Rattle.gixobj_files.specs.State.{open_bases, open_dirs};
 ghost use Rattle.gixobj_hash.specs.Hash.{IsId};
-ghost use Rattle.gixobj_import.specs.Edited.{Digests, IsWriteBehind, IsWriteReplied};
+ghost use Rattle.gixobj_import.specs.Edited.{IsWriteBehind, IsWriteReplied};
+ghost use Rattle.gixobj_tree.specs.TreeText.{IsAnsweredDigest};
 ghost use Rattle.gixobj_import.specs.Steps.{HaveHex, RefusesEdits, RefusesWrite};
 ghost use Rattle.gixobj_editor.specs.Replies.{Denies, Gives};
 ghost use Rattle.hex.specs.Hex.{IsBytes};
@@ -15,11 +16,10 @@ use crate::edits::do_edits;
 use crate::import::ImportError;
 use gixobj_editor::editor::{Editor, WriteError, Written};
 use gixobj_editor::{Edit, EditReply};
-use gixobj_fields::{WriteTo, encode};
+use gixobj_fields::encode;
 use gixobj_find::{Keep, keep_all};
 use gixobj_hash::hash::{self, ObjectId};
 use gixobj_hash::laws::hex_reads_back;
-use gixobj_hash::{Kind, compute_hash};
 use gixobj_tree::Tree;
 use std::alloc::Global;
 
@@ -89,25 +89,17 @@ fn write_by_digests<S>(
     hash: hash::Kind,
 ) -> Result<Written, WriteError<encode::Error>>
     ensures written { IfOk result (λ it.
-        IsWrittenEditor (Gives (Digests hash)) tt editor.old it editor.new tt) }
-    ensures stopped { IfErr result (λ error. Stopped (Gives (Digests hash)) (Denies (Digests hash))
-        (HandsOutSome (open_dirs editor.old) (open_bases editor.old)) tt tt error) }
+        IsWrittenEditor (Gives (IsAnsweredDigest hash)) tt editor.old it editor.new tt) }
+    ensures stopped { IfErr result (λ error. Stopped (Gives (IsAnsweredDigest hash))
+        (Denies (IsAnsweredDigest hash)) (HandsOutSome (open_dirs editor.old)
+        (open_bases editor.old)) tt tt error) }
     ensures unchanged { OnErr result (editor.new ≡ editor.old) }
 {
     let digest = |tree: &Tree|
-        ensures { Digests hash tree.now result }
-    { digest_of(alloc, tree, hash) };
+        ensures { IsAnsweredDigest hash tree.now result }
+    { tree.compute_id(alloc, hash) };
     match editor.write(digest) {
         Ok(written) => Ok(written),
         Err(error) => Err(error),
     }
-}
-
-/// The digest of the tree as it is written.
-fn digest_of(alloc: Global, tree: &Tree, hash: hash::Kind) -> Result<ObjectId, encode::Error>
-    ensures { Digests hash tree.now result }
-{
-    let mut text = Vec::new(alloc);
-    tree.write_to_vec(alloc, &mut text)?;
-    Ok(compute_hash(hash, Kind::Tree, &text))
 }

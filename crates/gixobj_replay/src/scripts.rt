@@ -8,7 +8,7 @@ use gixobj_base::hash::Kind;
 use gixobj_base::parse::split_at_byte;
 use gixobj_base::tree::EntryMode;
 use gixobj_editor::{Command, Edit};
-use gixobj_script::{EditError, ScriptError, edit, read_script};
+use gixobj_script::{ScriptError, edit, read_script};
 use std::alloc::{AllocError, Global};
 
 /// What is told of a script, run on the empty root over a store that has nothing. The question is the kind of
@@ -17,8 +17,8 @@ pub(crate) fn script_answer(alloc: Global, question: &[u8]) -> Result<Vec<u8>, A
     let (script, hash) = script_and_kind(alloc, question)?;
     match edit(alloc, script.as_slice(), hash) {
         Ok(told) => text_of(alloc, spelled(alloc, told.as_slice())?.as_str()),
-        Err(EditError::BadLine(number)) => bad_line(alloc, number),
-        Err(EditError::OutOfMemory) => text_of(alloc, "out of memory"),
+        Err(ScriptError::BadLine(number)) => bad_line(alloc, number),
+        Err(ScriptError::OutOfMemory) => text_of(alloc, "out of memory"),
     }
 }
 

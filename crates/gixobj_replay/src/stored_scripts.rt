@@ -3,14 +3,13 @@
 
 use crate::recorded::spelling::{spelled, unspelled};
 use crate::recorded::texts::{bytes_of, kind_of_ids, text_of};
-use gixobj_base::hash::{self, ObjectId};
 use gixobj_base::parse::split_at_byte;
-use gixobj_base::{Kind, OutOfMemory, Tree, WriteTo, compute_hash, encode};
+use gixobj_base::{Kind, OutOfMemory, Tree, encode, hash};
 use gixobj_editor::editor::{Editor, Error};
 use gixobj_editor::{EditReply, Reply, run};
 use gixobj_find::Memory;
 use gixobj_find::find::existing_object;
-use gixobj_script::{answer_lines, answers_of, read_script};
+use gixobj_script::{read_script, told_lines};
 use std::alloc::{AllocError, Global};
 
 /// What is told of a script, run on the empty root over a store of these objects, and the cause of each directory that
@@ -53,20 +52,12 @@ fn told_of(
     let Ok(commands) = read_script(alloc, script, hash_kind) else {
         return Ok(Vec::from_slice(alloc, b"no script")?);
     };
-    let out = |tree: &Tree| id_of(alloc, tree, hash_kind);
+    let out = |tree: &Tree| tree.compute_id(alloc, hash_kind);
     let replies = run(alloc, &mut editor, commands, out)?;
     let causes = causes_of(alloc, &replies)?;
-    let answers = answers_of(alloc, replies)?;
-    let mut told = answer_lines(alloc, &answers, editor.lookups())?;
+    let mut told = told_lines(alloc, &replies, editor.lookups())?;
     told.extend_from_slice(causes.as_bytes())?;
     Ok(told)
-}
-
-/// The id of a tree: that of its written bytes.
-fn id_of(alloc: Global, tree: &Tree, hash_kind: hash::Kind) -> Result<ObjectId, encode::Error> {
-    let mut text = Vec::new(alloc);
-    tree.write_to_vec(alloc, &mut text)?;
-    Ok(compute_hash(hash_kind, Kind::Tree, &text))
 }
 
 /// A line of the word `causes`, and the cause of each directory that wasn't found.

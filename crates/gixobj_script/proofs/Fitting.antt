@@ -24,8 +24,8 @@ use Rattle.gixobj_editor.specs.declared.reply.Reply.{Reply}
 use Rattle.gixobj_find.specs.declared.memory.Memory.{Memory}
 use Rattle.gixobj_tree.specs.Rewriting.{ReadsBack}
 use Rattle.gixobj_tree.specs.Entries.{EntryView, Pair}
-use Rattle.gixobj_tree.specs.TreeText.{tree_text}
-use Rattle.gixobj_script.specs.Digests.{HaveOwnIds, IsAnsweredDigest}
+use Rattle.gixobj_tree.specs.TreeText.{tree_text, IsAnsweredDigest}
+use Rattle.gixobj_script.specs.Digests.{HaveOwnIds}
 use Rattle.gixobj_script.specs.Edits.{memory_means}
 
 all_so : (P Q R : Pair → Type 0) → ((pair : Pair) → P pair → Q pair → R pair) → (pairs : List Pair) → All P pairs → All Q pairs → All R pairs

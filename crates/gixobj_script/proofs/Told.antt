@@ -11,13 +11,13 @@ use Rattle.gixobj_hash.specs.declared.hash.object_id.ObjectId.{ObjectId}
 use Rattle.gixobj_fields.specs.declared.encode.Error.{Error}
 use Rattle.gixobj_find.specs.declared.memory.Memory.{Memory}
 use Rattle.gixobj_tree.specs.Entries.{EntryView}
-use Rattle.gixobj_script.specs.Digests.{IsAnsweredDigest}
+use Rattle.gixobj_tree.specs.TreeText.{IsAnsweredDigest}
 use Rattle.gixobj_script.specs.Edits.{IsEdit, IsNewEditor, IsTold, memory_means}
-use Rattle.gixobj_script.specs.declared.editing.EditError.{EditError}
+use Rattle.gixobj_script.specs.declared.script.ScriptError.{ScriptError}
 use Rattle.gixobj_script.proofs.Wider.{run_wider}
 
 -- so it is where all that the closure answers is digests
-pub is_edit : {F : Type 0} (of : Shared F (Bor (List EntryView) × Unit {0}) (Result ObjectId Error)) (out : F) (hash : hash.Kind) (script : List ℕ) (old new : State Memory) (result : Result (Vec ℕ Global) EditError)
+pub is_edit : {F : Type 0} (of : Shared F (Bor (List EntryView) × Unit {0}) (Result ObjectId Error)) (out : F) (hash : hash.Kind) (script : List ℕ) (old new : State Memory) (result : Result (Vec ℕ Global) ScriptError)
     → ((tree : List EntryView) (answer : Result ObjectId Error) → FnReturnsAt of out tree answer → IsAnsweredDigest hash tree answer)
     → IsNewEditor hash old
     → IfOk result (λ text. IsTold memory_means (λ tree answer. FnReturnsAt of out tree answer) hash script old text.items new)

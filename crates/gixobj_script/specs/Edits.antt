@@ -4,15 +4,12 @@ use Rattle.std.specs.FinMap as finite
 use Rattle.gixobj_editor.specs.Views.{CommandView, command_view}
 use Rattle.gixobj_editor.specs.declared.command.Command.{Command}
 use Rattle.gixobj_object.specs.Stores.{Meaning}
-use Rattle.gixobj_script.specs.Digests.{IsAnsweredDigest}
-use Rattle.gixobj_script.specs.Telling.{answers_to_all}
-use Rattle.gixobj_script.specs.declared.editing.EditError.{EditError}
-use Rattle.gixobj_script.specs.declared.editing.EditError.TheVariants as editing
+use Rattle.gixobj_tree.specs.TreeText.{IsAnsweredDigest}
+use Rattle.gixobj_script.specs.Telling.{told_lines_of}
 use Rattle.gixobj_files.specs.State.{State, root_alone}
 use Rattle.gixobj_hash.specs.declared.hash.kind.Kind as hash
 use Rattle.gixobj_editor.specs.Replies.{Answers, IsRun}
 use Rattle.gixobj_editor.specs.declared.reply.Reply.{Reply}
-use Rattle.gixobj_script.specs.Answers.{answer_lines_of}
 use Rattle.gixobj_script.specs.Scripts.{IsFirstBad, IsScript, RefusesScript}
 use Rattle.gixobj_script.specs.declared.script.ScriptError.{ScriptError}
 use Rattle.gixobj_script.specs.declared.script.ScriptError.TheVariants as script
@@ -26,7 +23,7 @@ pub record IsTold {S E : Type 0} (means : Meaning S) (answers : Answers E) (hash
   pub replies : List (Reply E)
   pub reads : IsScript hash script (map command_view commands)
   pub ran : IsRun means answers old commands replies new
-  pub tells : text ≡ answer_lines_of (answers_to_all replies) new.lookups
+  pub tells : text ≡ told_lines_of replies new.lookups
 
 -- the script is that of commands, and these were run on the old state and left the new one
 pub record WasRun {S E : Type 0} (means : Meaning S) (answers : Answers E) (hash : hash.Kind) (script : List ℕ) (old new : State S) : Type 0 where
@@ -54,13 +51,8 @@ pub record IsEdit (hash : hash.Kind) (script text : List ℕ) : Type 0 where
   pub begun : IsNewEditor hash old
   pub told : IsTold memory_means (IsAnsweredDigest hash) hash script old text new
 
--- the refusal to read a script is that to run it
-abbrev pub edit_error : ScriptError → EditError
-edit_error (script.BadLine number) = editing.BadLine number
-edit_error script.OutOfMemory = editing.OutOfMemory
-
 -- why nothing is told of a script: its first bad line has this number; or memory was wanting, for a command before any bad line, or where
 -- no line is bad
-abbrev pub RefusesEdit : hash.Kind → List ℕ → EditError → Type 0
-RefusesEdit hash text (editing.BadLine number) = IsFirstBad hash text number
-RefusesEdit hash text editing.OutOfMemory = RefusesScript hash text script.OutOfMemory ⊎ ((commands : List CommandView) × IsScript hash text commands)
+abbrev pub RefusesEdit : hash.Kind → List ℕ → ScriptError → Type 0
+RefusesEdit hash text (script.BadLine number) = IsFirstBad hash text number
+RefusesEdit hash text script.OutOfMemory = RefusesScript hash text script.OutOfMemory ⊎ ((commands : List CommandView) × IsScript hash text commands)

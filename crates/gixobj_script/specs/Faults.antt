@@ -1,17 +1,17 @@
 -- What the program says where nothing is told of a script.
 use Rattle.std.specs.Prelude.{ℕ, List, ◌++◌, codes, decimal}
-use Rattle.gixobj_script.specs.declared.editing.EditError.{EditError}
-use Rattle.gixobj_script.specs.declared.editing.EditError.TheVariants as editing
 use Rattle.gixobj_script.specs.declared.fault.Fault.{Fault}
 use Rattle.gixobj_script.specs.declared.fault.Fault.TheVariants as fault
 use Rattle.gixobj_fields.specs.HeaderText.{line_text}
 use Rattle.gixobj_show.specs.Refusal.{line_of, exit_status_of}
+use Rattle.gixobj_script.specs.declared.script.ScriptError.{ScriptError}
+use Rattle.gixobj_script.specs.declared.script.ScriptError.TheVariants as script
 use Rattle.gixobj_show.specs.declared.refusal.Refusal.TheVariants as refusal
 
 -- the fault of a refusal to run a script
-abbrev pub fault_of : EditError → Fault
-fault_of (editing.BadLine number) = fault.BadLine number
-fault_of editing.OutOfMemory = fault.Refused refusal.OutOfMemory
+abbrev pub fault_of : ScriptError → Fault
+fault_of (script.BadLine number) = fault.BadLine number
+fault_of script.OutOfMemory = fault.Refused refusal.OutOfMemory
 
 -- the line that tells of a bad one
 abbrev pub bad_line : ℕ → List ℕ

@@ -1,4 +1,3 @@
-pub mod Answers
 pub mod Digests
 pub mod Edits
 pub mod Engine

@@ -1,6 +1,7 @@
--- Which answers tell the replies to a run.
-use Rattle.std.specs.Prelude.{List, [], ◌∷◌, length, map}
+-- The lines that tell the replies to a run.
+use Rattle.std.specs.Prelude.{ℕ, List, ◌++◌, codes, decimal, length}
 use Rattle.std.specs.List.{flat_map}
+use Rattle.bstr.specs.Owned.{bstring_bytes}
 use Rattle.gixobj_directories.specs.declared.write.WriteError.TheVariants as write
 use Rattle.gixobj_editor.specs.declared.editor.error.Error.{Error}
 use Rattle.gixobj_editor.specs.declared.editor.error.Error.TheVariants as editing
@@ -8,37 +9,44 @@ use Rattle.gixobj_editor.specs.declared.reply.EditReply.{EditReply}
 use Rattle.gixobj_editor.specs.declared.reply.EditReply.TheVariants as edit_reply
 use Rattle.gixobj_editor.specs.declared.reply.Reply.{Reply}
 use Rattle.gixobj_editor.specs.declared.reply.Reply.TheVariants as reply
-use Rattle.gixobj_script.specs.declared.answers.Answer.{Answer}
-use Rattle.gixobj_script.specs.declared.answers.Answer.TheVariants as answer
-use Rattle.gixobj_script.specs.declared.answers.Refusal.{Refusal}
-use Rattle.gixobj_script.specs.declared.answers.Refusal.TheVariants as refusal
+use Rattle.gixobj_hash.specs.Hash.{hex_text}
+use Rattle.gixobj_script.specs.Lines.{word_and}
+use Rattle.gixobj_show.specs.Refusal.{line}
 
--- what is told of the refusal of an edit
-abbrev pub told_refusal : Error → Refusal
-told_refusal editing.EmptyPathComponent = refusal.EmptyName
-told_refusal editing.SlashInPathComponent = refusal.SlashInName
-told_refusal (editing.FindExistingObject cause) = refusal.DirectoryNotFound
-told_refusal (editing.CannotRemoveNonLeaf path) = refusal.Directory path
-told_refusal editing.MalformedTree = refusal.MalformedTree
-told_refusal editing.OutOfMemory = refusal.OutOfMemory
+-- what is told of a refused edit: the number of the refusal, and the path of a directory that was to be removed as a leaf
+abbrev pub refusal_text : Error → List ℕ
+refusal_text editing.EmptyPathComponent = codes "refused 1"
+refusal_text editing.SlashInPathComponent = codes "refused 2"
+refusal_text (editing.FindExistingObject cause) = codes "refused 3"
+refusal_text (editing.CannotRemoveNonLeaf path) = word_and (codes "refused 4") (bstring_bytes path)
+refusal_text editing.MalformedTree = codes "refused 5"
+refusal_text editing.OutOfMemory = codes "refused 6"
 
--- the answer that tells the reply to an edit or a write
-abbrev pub answer_to_edit : {E : Type 0} → EditReply E → Answer
-answer_to_edit edit_reply.Done = answer.Done
-answer_to_edit (edit_reply.Refused error) = answer.Refused (told_refusal error)
-answer_to_edit (edit_reply.Written written) = answer.Wrote written.id (length written.trees.items)
-answer_to_edit (edit_reply.WriteRefused (write.Out cause)) = answer.RefusedOut
-answer_to_edit (edit_reply.WriteRefused write.OutOfMemory) = answer.RefusedMemory
-answer_to_edit (edit_reply.NotKept written count error) = answer.Unkept written.id
+-- what is told of the reply to an edit or a write
+abbrev pub edit_reply_text : {E : Type 0} → EditReply E → List ℕ
+edit_reply_text edit_reply.Done = codes "ok"
+edit_reply_text (edit_reply.Refused error) = refusal_text error
+edit_reply_text (edit_reply.Written written) = word_and (codes "wrote") (word_and (hex_text written.id) (decimal (length written.trees.items)))
+edit_reply_text (edit_reply.WriteRefused (write.Out cause)) = codes "refused out"
+edit_reply_text (edit_reply.WriteRefused write.OutOfMemory) = codes "refused memory"
+edit_reply_text (edit_reply.NotKept written count error) = word_and (codes "unkept") (hex_text written.id)
 
--- the answers that tell a reply: of edits in a directory one each; a root that isn't well-formed is told as a malformed tree
-abbrev pub answers_to : {E : Type 0} → Reply E → List Answer
-answers_to (reply.Edit its_reply) = answer_to_edit its_reply ∷ []
-answers_to (reply.At replies) = map answer_to_edit replies.items
-answers_to (reply.AtRefused error) = answer.Refused (told_refusal error) ∷ []
-answers_to reply.RootSet = answer.Done ∷ []
-answers_to reply.RootRefused = answer.Refused refusal.MalformedTree ∷ []
+-- its line
+abbrev pub edit_reply_line : {E : Type 0} → EditReply E → List ℕ
+edit_reply_line its_reply = line (edit_reply_text its_reply)
 
--- those that tell all the replies, in order
-abbrev pub answers_to_all : {E : Type 0} → List (Reply E) → List Answer
-answers_to_all replies = flat_map answers_to replies
+-- the lines that tell a reply: of edits in a directory one each; a root that isn't well-formed is told as a malformed tree
+abbrev pub reply_lines : {E : Type 0} → Reply E → List ℕ
+reply_lines (reply.Edit its_reply) = edit_reply_line its_reply
+reply_lines (reply.At replies) = flat_map edit_reply_line replies.items
+reply_lines (reply.AtRefused error) = line (refusal_text error)
+reply_lines reply.RootSet = line (codes "ok")
+reply_lines reply.RootRefused = line (refusal_text editing.MalformedTree)
+
+-- how many lookups there were, in a line
+abbrev pub lookups_line : ℕ → List ℕ
+lookups_line lookups = line (word_and (codes "lookups") (decimal lookups))
+
+-- the lines that tell the replies, in order, and last the lookups
+abbrev pub told_lines_of : {E : Type 0} → List (Reply E) → ℕ → List ℕ
+told_lines_of replies lookups = flat_map reply_lines replies ++ lookups_line lookups

@@ -2,60 +2,22 @@
 ghost use Rattle.std.specs.Prelude.{◌≡◌, ◌⊎◌, ℕ, IfErr, IfOk, OnErr};
 ghost use Rattle.std.specs.Fn.{FnReturnsAt};
 ghost use Rattle.gixobj_object.specs.Stores.{meaning};
-ghost use Rattle.gixobj_script.specs.Digests.{IsAnsweredDigest};
+ghost use Rattle.gixobj_tree.specs.TreeText.{IsAnsweredDigest};
 ghost use Rattle.gixobj_script.specs.Edits.{IsEdit, IsTold, RefusesEdit, WasRun};
-ghost use Rattle.gixobj_script.specs.declared.editing.EditError.TheVariants as editing;
+ghost use Rattle.gixobj_script.specs.declared.script.ScriptError.TheVariants.{BadLine};
 ghost use Rattle.gixobj_editor.specs.Replies.{IsCallable};
 
-use crate::digest::digest_of;
-use crate::telling::answers_of;
-use crate::{ScriptError, answer_lines, read_script};
+use crate::{ScriptError, read_script, told_lines};
 use gixobj_editor::editor::Editor;
 use gixobj_editor::run;
 use gixobj_find::{Keep, Memory};
-use gixobj_hash::OutOfMemory;
 use gixobj_hash::hash::{Kind, ObjectId};
 use gixobj_tree::Tree;
 use std::alloc::Global;
 
-/// Why a script isn't run, or what came of it isn't told.
-#[derive(Clone, Copy, Debug, PartialEq, Eq, thiserror::Error)]
-pub enum EditError {
-    /// The line of this number, from 1 and with empty lines counted, is the first that is neither empty nor a
-    /// command's. Nothing is run.
-    #[error("line {0}")]
-    BadLine(u64),
-    /// There was no memory: for the commands, for the replies to them, or for what is told of these.
-    #[error("out of memory")]
-    OutOfMemory,
-}
-
-impl From<ScriptError> for EditError {
-    ghost use Rattle.gixobj_script.specs.Edits.{edit_error};
-
-    ghost from_gives = { λ cause error. error ≡ edit_error cause };
-
-    fn from(cause: ScriptError) -> EditError {
-        match cause {
-            ScriptError::BadLine(number) => EditError::BadLine(number),
-            ScriptError::OutOfMemory => EditError::OutOfMemory,
-        }
-    }
-}
-
-impl From<OutOfMemory> for EditError {
-    ghost use Rattle.gixobj_script.specs.declared.editing.EditError.TheVariants.{OutOfMemory};
-
-    ghost from_gives = { λ _ error. error ≡ OutOfMemory };
-
-    fn from(_: OutOfMemory) -> EditError {
-        EditError::OutOfMemory
-    }
-}
-
 /// Runs a script on the empty root, over a store in memory that has nothing yet, with ids of this kind, and answers
 /// what is told of it, as [`edit_on`] does. The id of a tree is the digest of its written bytes.
-pub fn edit(alloc: Global, script: &[u8], hash: Kind) -> Result<Vec<u8>, EditError>
+pub fn edit(alloc: Global, script: &[u8], hash: Kind) -> Result<Vec<u8>, ScriptError>
     ensures told { IfOk result (λ text. IsEdit hash script.now text.items) }
     ensures refusal { IfErr result (RefusesEdit hash script.now) }
 {
@@ -67,7 +29,7 @@ pub fn edit(alloc: Global, script: &[u8], hash: Kind) -> Result<Vec<u8>, EditErr
         hash,
         |tree: &Tree|
             ensures { IsAnsweredDigest hash tree.now result }
-        { digest_of(alloc, tree, hash) },
+        { tree.compute_id(alloc, hash) },
     )
 }
 
@@ -84,12 +46,12 @@ pub fn edit_on<S: Keep, E: Drop, F: Fn(&Tree) -> Result<ObjectId, E> + Drop>(
     script: &[u8],
     hash: Kind,
     out: F,
-) -> Result<Vec<u8>, EditError>
+) -> Result<Vec<u8>, ScriptError>
     requires callable { IsCallable F.pre out }
     ensures told { IfOk result (λ text. IsTold (meaning S.objects S.may_fail) (FnReturnsAt F.Fn out)
         hash script.now editor.old text.items editor.new) }
     ensures refusal { IfErr result (RefusesEdit hash script.now) }
-    ensures not_run { IfErr result (λ error. (number : ℕ) → error ≡ editing.BadLine number
+    ensures not_run { IfErr result (λ error. (number : ℕ) → error ≡ BadLine number
         → editor.new ≡ editor.old) }
     ensures left { OnErr result ((editor.new ≡ editor.old)
         ⊎ WasRun (meaning S.objects S.may_fail) (FnReturnsAt F.Fn out) hash script.now editor.old
@@ -97,7 +59,6 @@ pub fn edit_on<S: Keep, E: Drop, F: Fn(&Tree) -> Result<ObjectId, E> + Drop>(
 {
     let commands = read_script(alloc, script, hash)?;
     let replies = run(alloc, editor, commands, out)?;
-    let answers = answers_of(alloc, replies)?;
-    let text = answer_lines(alloc, &answers, editor.lookups())?;
+    let text = told_lines(alloc, &replies, editor.lookups())?;
     Ok(text)
 }

@@ -1,14 +1,10 @@
 //! The program, over any reader and any two writers.
 ghost use Rattle.std.specs.Prelude.{◌≡◌, ◌≢◌, map, OnOk, IfErr, ⊤};
 ghost use Rattle.std.specs.String.{string_bytes};
-ghost use Rattle.gixobj_script.specs.Engine.{Edited, RefusesEditing, UnwrittenByEdit};
-ghost use Rattle.gixobj_script.specs.Faults.{fault_line, fault_status};
+ghost use Rattle.gixobj_script.specs.Engine.{Edited, IsFault, RefusesEditing, UnwrittenByEdit};
 ghost use Rattle.gixobj_script.specs.Words.{AsksForEdit, AsksForNoEdit, AsksToEdit};
-ghost use Rattle.gixobj_script.specs.declared.fault.Fault.{Fault};
 ghost use Rattle.gixobj_fields.specs.Streams.{writer_view};
-ghost use Rattle.gixobj_show.specs.Engine.{Answered, Refuses, Told, Unread, Unwritten};
-ghost use Rattle.gixobj_show.specs.Refusal.{line_of, exit_status_of};
-ghost use Rattle.gixobj_show.specs.declared.refusal.Refusal.{Refusal};
+ghost use Rattle.gixobj_show.specs.Engine.{Answered, IsRefusal};
 
 use crate::editing::edit;
 use crate::fault::{Fault, tell_fault};
@@ -40,24 +36,19 @@ pub fn engine<R: Read, O: Write, E: Write>(
     ensures answer { result ≡ 0 → AsksForNoEdit (map string_bytes words.now)
         → Answered (map string_bytes words.now) (R.remaining input.old) (R.remaining input.new)
         (writer_view (O.contents output.old)) (writer_view (O.contents output.new)) }
-    ensures refusal { result ≢ 0 → AsksForNoEdit (map string_bytes words.now) → (refusal : Refusal)
-        × (result ≡ exit_status_of refusal)
-        × Refuses (map string_bytes words.now) (R.remaining input.old) (R.remaining input.new) ⊤
-        (writer_view (O.contents output.old)) (writer_view (O.contents output.new)) refusal
-        × Told (writer_view (E.contents errors.old)) (writer_view (E.contents errors.new))
-        (line_of refusal)
-        × Unread (input.new ≡ input.old) refusal × Unwritten (output.new ≡ output.old) refusal }
+    ensures refusal { result ≢ 0 → AsksForNoEdit (map string_bytes words.now)
+        → IsRefusal (map string_bytes words.now) (R.remaining input.old) (R.remaining input.new) ⊤
+        (writer_view (O.contents output.old)) (writer_view (O.contents output.new))
+        (writer_view (E.contents errors.old)) (writer_view (E.contents errors.new))
+        (input.new ≡ input.old) (output.new ≡ output.old) result }
     ensures edited { result ≡ 0 → AsksToEdit (map string_bytes words.now)
         → Edited (map string_bytes words.now) (R.remaining input.old) (R.remaining input.new)
         (writer_view (O.contents output.old)) (writer_view (O.contents output.new)) }
-    ensures fault { result ≢ 0 → AsksToEdit (map string_bytes words.now) → (fault : Fault)
-        × (result ≡ fault_status fault)
-        × RefusesEditing (map string_bytes words.now) (R.remaining input.old)
-        (R.remaining input.new) ⊤ (writer_view (O.contents output.old))
-        (writer_view (O.contents output.new)) fault
-        × Told (writer_view (E.contents errors.old)) (writer_view (E.contents errors.new))
-        (fault_line fault)
-        × UnwrittenByEdit (output.new ≡ output.old) fault }
+    ensures fault { result ≢ 0 → AsksToEdit (map string_bytes words.now)
+        → IsFault (map string_bytes words.now) (R.remaining input.old) (R.remaining input.new) ⊤
+        (writer_view (O.contents output.old)) (writer_view (O.contents output.new))
+        (writer_view (E.contents errors.old)) (writer_view (E.contents errors.new))
+        (output.new ≡ output.old) result }
     ensures no_error { result ≡ 0 → errors.new ≡ errors.old }
 {
     match asked_to_edit(words) {
@@ -85,21 +76,17 @@ pub fn run<S: Source, O: Sink, E: Sink>(
     ensures answer { result ≡ 0 → AsksForNoEdit (map string_bytes words.now)
         → Answered (map string_bytes words.now) (S.rest input.old) (S.rest input.new)
         (O.view output.old) (O.view output.new) }
-    ensures refusal { result ≢ 0 → AsksForNoEdit (map string_bytes words.now) → (refusal : Refusal)
-        × (result ≡ exit_status_of refusal)
-        × Refuses (map string_bytes words.now) (S.rest input.old) (S.rest input.new)
-        (S.may_fail input.old) (O.view output.old) (O.view output.new) refusal
-        × Told (E.view errors.old) (E.view errors.new) (line_of refusal)
-        × Unread (input.new ≡ input.old) refusal × Unwritten (output.new ≡ output.old) refusal }
+    ensures refusal { result ≢ 0 → AsksForNoEdit (map string_bytes words.now)
+        → IsRefusal (map string_bytes words.now) (S.rest input.old) (S.rest input.new)
+        (S.may_fail input.old) (O.view output.old) (O.view output.new) (E.view errors.old)
+        (E.view errors.new) (input.new ≡ input.old) (output.new ≡ output.old) result }
     ensures edited { result ≡ 0 → AsksToEdit (map string_bytes words.now)
         → Edited (map string_bytes words.now) (S.rest input.old) (S.rest input.new)
         (O.view output.old) (O.view output.new) }
-    ensures fault { result ≢ 0 → AsksToEdit (map string_bytes words.now) → (fault : Fault)
-        × (result ≡ fault_status fault)
-        × RefusesEditing (map string_bytes words.now) (S.rest input.old) (S.rest input.new)
-        (S.may_fail input.old) (O.view output.old) (O.view output.new) fault
-        × Told (E.view errors.old) (E.view errors.new) (fault_line fault)
-        × UnwrittenByEdit (output.new ≡ output.old) fault }
+    ensures fault { result ≢ 0 → AsksToEdit (map string_bytes words.now)
+        → IsFault (map string_bytes words.now) (S.rest input.old) (S.rest input.new)
+        (S.may_fail input.old) (O.view output.old) (O.view output.new) (E.view errors.old)
+        (E.view errors.new) (output.new ≡ output.old) result }
     ensures no_error { result ≡ 0 → errors.new ≡ errors.old }
     ensures same_loans { (S.loan input.new ≡ S.loan input.old)
         × (O.loan output.new ≡ O.loan output.old) × (E.loan errors.new ≡ E.loan errors.old) }
@@ -122,11 +109,9 @@ fn run_script<S: Source, O: Sink, E: Sink>(
     requires asked { AsksForEdit (map string_bytes words.now) hash }
     ensures edited { result ≡ 0 → Edited (map string_bytes words.now) (S.rest input.old)
         (S.rest input.new) (O.view output.old) (O.view output.new) }
-    ensures fault { result ≢ 0 → (fault : Fault) × (result ≡ fault_status fault)
-        × RefusesEditing (map string_bytes words.now) (S.rest input.old) (S.rest input.new)
-        (S.may_fail input.old) (O.view output.old) (O.view output.new) fault
-        × Told (E.view errors.old) (E.view errors.new) (fault_line fault)
-        × UnwrittenByEdit (output.new ≡ output.old) fault }
+    ensures fault { result ≢ 0 → IsFault (map string_bytes words.now) (S.rest input.old)
+        (S.rest input.new) (S.may_fail input.old) (O.view output.old) (O.view output.new)
+        (E.view errors.old) (E.view errors.new) (output.new ≡ output.old) result }
     ensures no_error { result ≡ 0 → errors.new ≡ errors.old }
     ensures same_loans { (S.loan input.new ≡ S.loan input.old)
         × (O.loan output.new ≡ O.loan output.old) × (E.loan errors.new ≡ E.loan errors.old) }

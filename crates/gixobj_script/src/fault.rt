@@ -3,7 +3,7 @@ ghost use Rattle.std.specs.Prelude.{◌≡◌};
 ghost use Rattle.gixobj_script.specs.Faults.{bad_line, fault_line, fault_status};
 ghost use Rattle.gixobj_show.specs.Engine.{Told};
 
-use crate::editing::EditError;
+use crate::ScriptError;
 use gixobj_fields::streams::Sink;
 use gixobj_show::Refusal;
 use gixobj_show::engine::tell;
@@ -21,15 +21,15 @@ pub enum Fault {
     Refused(Refusal),
 }
 
-impl From<EditError> for Fault {
+impl From<ScriptError> for Fault {
     ghost use Rattle.gixobj_script.specs.Faults.{fault_of};
 
     ghost from_gives = { λ cause fault. fault ≡ fault_of cause };
 
-    fn from(cause: EditError) -> Fault {
+    fn from(cause: ScriptError) -> Fault {
         match cause {
-            EditError::BadLine(number) => Fault::BadLine(number),
-            EditError::OutOfMemory => Fault::Refused(Refusal::OutOfMemory),
+            ScriptError::BadLine(number) => Fault::BadLine(number),
+            ScriptError::OutOfMemory => Fault::Refused(Refusal::OutOfMemory),
         }
     }
 }

@@ -2,8 +2,6 @@
 //! does with its words, its input and its outputs.
 #![tactic(auto)]
 
-pub mod answers;
-mod digest;
 pub mod editing;
 pub mod engine;
 pub mod fault;
@@ -11,11 +9,9 @@ pub mod laws;
 mod line;
 mod path;
 pub mod script;
-pub mod store;
 pub mod telling;
 pub mod words;
 
-pub use answers::{Answer, Refusal, answer_lines};
-pub use editing::{EditError, edit, edit_on};
+pub use editing::{edit, edit_on};
 pub use script::{ScriptError, read_script};
-pub use telling::answers_of;
+pub use telling::told_lines;

@@ -10,14 +10,14 @@ use gixobj_hash::hash::Kind;
 use gixobj_hash::texts::split_at_byte;
 use std::alloc::{AllocFailed, Global};
 
-/// Why a script isn't read.
+/// Why a script isn't read or run, or what came of it isn't told.
 #[derive(Clone, Copy, Debug, PartialEq, Eq, thiserror::Error)]
 pub enum ScriptError {
     /// The line of this number, from 1 and with empty lines counted, is the first that is neither empty nor
-    /// a command's.
+    /// a command's. Nothing is run.
     #[error("line {0}")]
     BadLine(u64),
-    /// There was no memory for the commands.
+    /// There was no memory: for the commands, for the replies to them, or for what is told of these.
     #[error("out of memory")]
     OutOfMemory,
 }

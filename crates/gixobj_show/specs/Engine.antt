@@ -7,7 +7,7 @@ use Rattle.gixobj_base.specs.hash.hash.kind.Kind as hash
 use Rattle.gixobj_base.specs.hash.hash.object_id.ObjectId.{ObjectId}
 use Rattle.gixobj_base.specs.hash.kind.Kind.{Kind}
 use Rattle.gixobj_show.specs.Listing.{IsBadTree, IsListed, IsOfAnotherKind, RefusesListing}
-use Rattle.gixobj_show.specs.Refusal.{HasNoLooseHeader}
+use Rattle.gixobj_show.specs.Refusal.{HasNoLooseHeader, exit_status_of, line_of}
 use Rattle.gixobj_show.specs.Show.{IsShown, RefusesShow, show_line}
 use Rattle.gixobj_show.specs.Words.{AsksFor, AsksForNothing}
 use Rattle.gixobj_show.specs.declared.refusal.Refusal.{Refusal}
@@ -70,3 +70,10 @@ Unwritten unchanged _ = unchanged
 -- the line was put, or a front of it for which there was no room
 abbrev pub Told : SinkView → SinkView → List ℕ → Type 0
 Told errors errors' line = Puts errors errors' line ⊎ PutsFront errors errors' line
+
+-- there is no answer, and the status and the line on standard error say why: nothing was read where the words ask for nothing, and nothing
+-- was put on standard output, but where it failed
+abbrev pub IsRefusal : List (List ℕ) → Option (List ℕ) → Option (List ℕ) → Type 0 → SinkView → SinkView → SinkView → SinkView → Type 0 → Type 0 → ℕ → Type 0
+IsRefusal words rest rest' may_fail out out' errors errors' same_input same_output status =
+    (refusal : Refusal) × (status ≡ exit_status_of refusal) × Refuses words rest rest' may_fail out out' refusal
+    × Told errors errors' (line_of refusal) × Unread same_input refusal × Unwritten same_output refusal

@@ -1,10 +1,9 @@
 //! The program, over any reader and any two writers.
 ghost use Rattle.std.specs.Prelude.{◌≡◌, ◌≢◌, map, OnOk, IfErr, IfOk, ⊤};
 ghost use Rattle.std.specs.String.{string_bytes};
-ghost use Rattle.gixobj_show.specs.Engine.{Answered, IsTextFor, Refuses, RefusesCommandText, Told, Unread, Unwritten};
+ghost use Rattle.gixobj_show.specs.Engine.{Answered, IsRefusal, IsTextFor, Refuses, RefusesCommandText, Told, Unread, Unwritten};
 ghost use Rattle.gixobj_base.specs.Streams.{writer_view};
 ghost use Rattle.gixobj_show.specs.Refusal.{line_of, exit_status_of};
-ghost use Rattle.gixobj_show.specs.declared.refusal.Refusal.{Refusal};
 
 use crate::input::read_all;
 use crate::refusal::Refusal;
@@ -36,12 +35,11 @@ pub fn engine<R: Read, O: Write, E: Write>(
         (R.remaining input.new) (writer_view (O.contents output.old))
         (writer_view (O.contents output.new)) }
     ensures no_error { result ≡ 0 → errors.new ≡ errors.old }
-    ensures refusal { result ≢ 0 → (refusal : Refusal) × (result ≡ exit_status_of refusal)
-        × Refuses (map string_bytes words.now) (R.remaining input.old) (R.remaining input.new) ⊤
-        (writer_view (O.contents output.old)) (writer_view (O.contents output.new)) refusal
-        × Told (writer_view (E.contents errors.old)) (writer_view (E.contents errors.new))
-        (line_of refusal)
-        × Unread (input.new ≡ input.old) refusal × Unwritten (output.new ≡ output.old) refusal }
+    ensures refusal { result ≢ 0 → IsRefusal (map string_bytes words.now) (R.remaining input.old)
+        (R.remaining input.new) ⊤ (writer_view (O.contents output.old))
+        (writer_view (O.contents output.new)) (writer_view (E.contents errors.old))
+        (writer_view (E.contents errors.new)) (input.new ≡ input.old) (output.new ≡ output.old)
+        result }
 {
     run(
         alloc,
@@ -64,11 +62,10 @@ pub fn run<S: Source, O: Sink, E: Sink>(
     ensures answer { result ≡ 0 → Answered (map string_bytes words.now) (S.rest input.old)
         (S.rest input.new) (O.view output.old) (O.view output.new) }
     ensures no_error { result ≡ 0 → errors.new ≡ errors.old }
-    ensures refusal { result ≢ 0 → (refusal : Refusal) × (result ≡ exit_status_of refusal)
-        × Refuses (map string_bytes words.now) (S.rest input.old) (S.rest input.new)
-        (S.may_fail input.old) (O.view output.old) (O.view output.new) refusal
-        × Told (E.view errors.old) (E.view errors.new) (line_of refusal)
-        × Unread (input.new ≡ input.old) refusal × Unwritten (output.new ≡ output.old) refusal }
+    ensures refusal { result ≢ 0 → IsRefusal (map string_bytes words.now) (S.rest input.old)
+        (S.rest input.new) (S.may_fail input.old) (O.view output.old) (O.view output.new)
+        (E.view errors.old) (E.view errors.new) (input.new ≡ input.old) (output.new ≡ output.old)
+        result }
     ensures same_loans { (S.loan input.new ≡ S.loan input.old)
         × (O.loan output.new ≡ O.loan output.old) × (E.loan errors.new ≡ E.loan errors.old) }
 {

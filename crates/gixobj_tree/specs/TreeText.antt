@@ -1,11 +1,16 @@
 -- Trees as they are written (gitdatamodel, "trees"; git-mktree reads the same entries as lines).
-use Rattle.std.specs.Prelude.{◌≡◌, ℕ, List, [], ◌∷◌, ◌++◌, All, Contains}
+use Rattle.std.specs.Prelude.{◌≡◌, ℕ, List, [], ◌∷◌, ◌++◌, All, Contains, Err, Ok, Result, ⊤}
 use Rattle.std.specs.List.{flat_map}
 use Rattle.gixobj_tree.specs.Entries.{EntryView}
-use Rattle.gixobj_hash.specs.Hash.{id_bytes}
+use Rattle.gixobj_hash.specs.Hash.{id_bytes, id_of}
+use Rattle.gixobj_hash.specs.declared.hash.kind.Kind as hash
+use Rattle.gixobj_hash.specs.declared.hash.object_id.ObjectId.{ObjectId}
+use Rattle.gixobj_hash.specs.declared.kind.Kind.TheVariants.{Tree}
 use Rattle.gixobj_tree.specs.Mode.{mode_text}
 use Rattle.gixobj_hash.specs.Texts.{IsFree}
-use Rattle.gixobj_fields.specs.Writing.{Refused, name_with_zero_byte}
+use Rattle.gixobj_fields.specs.Writing.{Refused, RefusesNothing, name_with_zero_byte}
+use Rattle.gixobj_fields.specs.declared.encode.Error.{Error}
+use Rattle.gixobj_fields.specs.declared.encode.Error.TheVariants.{Writer}
 use Rattle.gixobj_hash.specs.Bytes.{space}
 
 -- the mode and a space
@@ -34,3 +39,17 @@ pub record RefusesTree (entries : List EntryView) (value : Refused) (parts : Lis
   pub free : All (λ e. IsFree 0 e.name) front
   pub refused : RefusesEntry entry value begun
   pub written : parts ≡ tree_text front ++ begun
+
+-- the tree can be written
+abbrev pub HasText : List EntryView → Type 0
+HasText entries = RefusesNothing (RefusesTree entries)
+
+-- the tree can't be written
+abbrev pub HasNoText : List EntryView → Type 0
+HasNoText entries = (value : Refused) × (parts : List ℕ) × RefusesTree entries value parts
+
+-- the answer to a tree is the digest of its written bytes; or there was no room for these; or else it can't be written
+abbrev pub IsAnsweredDigest : hash.Kind → List EntryView → Result ObjectId Error → Type 0
+IsAnsweredDigest hash tree (Ok id) = HasText tree × (id ≡ id_of hash Tree (tree_text tree))
+IsAnsweredDigest hash tree (Err (Writer cause)) = ⊤
+IsAnsweredDigest hash tree (Err other) = HasNoText tree

@@ -1,7 +1,7 @@
 //! Entries that are put into a directory of the empty root.
 
 use super::FIRST;
-use crate::samples::{id, id_of, path_of};
+use crate::samples::{id, path_of};
 use bstr::BString;
 use gix_object::find::Never;
 use gix_object::hash::Kind;
@@ -27,7 +27,7 @@ fn check_out(
     entries: &[Planned],
 ) -> Result<Written, CheckoutError<encode::Error>> {
     let root = Tree::empty(alloc);
-    let out = |tree: &Tree| id_of(alloc, tree);
+    let out = |tree: &Tree| tree.compute_id(alloc, Kind::Sha1);
     with_entries_at(root, Never, Kind::Sha1, prefix, entries, out)
 }
 

@@ -1,7 +1,7 @@
 //! Edits that are imported into a store.
 
 use super::{FIRST, SECOND};
-use crate::samples::{id, id_of, path_of};
+use crate::samples::{id, path_of};
 use gix_object::hash::Kind;
 use gix_object::tree::EntryKind;
 use gix_object::tree::editor::{Edit, Editor, Error, WriteError, Written};
@@ -29,7 +29,12 @@ fn import(
     editor: &mut Editor<Memory>,
     edits: Vec<Edit>,
 ) -> Result<Written, ImportError<encode::Error>> {
-    import_files(alloc, editor, edits, |tree: &Tree| id_of(alloc, tree))
+    import_files(
+        alloc,
+        editor,
+        edits,
+        |tree: &Tree| tree.compute_id(alloc, Kind::Sha1),
+    )
 }
 
 /// Whether an import makes a root of this id, and two trees go out.

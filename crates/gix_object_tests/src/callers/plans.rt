@@ -1,7 +1,7 @@
 //! An entry that is put into a stored tree, or into the empty one.
 
 use super::{FIRST, SECOND};
-use crate::samples::{id, id_of, path_of, text_of};
+use crate::samples::{id, path_of, text_of};
 use bstr::BString;
 use gix_object::find::Never;
 use gix_object::hash::{Kind as HashKind, ObjectId};
@@ -42,7 +42,7 @@ fn plan<S: Find + Drop>(
     file: &[u8],
 ) -> Result<Result<Written, PlanError<encode::Error>>, AllocError> {
     let path = path_of(alloc, names)?;
-    let out = |tree: &Tree| id_of(alloc, tree);
+    let out = |tree: &Tree| tree.compute_id(alloc, HashKind::Sha1);
     let kind = EntryKind::Blob;
     Ok(with_entry_in_stored(alloc, root, store, &path, kind, id(file), out))
 }

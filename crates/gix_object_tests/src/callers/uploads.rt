@@ -2,7 +2,7 @@
 
 use super::plans::stored;
 use super::{FIRST, SECOND};
-use crate::samples::{id, id_of, path_of};
+use crate::samples::{id, path_of};
 use gix_object::hash::Kind;
 use gix_object::tree::EntryKind;
 use gix_object::tree::editor::{Command, Edit, Editor, WriteError};
@@ -35,7 +35,7 @@ fn take(alloc: Global, editor: &mut Editor<Memory>, names: &[&str]) -> Result<()
 }
 
 fn upload(alloc: Global, editor: &mut Editor<Memory>) -> Result<Upload, WriteError<encode::Error>> {
-    let mut out = |tree: &Tree| id_of(alloc, tree);
+    let mut out = |tree: &Tree| tree.compute_id(alloc, Kind::Sha1);
     upload_of(editor, &mut out)
 }
 
@@ -116,7 +116,7 @@ fn compared(
 ) -> Result<Result<bool, CompareError>, AllocError> {
     let commands = script(alloc)?;
     let store = Memory::new(alloc);
-    let out = |tree: &Tree| id_of(alloc, tree);
+    let out = |tree: &Tree| tree.compute_id(alloc, Kind::Sha1);
     Ok(wrote_the_same(alloc, store, Kind::Sha1, commands, place, other, out))
 }
 

@@ -1,4 +1,4 @@
-//! Trees, written: names that are refused, and writers that fail.
+//! Trees, written: names that are refused, writers that fail, and ids.
 
 use super::entry;
 use crate::limited::Limited;
@@ -68,6 +68,27 @@ fn writers_that_fail(rt: HostRuntime) -> Result<(), Fail> {
         let mut writer = Limited { held, room };
         let outcome = tree.write_to(rt.alloc(), &mut writer);
         assert!(rt; writer.stopped_at(&outcome, &text, room), "{room}");
+    }
+    Ok(())
+}
+
+/// The ids that `git mktree` answers for no entries.
+const EMPTY_TREES: &[(Kind, &[u8])] = &[
+    (Kind::Sha1, b"4b825dc642cb6eb9a060e54bf8d69288fbee4904"),
+    (
+        Kind::Sha256,
+        b"6ef19b41225c5369f1c104d45d8d85efa9b057b53b14b4b9b939dd74decc5321",
+    ),
+];
+
+#[test]
+fn ids_of_the_empty_tree(rt: HostRuntime) -> Result<(), Fail> {
+    let tree = Tree::empty(rt.alloc());
+    for &(kind, hex) in EMPTY_TREES {
+        assert!(rt;
+            tree.compute_id(rt.alloc(), kind).ok() == ObjectId::from_hex(hex),
+            "{kind:?}"
+        );
     }
     Ok(())
 }

@@ -2,7 +2,6 @@
 
 use crate::runs::failing::Failing;
 use crate::runs::samples::{commands_of, editor_over};
-use crate::samples::id_of;
 use gixobj_base::Tree;
 use gixobj_base::hash::{Kind as HashKind, ObjectId};
 use gixobj_editor::editor::{Editor, WriteError};
@@ -28,7 +27,7 @@ fn id_unless_secret(alloc: Global, tree: &Tree) -> Result<ObjectId, Refusal> {
     if is_secret {
         return Err(Refusal::Secret);
     }
-    match id_of(alloc, tree) {
+    match tree.compute_id(alloc, HashKind::Sha1) {
         Ok(id) => Ok(id),
         Err(_) => Err(Refusal::Unwritten),
     }

@@ -1,7 +1,6 @@
 //! What several tests run, and how.
 
 use crate::runs::failing::Failing;
-use crate::samples::id_of;
 use gixobj_base::hash::Kind as HashKind;
 use gixobj_base::{OutOfMemory, Tree, encode};
 use gixobj_editor::editor::Editor;
@@ -47,7 +46,12 @@ pub(crate) fn run_on(
     editor: &mut Editor<Failing>,
     commands: Vec<Command>,
 ) -> Result<Vec<Reply<encode::Error>>, OutOfMemory> {
-    run(alloc, editor, commands, |tree: &Tree| id_of(alloc, tree))
+    run(
+        alloc,
+        editor,
+        commands,
+        |tree: &Tree| tree.compute_id(alloc, HashKind::Sha1),
+    )
 }
 
 /// The replies to a script.
@@ -67,7 +71,7 @@ pub(crate) fn tells(
     script: &str,
     wanted: &str,
 ) -> bool {
-    let out = |tree: &Tree| id_of(alloc, tree);
+    let out = |tree: &Tree| tree.compute_id(alloc, HashKind::Sha1);
     match edit_on(alloc, editor, script.as_bytes(), HashKind::Sha1, out) {
         Ok(text) => text.as_slice() == wanted.as_bytes(),
         Err(_) => false,

@@ -2,7 +2,8 @@
 ghost use Rattle.std.specs.Prelude.{◌≡◌, All, List};
 ghost use Rattle.std.specs.FinMap as finite;
 ghost use Rattle.gixobj_editor.specs.declared.command.Command.{Command};
-ghost use Rattle.gixobj_script.specs.Digests.{HaveOwnIds, IsAnsweredDigest};
+ghost use Rattle.gixobj_script.specs.Digests.{HaveOwnIds};
+ghost use Rattle.gixobj_tree.specs.TreeText.{IsAnsweredDigest};
 ghost use Rattle.gixobj_script.specs.Edits.{memory_means};
 ghost use Rattle.gixobj_files.specs.Files.{Table};
 ghost use Rattle.gixobj_files.specs.State.{State};

@@ -5,7 +5,7 @@ ghost use Rattle.gixobj_hash.specs.Hash.Borrowed.{borrowed_id};
 ghost use Rattle.gixobj_hash.specs.Texts.{IsFree};
 ghost use Rattle.gixobj_tree.specs.Entries.{entry_of};
 ghost use Rattle.gixobj_tree.specs.Mode.{mode_bits};
-ghost use Rattle.gixobj_tree.specs.TreeText.{RefusesEntry, entry_text};
+ghost use Rattle.gixobj_tree.specs.TreeText.{IsAnsweredDigest, RefusesEntry, entry_text};
 ghost use Rattle.gixobj_fields.specs.Streams.{Puts};
 ghost use Rattle.gixobj_fields.specs.Writing.{AddsSize, RefusesWriting};
 
@@ -14,9 +14,9 @@ use bstr::BString;
 use gixobj_fields::WriteTo;
 use gixobj_fields::encode::Error;
 use gixobj_fields::streams::{Sink, put_parts};
-use gixobj_hash::Kind;
-use gixobj_hash::hash::oid;
+use gixobj_hash::hash::{self, ObjectId, oid};
 use gixobj_hash::texts::has_byte;
+use gixobj_hash::{Kind, compute_hash};
 use std::alloc::Global;
 
 /// A tree is written as its entries in the order in which they stand, whatever that is.
@@ -49,6 +49,19 @@ impl WriteTo for Tree {
             size = size_with_owned(size, entry)?;
         }
         Some(size)
+    }
+}
+
+impl Tree {
+    /// The id of the tree, by this kind of digest: that of the tree as it is written.
+    ///
+    /// `Writer` where there was no room for the written text, and any other error where the tree can't be written.
+    pub fn compute_id(&self, alloc: Global, hash: hash::Kind) -> Result<ObjectId, Error>
+        ensures { IsAnsweredDigest hash self.now result }
+    {
+        let mut text = Vec::new(alloc);
+        self.write_to_vec(alloc, &mut text)?;
+        Ok(compute_hash(hash, Kind::Tree, &text))
     }
 }
 

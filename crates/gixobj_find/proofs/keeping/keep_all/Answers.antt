@@ -1,7 +1,7 @@
 use Rattle.std.proofs.Common.{All, subst, ◌∙◌}
 use Rattle.std.proofs.lemmas.List.{take_all}
-use Rattle.gixobj_find.specs.Keeping.{HasText}
 use Rattle.gixobj_tree.specs.Entries.{Pair}
+use Rattle.gixobj_tree.specs.TreeText.{HasText}
 use Rattle.gixobj_find.proofs.Trees.{more_have_texts, more_kept}
 use Rattle.gixobj_find.proofs.keeping.keep_all.Goals as goal
 

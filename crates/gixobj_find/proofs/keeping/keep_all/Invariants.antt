@@ -1,6 +1,7 @@
 use Rattle.std.proofs.Common.{◌≡◌, All, take}
 use Rattle.gixobj_hash.specs.declared.hash.object_id.ObjectId.{ObjectId}
-use Rattle.gixobj_find.specs.Keeping.{HasText, with_trees}
+use Rattle.gixobj_find.specs.Keeping.{with_trees}
+use Rattle.gixobj_tree.specs.TreeText.{HasText}
 use Rattle.gixobj_find.proofs.keeping.keep_all.Given as goal
 
 -- so many trees are kept

@@ -2,7 +2,7 @@ use Rattle.std.proofs.Common.{List, ap, subst, ◌∙◌}
 use Rattle.gixobj_files.specs.State.{root_alone}
 use Rattle.gixobj_find.specs.Memory.{memory_objects}
 use Rattle.gixobj_tree.specs.Entries.{EntryView}
-use Rattle.gixobj_script.specs.Digests.{IsAnsweredDigest}
+use Rattle.gixobj_tree.specs.TreeText.{IsAnsweredDigest}
 use Rattle.gixobj_script.specs.Edits.{IsNewEditor}
 use Rattle.gixobj_script.proofs.Told.{is_edit}
 use Rattle.gixobj_script.proofs.editing.edit.Goals as goal

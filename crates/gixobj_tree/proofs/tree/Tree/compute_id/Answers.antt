@@ -1,5 +1,5 @@
 use Rattle.std.proofs.Common.{rules}
-use Rattle.gixobj_script.proofs.digest.digest_of.Goals as goal
+use Rattle.gixobj_tree.proofs.tree.Tree.compute_id.Goals as goal
 
 pub returns : goal.returns
 returns c = search rules
