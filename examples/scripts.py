@@ -38,8 +38,8 @@ OK = "ok"
 class Git:
     """A new repository with ids of one kind of digest."""
 
-    def __init__(self, folder, object_format):
-        self.folder = os.path.join(folder, object_format)
+    def __init__(self, folder, object_format, name=None):
+        self.folder = os.path.join(folder, name or object_format)
         self.answer("init", "-q", f"--object-format={object_format}", self.folder, at=folder)
         texts = ["one\n", "two\n", "three\n", "four\n"]
         self.ids = [self.answer("hash-object", "--stdin", given=it) for it in texts]
@@ -312,6 +312,7 @@ class Script:
 
 # What a script is called, how many visits it has in sixteen steps, and whether it is a whole run.
 KINDS = [("edits", 0, False), ("cursors", 11, False), ("runs", 5, True)]
+MANY = [("files-after-many-edits", False, 16), ("files-after-many-visits", True, 24)]
 FEW_NAMES = ["a", "b", "c", "d"]
 NEAR_NAMES = ["a", "a-", "a.b", "a0"]
 
@@ -353,6 +354,92 @@ def ways(git, draw, number):
     return first, second
 
 
+class Numbers:
+    """Numbers that follow from a seed and look random, the same in any program."""
+
+    def __init__(self, seed):
+        self.state = seed
+
+    def draw(self):
+        self.state = (self.state * 6364136223846793005 + 1442695040888963407) % 2**64
+        return self.state >> 33
+
+    def path(self):
+        """A path of one name to three."""
+        length = self.draw() & 3
+        names = [FEW_NAMES[self.draw() & 3] for _ in range(3)]
+        return tuple(names[: length + 1])
+
+
+class ManyEdits(Script):
+    """A script of many edits, and of many visits by cursors, that are drawn by such numbers."""
+
+    def __init__(self, git, seed):
+        super().__init__(git, None, FEW_NAMES, 3, is_whole=False)
+        self.numbers = Numbers(seed)
+        self.written = ""
+
+    def edit(self, prefix=None):
+        path = self.numbers.path()
+        choice = self.numbers.draw() & 7
+        if choice < 5:
+            self.upsert(prefix, path, "blob", f"0{1 + choice}" * 20)
+        else:
+            self.remove(prefix, path, is_leaf=choice == 7)
+
+    def write(self, prefix=None):
+        super().write(prefix)
+        self.written = self.told[-1].split()[1]
+
+    def edits(self):
+        """Four writes, behind twelve edits each."""
+        for step in range(48):
+            self.edit()
+            if step % 12 == 11:
+                self.write()
+
+    def visit_at(self, prefix):
+        """Four edits by cursors at a prefix; behind them, at times, a write of it."""
+        for _ in range(4):
+            self.edit(prefix)
+        if self.numbers.draw() & 1:
+            self.write(prefix)
+
+    def begin_with(self, root):
+        """Begins anew with a written root: its entries are put in, and its directories aren't open."""
+        self.root()
+        for line in self.git.answer("ls-tree", root).splitlines():
+            _, kind, id, name = line.split()
+            self.upsert(None, (name,), kind, id)
+
+    def visits(self):
+        """Sixteen steps: a write, a visit, and that root again; a write; an edit; or, mostly, a visit."""
+        for _ in range(16):
+            number = self.numbers.draw() & 7
+            if number == 0:
+                self.write()
+                root = self.written
+                self.visit_at(self.numbers.path())
+                self.begin_with(root)
+                self.write()
+            elif number < 3:
+                self.write()
+            elif number == 3:
+                self.edit()
+            else:
+                self.visit_at(self.numbers.path()[:-1])
+
+
+def many(git, seed, has_visits):
+    """A script of many edits or visits."""
+    made = ManyEdits(git, seed)
+    if has_visits:
+        made.visits()
+    else:
+        made.edits()
+    return made
+
+
 def print_row(name, object_format, made):
     print(name, "git", object_format, made.text(), made.told_text(), sep="\t")
 
@@ -372,6 +459,10 @@ def main(folder):
             first, second = ways(git, draw, number)
             print_row(f"ways-{object_format}-{number + 1}-a", object_format, first)
             print_row(f"ways-{object_format}-{number + 1}-b", object_format, second)
+    git = Git(folder, "sha1", "many")
+    for name, has_visits, count in MANY:
+        for seed in range(1, count + 1):
+            print_row(f"{name}-{seed}", "sha1", many(git, seed, has_visits))
 
 
 if __name__ == "__main__":

@@ -4,6 +4,9 @@
 `python3 examples/told.py FOLDER TABLE` makes two repositories in a new folder, one of each object format, and writes
 the table with its last column made anew. Lines of the head, and rows that are told which line is no command, stay.
 
+A table with a column of objects before the script is one of scripts over a store of these. `git hash-object` gives
+them their ids, and says which commits and tags are read; a line `causes` is told last.
+
 Each directory that is open is its entries, and the entries that it was opened with; `git mktree --missing` names the
 tree of entries. A write hands out each directory below the written one whose tree is neither empty nor the one that it
 was opened with, and the written one.
@@ -14,11 +17,15 @@ import re
 import subprocess
 import sys
 
-MODES = {"tree": "040000", "blob": "100644", "exe": "100755", "link": "120000", "commit": "160000"}
+MODES = {"tree": "40000", "blob": "100644", "exe": "100755", "link": "120000", "commit": "160000"}
 
 
 class Refused(Exception):
-    """What is told of an edit that is refused."""
+    """What is told of an edit that is refused, and the cause of a directory that isn't found."""
+
+    def __init__(self, told, cause=None):
+        super().__init__(told)
+        self.cause = cause
 
 
 class Git:
@@ -34,14 +41,65 @@ class Git:
         own = {"PATH": os.environ["PATH"], "GIT_CONFIG_GLOBAL": os.devnull, "GIT_CONFIG_NOSYSTEM": "1"}
         return subprocess.run(["git", "-C", at, *words], input=given, env=own, capture_output=True, check=True).stdout
 
+    def object_of(self, kind, content):
+        """The id that git gives an object, whatever its bytes are."""
+        return self.answer(self.folder, content, "hash-object", "--literally", "-t", kind, "--stdin").decode().strip()
+
+    def reads(self, kind, content):
+        """Whether git reads these bytes as an object of this kind."""
+        try:
+            self.answer(self.folder, content, "hash-object", "-t", kind, "--stdin")
+        except subprocess.CalledProcessError:
+            return False
+        return True
+
     def tree_of(self, entries):
-        """The id that git gives the tree of these entries; it puts them in order."""
-        words = {"040000": b"tree", "160000": b"commit"}
+        """The id that git gives the tree of these entries, in order."""
+        if any(mode not in MODES.values() for mode, _ in entries.values()):
+            names = sorted(entries, key=lambda it: in_order(it, entries[it][0]))
+            text = b"".join(
+                b"%s %s\0%s" % (entries[it][0].encode(), it, bytes.fromhex(entries[it][1])) for it in names
+            )
+            return self.object_of("tree", text)
+        words = {"40000": b"tree", "160000": b"commit"}
         lines = [
             b"%s %s %s\t%s\0" % (mode.encode(), words.get(mode, b"blob"), id.encode(), name)
             for name, (mode, id) in entries.items()
         ]
         return self.answer(self.folder, b"".join(lines), "mktree", "-z", "--missing").decode().strip()
+
+
+def is_directory(mode):
+    return int(mode, 8) & 0o170000 == 0o040000
+
+
+def in_order(name, mode):
+    """What names are put in order by."""
+    return name + (b"/" if is_directory(mode) else b"")
+
+
+def mode_of(digits):
+    """The mode of these digits, as it is written: 16 bits of it, and a zero before a directory's."""
+    return digits if digits == "040000" else f"{int(digits, 8) & 0xffff:o}"
+
+
+def entries_of(text, size):
+    """The name, the mode and the id of each entry of a tree's text; none where it isn't read. An id has so many bytes."""
+    entries = []
+    while text:
+        it = re.match(rb"([0-7]{1,7}) ([^\0]*)\0(.{%d})" % size, text, re.DOTALL)
+        if not it:
+            return None
+        entries.append((it[2], mode_of(it[1].decode()), it[3].hex()))
+        text = text[it.end() :]
+    return entries
+
+
+def is_well_formed(entries):
+    names = [name for name, _, _ in entries]
+    places = [in_order(name, mode) for name, mode, _ in entries]
+    are_names = all(name and b"/" not in name for name in names)
+    return are_names and len(set(names)) == len(names) and places == sorted(places)
 
 
 class Directory:
@@ -53,7 +111,7 @@ class Directory:
         self.inner = {}
 
     def is_tree(self, name):
-        return name in self.entries and self.entries[name][0] == MODES["tree"]
+        return name in self.entries and is_directory(self.entries[name][0])
 
     def put(self, name, entry):
         self.entries[name] = entry
@@ -65,13 +123,30 @@ class Directory:
 
 
 class Editor:
-    """An editor of the empty root, over a store that has the trees that were written."""
+    """An editor of the empty root, over a store that has some objects, and the trees that were written."""
 
-    def __init__(self, git):
+    def __init__(self, git, objects=()):
         self.git = git
         self.lookups = 0
         self.stored = {}
+        self.objects = {git.object_of(kind, content): (kind, content) for kind, content in objects}
         self.root = Directory({})
+
+    def found(self, id):
+        """The entries of a tree in the store."""
+        if id in self.stored:
+            return self.stored[id]
+        if id not in self.objects:
+            raise Refused("refused 3", "NotFound")
+        kind, content = self.objects[id]
+        entries = entries_of(content, len(id) // 2) if kind == "tree" else []
+        if entries is None or (kind in ("commit", "tag") and not self.git.reads(kind, content)):
+            raise Refused("refused 3", "Decode")
+        if kind != "tree":
+            raise Refused("refused 3", "ObjectKind")
+        if not is_well_formed(entries):
+            raise Refused("refused 5")
+        return {name: (mode, id) for name, mode, id in entries}
 
     def opened(self, directory, name):
         """The directory of this name in an open one, which has a tree's entry of it; it is open then."""
@@ -81,9 +156,7 @@ class Editor:
         found = {}
         if id not in (self.git.null, self.git.empty_tree):
             self.lookups += 1
-            if id not in self.stored:
-                raise Refused("refused 3")
-            found = self.stored[id]
+            found = self.found(id)
         directory.inner[name] = Directory(found)
         return directory.inner[name]
 
@@ -206,20 +279,30 @@ def command(editor, line):
     return edit(editor, prefix, line)
 
 
-def told_lines(git, script):
-    """What is told of a script, line by line: of each command, and last of the lookups."""
-    editor = Editor(git)
+def told_lines(git, script, objects=None):
+    """What is told of a script, line by line: of each command, and last of the lookups, and of causes over objects."""
+    editor = Editor(git, objects or ())
+    causes = ["causes"]
     for line in filter(None, script.split(b"\n")):
         try:
             yield command(editor, line)
         except Refused as refusal:
+            causes += [refusal.cause] if refusal.cause else []
             yield str(refusal)
     yield f"lookups {editor.lookups}"
+    if objects is not None:
+        yield " ".join(causes)
 
 
-def told(git, script):
+def told(git, script, objects=None):
     """What is told of a script, as a table has it."""
-    return "".join(f"{line}\\n" for line in told_lines(git, unspelled(script)))
+    return "".join(f"{line}\\n" for line in told_lines(git, unspelled(script), objects))
+
+
+def objects_of(text):
+    """The objects of a column: of each the word of its kind, and behind an 'x' its bytes in hex."""
+    words = [] if text == "-" else text.split(" ")
+    return [(kind, bytes.fromhex(content[1:])) for kind, content in zip(words[::2], words[1::2])]
 
 
 def main(folder, table):
@@ -228,8 +311,9 @@ def main(folder, table):
     gits = {it: Git(folder, it) for it in ("sha1", "sha256")}
     for row in open(table, encoding="ascii").read().splitlines():
         columns = row.split("\t")
-        if not row.startswith("#") and not columns[4].startswith("line "):
-            columns[4] = told(gits[columns[2]], columns[3])
+        if not row.startswith("#") and not columns[-1].startswith("line "):
+            objects = objects_of(columns[3]) if len(columns) == 6 else None
+            columns[-1] = told(gits[columns[2]], columns[-2], objects)
         print(*columns, sep="\t")
 
 

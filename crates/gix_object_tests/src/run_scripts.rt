@@ -1,16 +1,50 @@
 //! Runs of a thousand commands: each tree that a write names has the files of a plain list that went through the same.
 
-use crate::cursor_scripts::{assure, below, joined};
 use crate::listing::{Listed, files_of};
-use crate::scripts::{Numbers, are_same, begins, drawn_path, forget, put};
+use crate::plain_lists::{are_same, assure, begins, below, forget, joined, put};
+use crate::samples::{id_of, tree_of};
 use bstr::BString;
 use gix_object::hash::{Kind as HashKind, ObjectId};
+use gix_object::tree::EntryKind;
 use gix_object::tree::editor::{Command, Edit, EditReply, Editor, Error, Reply, Written, run};
-use gix_object::tree::{Entry, EntryKind};
-use gix_object::{Keep, Tree, encode};
+use gix_object::{Keep, OutOfMemory, Tree, encode};
 use gixobj_find::Memory;
 use std::alloc::{AllocError, Global};
 use std::test::Fail;
+
+/// Numbers that follow from a seed and look random.
+#[derive(Drop)]
+struct Numbers {
+    state: u64,
+}
+
+impl Numbers {
+    fn draw(&mut self) -> u64 {
+        self.state = self
+            .state
+            .wrapping_mul(6364136223846793005)
+            .wrapping_add(1442695040888963407);
+        self.state >> 33
+    }
+}
+
+/// A path of one name to three, each of four.
+fn drawn_path(alloc: Global, numbers: &mut Numbers) -> Result<Vec<BString>, AllocError> {
+    let mut path = Vec::new(alloc);
+    let length = numbers.draw() & 3;
+    for place in 0..3u64 {
+        let name = match numbers.draw() & 3 {
+            0 => b"a",
+            1 => b"b",
+            2 => b"c",
+            _ => b"d",
+        };
+        if place <= length {
+            path.push(BString::from_slice(alloc, name.as_slice())?)?;
+        }
+    }
+    Ok(path)
+}
 
 /// What the commands so far came to.
 #[derive(Drop)]
@@ -33,23 +67,13 @@ struct Stored {
 /// A tree of two entries, in this order.
 fn pair_of(
     alloc: Global,
-    names: [&[u8]; 2],
+    names: [&'static [u8]; 2],
     kind: EntryKind,
     id: ObjectId,
 ) -> Result<Tree, AllocError> {
     let [first, second] = names;
-    let mut tree = Tree::empty(alloc);
-    tree.entries.push(Entry {
-        mode: kind.into(),
-        filename: BString::from_slice(alloc, first)?,
-        oid: id,
-    })?;
-    tree.entries.push(Entry {
-        mode: EntryKind::Blob.into(),
-        filename: BString::from_slice(alloc, second)?,
-        oid: ObjectId::Sha1([9; 20]),
-    })?;
-    Ok(tree)
+    let file = ObjectId::Sha1([9; 20]);
+    tree_of(alloc, &[(kind, first, id), (EntryKind::Blob, second, file)])
 }
 
 /// A root: mostly one with a stored directory and a file, at times the empty one, and at times that whose entries are
@@ -300,6 +324,21 @@ fn store_tree(
     Ok(id)
 }
 
+/// The replies to commands that are run on the empty root.
+fn replies_to(
+    alloc: Global,
+    store: Memory,
+    commands: Vec<Command>,
+) -> Result<Vec<Reply<encode::Error>>, OutOfMemory> {
+    let mut editor = Editor::new(Tree::empty(alloc), store, HashKind::Sha1);
+    run(
+        alloc,
+        &mut editor,
+        commands,
+        |tree: &Tree| id_of(alloc, tree),
+    )
+}
+
 /// Whether a run of a thousand commands gets replies that fit: of each write of it the tree that is named has the files
 /// of the list.
 fn agrees(alloc: Global, seed: u64) -> Result<bool, Fail> {
@@ -313,10 +352,7 @@ fn agrees(alloc: Global, seed: u64) -> Result<bool, Fail> {
     let stored = Stored { inner, outer };
     let commands = drawn_commands(alloc, &mut Numbers { state: seed }, stored, 1000)?;
     let same_commands = drawn_commands(alloc, &mut Numbers { state: seed }, stored, 1000)?;
-    let mut editor = Editor::new(Tree::empty(alloc), store, HashKind::Sha1);
-    let replies = run(alloc, &mut editor, commands, |tree: &Tree| {
-        tree.compute_id(alloc, HashKind::Sha1)
-    })?;
+    let replies = replies_to(alloc, store, commands)?;
     let mut listing = Listing {
         files: Vec::new(alloc),
         table,

@@ -6,6 +6,7 @@ use crate::streams::words_in;
 use gixobj_base_tests::limited::{Limited, Stepping};
 use gixobj_script::engine::engine;
 use std::alloc::{AllocError, Global};
+use std::io::{Read, Write};
 use std::test::Fail;
 
 const NESTED: &str = "upsert blob 83baae61804e65cc73a7201a7252750c76066a30 bak/test.txt
@@ -66,13 +67,24 @@ lookups 0
 
 const USAGE: &str = "usage: gixobj show|tree|edit [sha256]\n";
 
+/// The status of a run of the program, by the words of a line.
+fn status_of<R: Read, O: Write, E: Write>(
+    alloc: Global,
+    line: &str,
+    input: &mut R,
+    output: &mut O,
+    errors: &mut E,
+) -> Result<u8, AllocError> {
+    let words = words_in(alloc, line)?;
+    Ok(engine(alloc, words.as_slice(), input, output, errors))
+}
+
 /// What the program answers of an input: the status, and what it writes on its two outputs, which have room for it.
 fn answer_of(alloc: Global, line: &str, input: &str) -> Result<(u8, Vec<u8>, Vec<u8>), AllocError> {
-    let words = words_in(alloc, line)?;
     let mut rest = input.as_bytes();
     let mut told = Vec::with_capacity(alloc, 1024)?;
     let mut refused = Vec::with_capacity(alloc, 1024)?;
-    let status = engine(alloc, words.as_slice(), &mut rest, &mut told, &mut refused);
+    let status = status_of(alloc, line, &mut rest, &mut told, &mut refused)?;
     Ok((status, told, refused))
 }
 
@@ -82,23 +94,12 @@ fn tells(alloc: Global, line: &str, input: &str, told: &str) -> Result<bool, All
     Ok(status == 0 && output.as_slice() == told.as_bytes() && errors.is_empty())
 }
 
-/// Three files, of which one is in a directory.
-#[test]
-fn edit_nested(rt: HostRuntime) -> Result<(), Fail> {
-    assert!(rt; tells(rt.alloc(), "edit", NESTED, NESTED_LINES)?);
-    Ok(())
-}
-
-/// A directory is no leaf, and is removed as a whole.
-#[test]
-fn edit_leaf(rt: HostRuntime) -> Result<(), Fail> {
-    assert!(rt; tells(rt.alloc(), "edit", LEAF, LEAF_LINES)?);
-    Ok(())
-}
-
-/// Words, inputs, and what is told.
+/// Words, inputs, and what is told: three files, of which one is in a directory (`edit_nested`); a directory is no leaf, and
+/// is removed as a whole (`edit_leaf`); edits before and after writes; and others.
 fn inputs() -> &'static [(&'static str, &'static str, &'static str)] {
     &[
+        ("edit", NESTED, NESTED_LINES),
+        ("edit", LEAF, LEAF_LINES),
         ("edit", WRITES, WRITES_LINES),
         ("edit", "", "lookups 0\n"),
         ("edit sha256", "root\nwrite", SHA256_LINES),
@@ -118,23 +119,25 @@ fn inputs_and_what_is_told(rt: HostRuntime) -> Result<(), Fail> {
     Ok(())
 }
 
+/// Words, inputs, and what comes of each: the status, and what is told on standard error.
+const FAULTS: &[(&str, &str, u8, &str)] = &[
+    ("edit", "write\nfoo", 1, "gixobj: line 2\n"),
+    (
+        "edit",
+        "\n\nwrite\nupsert blob 00 a\n",
+        1,
+        "gixobj: line 4\n",
+    ),
+    ("edit sha1", "write\n", 2, USAGE),
+    ("edit sha256 sha256", "write\n", 2, USAGE),
+    ("tree", "blob 0\0", 1, "gixobj: not a tree\n"),
+    ("", "write\n", 2, USAGE),
+];
+
 #[test]
 fn faults(rt: HostRuntime) -> Result<(), Fail> {
     let alloc = rt.alloc();
-    let runs: [(&str, &str, u8, &str); 6] = [
-        ("edit", "write\nfoo", 1, "gixobj: line 2\n"),
-        (
-            "edit",
-            "\n\nwrite\nupsert blob 00 a\n",
-            1,
-            "gixobj: line 4\n",
-        ),
-        ("edit sha1", "write\n", 2, USAGE),
-        ("edit sha256 sha256", "write\n", 2, USAGE),
-        ("tree", "blob 0\0", 1, "gixobj: not a tree\n"),
-        ("", "write\n", 2, USAGE),
-    ];
-    for (line, input, status, refused) in runs {
+    for &(line, input, status, refused) in FAULTS {
         let got = answer_of(alloc, line, input)?;
         assert_eq!(rt; got.0, status, "{line} {input}");
         assert!(rt; got.1.is_empty(), "{line} {input}");
@@ -147,7 +150,6 @@ fn faults(rt: HostRuntime) -> Result<(), Fail> {
 #[test]
 fn input_that_fails(rt: HostRuntime) -> Result<(), Fail> {
     let alloc = rt.alloc();
-    let words = words_in(alloc, "edit")?;
     let mut input = Stepping {
         rest: NESTED.as_bytes(),
         step: 1,
@@ -155,7 +157,7 @@ fn input_that_fails(rt: HostRuntime) -> Result<(), Fail> {
     };
     let mut told = Vec::new(alloc);
     let mut refused = Vec::new(alloc);
-    let status = engine(alloc, words.as_slice(), &mut input, &mut told, &mut refused);
+    let status = status_of(alloc, "edit", &mut input, &mut told, &mut refused)?;
     assert_eq!(rt; status, 1);
     assert!(rt; told.is_empty());
     assert_eq!(rt; refused.as_slice(), b"gixobj: input failed\n".as_slice());
@@ -165,19 +167,12 @@ fn input_that_fails(rt: HostRuntime) -> Result<(), Fail> {
 #[test]
 fn output_that_fails(rt: HostRuntime) -> Result<(), Fail> {
     let alloc = rt.alloc();
-    let words = words_in(alloc, "edit")?;
     for (room, front) in [(0, ""), (5, "ok\nok")] {
         let held = Vec::new(alloc);
         let mut narrow = Limited { held, room };
         let mut refused = Vec::new(alloc);
         let mut rest = NESTED.as_bytes();
-        let status = engine(
-            alloc,
-            words.as_slice(),
-            &mut rest,
-            &mut narrow,
-            &mut refused,
-        );
+        let status = status_of(alloc, "edit", &mut rest, &mut narrow, &mut refused)?;
         assert_eq!(rt; status, 1);
         assert_eq!(rt; narrow.held.as_slice(), front.as_bytes());
         assert_eq!(rt; refused.as_slice(), b"gixobj: output failed\n".as_slice());

@@ -61,12 +61,13 @@ fn is_refused(
     Ok(is_refusal(put, number) && is_refusal(taken, number) && is_refusal(left, number))
 }
 
-/// An empty name, a directory that the store doesn't have, and a directory that is no leaf.
+/// An empty name, one with a slash, a directory that the store doesn't have, and a directory that is no leaf.
 #[test]
 fn refused_by_an_editor(rt: HostRuntime) -> Result<(), Fail> {
     let alloc = rt.alloc();
     let mut editor = of_directories(alloc)?;
     assert!(rt; is_refused(alloc, &mut editor, b"d a ", 1)?);
+    assert!(rt; is_refused(alloc, &mut editor, b"d a/b", 2)?);
     assert!(rt; is_refused(alloc, &mut editor, b"d u x", 3)?);
     let directory = path_of(alloc, b"d a")?;
     assert!(rt; is_refusal(editor.remove_leaf(&directory).err(), 4));
@@ -93,8 +94,9 @@ fn all_are_refused(alloc: Global, editor: &mut Editor<Memory>) -> Result<bool, F
     let (prefix, directory) = (path_of(alloc, b"d")?, path_of(alloc, b"a")?);
     let mut cursor = editor.cursor_at(&prefix)?;
     let names = is_refused_by(alloc, &mut cursor, b"a ", 1)?;
+    let slash = is_refused_by(alloc, &mut cursor, b"a/b", 2)?;
     let unknown = is_refused_by(alloc, &mut cursor, b"u x", 3)?;
-    Ok(names && unknown && is_refusal(cursor.remove_leaf(&directory).err(), 4))
+    Ok(names && slash && unknown && is_refusal(cursor.remove_leaf(&directory).err(), 4))
 }
 
 #[test]

@@ -8,7 +8,7 @@ mod shown;
 use crate::streams::words_in;
 use gixobj_show::engine::engine;
 use std::alloc::{AllocError, Global};
-use std::io::Read;
+use std::io::{Read, Write};
 
 /// The content of `hello.txt`.
 pub(crate) const HELLO: &[u8] = b"blob 6\x00hello\n";
@@ -60,9 +60,20 @@ pub(crate) fn answer_from<R: Read>(
     line: &str,
     reader: &mut R,
 ) -> Result<(u8, Vec<u8>, Vec<u8>), AllocError> {
-    let words = words_in(alloc, line)?;
     let mut answered = Vec::new(alloc);
     let mut refused = Vec::new(alloc);
-    let status = engine(alloc, words.as_slice(), reader, &mut answered, &mut refused);
+    let status = status_of(alloc, line, reader, &mut answered, &mut refused)?;
     Ok((status, answered, refused))
+}
+
+/// The status of a run of the program, by the words of a line.
+pub(crate) fn status_of<R: Read, O: Write, E: Write>(
+    alloc: Global,
+    line: &str,
+    input: &mut R,
+    output: &mut O,
+    errors: &mut E,
+) -> Result<u8, AllocError> {
+    let words = words_in(alloc, line)?;
+    Ok(engine(alloc, words.as_slice(), input, output, errors))
 }

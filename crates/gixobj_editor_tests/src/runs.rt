@@ -1,13 +1,12 @@
 //! Tests of whole runs: scripts and lists of commands, over a store that counts what it is asked for, and refuses; and
 //! of what is told of them.
 
-mod failing;
+pub(crate) mod failing;
 mod growths;
 mod many_edits;
 mod refused_halfway;
 mod refused_out;
-mod samples;
-mod ten_lines;
+pub(crate) mod samples;
 mod told_answers;
 mod unkept;
 mod whole_runs;

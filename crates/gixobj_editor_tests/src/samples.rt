@@ -6,6 +6,7 @@ use gixobj_base::tree::{Entry, EntryKind};
 use gixobj_base::{Kind, Tree, WriteTo, encode};
 use gixobj_editor::editor::{Editor, Error, Written};
 use gixobj_find::Memory;
+use gixobj_script::edit_on;
 use std::alloc::{AllocError, Global};
 
 pub(crate) const FILE: ObjectId = ObjectId::Sha1([1; 20]);
@@ -115,6 +116,12 @@ pub(crate) fn upserted(
 ) -> Result<u8, AllocError> {
     let path = path_of(alloc, path)?;
     Ok(number(&editor.try_upsert(&path, EntryKind::Blob, id)))
+}
+
+/// Whether a script is run on an editor.
+pub(crate) fn is_run(alloc: Global, editor: &mut Editor<Memory>, script: &str) -> bool {
+    let out = |tree: &Tree| id_of(alloc, tree);
+    edit_on(alloc, editor, script.as_bytes(), HashKind::Sha1, out).is_ok()
 }
 
 /// The kind and the id of an entry.

@@ -1,12 +1,11 @@
 //! Writes over directories that are as they were when they were opened: these keep the ids of their entries and aren't
 //! handed out. Ids are those that `git mktree --missing` answers.
 
-use crate::cursor_calls::upserted_by;
-use crate::samples::{FILE, editor_of, path_of, stored_file, tree_of, upserted, went_out};
+use crate::samples::{FILE, editor_of, path_of, stored_file, tree_of, upserted, went_out, is_run};
 use bstr::BString;
+use gixobj_base::Tree;
 use gixobj_base::hash::{Kind as HashKind, ObjectId};
 use gixobj_base::tree::{Entry, EntryKind};
-use gixobj_base::{Kind, Tree};
 use gixobj_editor::editor::{Editor, Written};
 use gixobj_find::{Keep, Memory};
 use std::alloc::Global;
@@ -39,108 +38,162 @@ const A_WITH_D: &[u8] = b"cd6ccc3dd14a018ceba3ecf6f471bc693c0f31d3";
 
 const ROOT_WITH_D: &[u8] = b"9e93a904d3f6460c336f65230b296e4a27948f8e";
 
-/// Edits of the one file `a/b/c`: what is put in, and then taken out; the directories that are then unchanged, and the
-/// trees that go out.
-struct Edits {
-    put: &'static [&'static [u8]],
-    taken: &'static [u8],
-    saved: usize,
-    ids: &'static [&'static [u8]],
-}
-
-const EDITS: &[Edits] = &[
-    Edits {
-        put: &[b"a b d"],
-        taken: b"a b d",
-        saved: 2,
-        ids: &[ROOT],
-    },
-    Edits {
-        put: &[b"a b c", b"a d"],
-        taken: b"a b none",
-        saved: 1,
-        ids: &[A_WITH_D, ROOT_WITH_D],
-    },
-    Edits {
-        put: &[],
-        taken: b"a none",
-        saved: 1,
-        ids: &[ROOT],
-    },
-    Edits {
-        put: &[b"q"],
-        taken: b"a b c",
-        saved: 0,
-        ids: &[b"0985bd2d2ac8c9c494f52be5d806e790f4fca759"],
-    },
-    Edits {
-        put: &[b"a b d"],
-        taken: b"a b c d",
-        saved: 0,
-        ids: &[
-            b"913a84bc4f5451d6f909bed48c12f6c8f0f111fd",
-            b"7206ab6af4e031c645838a14c5f30885db43df5e",
-            b"2025f53f15ab6f7cfc8e9b8c993ff8dc56aa50aa",
-        ],
-    },
-];
-
-/// These edits.
-fn all_edits() -> &'static [Edits] {
-    EDITS
-}
-
-/// Whether a write behind these edits is as they say.
-fn are_written(alloc: Global, edits: &Edits) -> Result<bool, Fail> {
-    let mut editor = stored_file(alloc, &[b"a", b"b", b"c"])?;
-    for path in edits.put {
-        upserted(alloc, &mut editor, path, FILE)?;
-    }
-    editor.try_remove(&path_of(alloc, edits.taken)?)?;
-    Ok(saves(alloc, &mut editor, edits.saved, edits.ids))
-}
-
-#[test]
-fn files_put_in_and_taken_out(rt: HostRuntime) -> Result<(), Fail> {
-    for edits in all_edits() {
-        assert!(rt; are_written(rt.alloc(), edits)?, "{}", edits.saved);
-    }
-    Ok(())
-}
-
-/// Whether a cursor at the directory `a` puts a file in, and hands out its tree alone, with this id, and so many
-/// directories below it unchanged.
-fn saves_by_a_cursor(
-    alloc: Global,
-    editor: &mut Editor<Memory>,
-    path: &[u8],
-    saved: usize,
-    id: &[u8],
-) -> Result<bool, Fail> {
-    let directory = path_of(alloc, b"a")?;
-    let mut cursor = editor.cursor_at(&directory)?;
-    upserted_by(alloc, &mut cursor, path)?;
-    match cursor.write(|tree: &Tree| tree.compute_id(alloc, HashKind::Sha1)) {
-        Ok(written) => Ok(written.saved == saved && went_out(alloc, &written, &[id])),
-        Err(_) => Ok(false),
-    }
-}
-
 /// The tree of the files `b` and `c`, and the root that has it at `a`.
 const B_AND_C: &[u8] = b"902b8b41da66fef3bfdbf578a9b45304b9114c0e";
 
 const ROOT_OF_BOTH: &[u8] = b"d79ed5c1e2ff97a59beb0fc1a1b79b68aa0be74a";
 
-/// The directory of a cursor is compared with what it was opened with also behind a write by the cursor.
+/// What a write hands out, and how many directories it counts that are unchanged.
+struct Saved {
+    saved: usize,
+    ids: &'static [&'static [u8]],
+}
+
+/// An editor of one stored file, and a script. Behind it a cursor at the directory `a` writes, where that is told, and then
+/// the editor.
+struct Row {
+    name: &'static str,
+    stored: &'static [&'static [u8]],
+    script: &'static str,
+    by_a_cursor: Option<Saved>,
+    by_the_editor: Saved,
+}
+
+const ROWS: &[Row] = &[
+    Row {
+        name: "files-put-in-and-taken-out-1",
+        stored: &[b"a", b"b", b"c"],
+        script: "upsert blob 0101010101010101010101010101010101010101 a/b/d
+remove a/b/d
+",
+        by_a_cursor: None,
+        by_the_editor: Saved {
+            saved: 2,
+            ids: &[ROOT],
+        },
+    },
+    Row {
+        name: "files-put-in-and-taken-out-2",
+        stored: &[b"a", b"b", b"c"],
+        script: "upsert blob 0101010101010101010101010101010101010101 a/b/c
+upsert blob 0101010101010101010101010101010101010101 a/d
+remove a/b/none
+",
+        by_a_cursor: None,
+        by_the_editor: Saved {
+            saved: 1,
+            ids: &[A_WITH_D, ROOT_WITH_D],
+        },
+    },
+    Row {
+        name: "files-put-in-and-taken-out-3",
+        stored: &[b"a", b"b", b"c"],
+        script: "remove a/none
+",
+        by_a_cursor: None,
+        by_the_editor: Saved {
+            saved: 1,
+            ids: &[ROOT],
+        },
+    },
+    Row {
+        name: "files-put-in-and-taken-out-4",
+        stored: &[b"a", b"b", b"c"],
+        script: "upsert blob 0101010101010101010101010101010101010101 q
+remove a/b/c
+",
+        by_a_cursor: None,
+        by_the_editor: Saved {
+            saved: 0,
+            ids: &[b"0985bd2d2ac8c9c494f52be5d806e790f4fca759"],
+        },
+    },
+    Row {
+        name: "files-put-in-and-taken-out-5",
+        stored: &[b"a", b"b", b"c"],
+        script: "upsert blob 0101010101010101010101010101010101010101 a/b/d
+remove a/b/c/d
+",
+        by_a_cursor: None,
+        by_the_editor: Saved {
+            saved: 0,
+            ids: &[
+                b"913a84bc4f5451d6f909bed48c12f6c8f0f111fd",
+                b"7206ab6af4e031c645838a14c5f30885db43df5e",
+                b"2025f53f15ab6f7cfc8e9b8c993ff8dc56aa50aa",
+            ],
+        },
+    },
+    // The directory of a cursor is compared with what it was opened with also behind a write by the cursor.
+    Row {
+        name: "a-cursors-write-and-then-the-root-1",
+        stored: &[b"a", b"b", b"c"],
+        script: "at a upsert blob 0101010101010101010101010101010101010101 b/c
+",
+        by_a_cursor: Some(Saved {
+            saved: 1,
+            ids: &[A],
+        }),
+        by_the_editor: Saved {
+            saved: 1,
+            ids: &[ROOT],
+        },
+    },
+    Row {
+        name: "a-cursors-write-and-then-the-root-2",
+        stored: &[b"a", b"b"],
+        script: "at a upsert blob 0101010101010101010101010101010101010101 c
+",
+        by_a_cursor: Some(Saved {
+            saved: 0,
+            ids: &[B_AND_C],
+        }),
+        by_the_editor: Saved {
+            saved: 0,
+            ids: &[B_AND_C, ROOT_OF_BOTH],
+        },
+    },
+];
+
+/// These rows.
+fn rows() -> &'static [Row] {
+    ROWS
+}
+
+/// Whether a write by a cursor at the directory `a` hands out trees of these ids, and counts so many unchanged directories.
+fn saves_by_a_cursor(
+    alloc: Global,
+    editor: &mut Editor<Memory>,
+    wanted: &Saved,
+) -> Result<bool, Fail> {
+    let directory = path_of(alloc, b"a")?;
+    let mut cursor = editor.cursor_at(&directory)?;
+    match cursor.write(|tree: &Tree| id_of(alloc, tree)) {
+        Ok(written) => Ok(written.saved == wanted.saved && went_out(alloc, &written, wanted.ids)),
+        Err(_) => Ok(false),
+    }
+}
+
+/// Whether the writes behind the script of a row are as it says.
+fn are_written(alloc: Global, row: &Row) -> Result<bool, Fail> {
+    let mut editor = stored_file(alloc, row.stored)?;
+    if !is_run(alloc, &mut editor, row.script) {
+        return Ok(false);
+    }
+    if let Some(wanted) = &row.by_a_cursor {
+        if !saves_by_a_cursor(alloc, &mut editor, wanted)? {
+            return Ok(false);
+        }
+    }
+    let wanted = &row.by_the_editor;
+    Ok(saves(alloc, &mut editor, wanted.saved, wanted.ids))
+}
+
 #[test]
-fn a_cursors_write_and_then_the_root(rt: HostRuntime) -> Result<(), Fail> {
-    let alloc = rt.alloc();
-    let mut editor = stored_file(alloc, &[b"a", b"b", b"c"])?;
-    assert!(rt; saves_by_a_cursor(alloc, &mut editor, b"b c", 1, A)?);
-    assert!(rt; saves(alloc, &mut editor, 1, &[ROOT]));
-    let mut editor = stored_file(alloc, &[b"a", b"b"])?;
-    assert!(rt; saves_by_a_cursor(alloc, &mut editor, b"c", 0, B_AND_C)?);
-    assert!(rt; saves(alloc, &mut editor, 0, &[B_AND_C, ROOT_OF_BOTH]));
+fn writes_and_what_they_save(rt: HostRuntime) -> Result<(), Fail> {
+    for row in rows() {
+        assert!(rt; are_written(rt.alloc(), row)?, "{}", row.name);
+    }
     Ok(())
 }
 
@@ -224,21 +277,5 @@ fn a_tree_by_another_id_than_its_digest(rt: HostRuntime) -> Result<(), Fail> {
     assert!(rt; saves_the_same(alloc, &mut editor, 1, &[BY_NO_DIGEST]));
     let mut editor = over_no_digest(alloc, Some(ObjectId::null(HashKind::Sha1)))?;
     assert!(rt; saves_the_same(alloc, &mut editor, 0, BY_DIGESTS));
-    Ok(())
-}
-
-/// The root with the tree at `a` that `git hash-object -t tree --literally` names of the text below.
-const OF_ODD_DIGITS: &[u8] = b"f4900b8f0b594b072f6be55705b499204eba9843";
-
-/// A tree whose text has other digits of a mode than git writes: unchanged, it isn't written anew.
-#[test]
-fn a_text_that_is_not_written_anew(rt: HostRuntime) -> Result<(), Fail> {
-    let alloc = rt.alloc();
-    let mut store = Memory::new(alloc);
-    let mut text = Vec::from_slice(alloc, b"1100644 b\0")?;
-    text.extend_from_slice(FILE.as_bytes())?;
-    let id = store.insert(Kind::Tree, HashKind::Sha1, &text)?;
-    let mut editor = editor_of(tree_of(alloc, EntryKind::Tree, b"a", id)?, store)?;
-    assert!(rt; saves_the_same(alloc, &mut editor, 1, &[OF_ODD_DIGITS]));
     Ok(())
 }

@@ -4,82 +4,107 @@ use crate::failing::Failing;
 use crate::samples::{KINDS, id_of_bytes, text_of};
 use gix_object::find::{existing, existing_iter, existing_object};
 use gix_object::hash::{Kind as HashKind, ObjectId};
-use gix_object::{FindExt, HeaderExt, Kind, OutOfMemory, Store};
+use gix_object::{FindExt, HeaderExt, Kind, OutOfMemory, Store, decode, find};
 use gixobj_find::Memory;
 use std::alloc::Global;
 use std::test::Fail;
 
 /// What a lookup came to.
 #[derive(Clone, Copy, Debug, PartialEq, Eq)]
-enum Answer {
+pub(crate) enum Answer {
     Found,
     Failed,
+    WithoutMemory,
     Damaged,
     Missing,
     OfKind(Kind, Kind),
+    /// A refusal that has another id than the one that was asked for.
+    OfAnotherId,
 }
 
-/// What a lookup that reads the object came to.
-fn read<T: Drop>(found: Result<T, existing_object::Error>) -> Answer {
-    match found {
-        Ok(_) => Answer::Found,
-        Err(existing_object::Error::Find(_)) => Answer::Failed,
-        Err(existing_object::Error::Decode { .. }) => Answer::Damaged,
-        Err(existing_object::Error::NotFound { .. }) => Answer::Missing,
-        Err(
-            existing_object::Error::ObjectKind {
-                actual,
-                expected,
-                ..
-            },
-        ) => Answer::OfKind(actual, expected),
+/// An answer whose refusal has the first id, where the second was asked for.
+fn at(told: ObjectId, asked: ObjectId, answer: Answer) -> Answer {
+    match told == asked {
+        true => answer,
+        false => Answer::OfAnotherId,
     }
 }
 
-/// What a lookup of a reader came to.
-fn told<T: Drop>(found: Result<T, existing_iter::Error>) -> Answer {
+/// What a lookup at this id that reads the object came to.
+fn read<T: Drop>(found: Result<T, existing_object::Error>, id: ObjectId) -> Answer {
     match found {
         Ok(_) => Answer::Found,
-        Err(existing_iter::Error::Find(_)) => Answer::Failed,
-        Err(existing_iter::Error::NotFound { .. }) => Answer::Missing,
+        Err(existing_object::Error::Find(find::Error::OutOfMemory)) => Answer::WithoutMemory,
+        Err(existing_object::Error::Find(_)) => Answer::Failed,
         Err(
-            existing_iter::Error::ObjectKind {
-                actual,
-                expected,
+            existing_object::Error::Decode {
+                source: decode::Error::OutOfMemory,
                 ..
             },
-        ) => Answer::OfKind(actual, expected),
+        ) => Answer::WithoutMemory,
+        Err(existing_object::Error::Decode { oid, .. }) => at(oid, id, Answer::Damaged),
+        Err(existing_object::Error::NotFound { oid }) => at(oid, id, Answer::Missing),
+        Err(
+            existing_object::Error::ObjectKind {
+                oid,
+                actual,
+                expected,
+            },
+        ) => at(oid, id, Answer::OfKind(actual, expected)),
+    }
+}
+
+/// What a lookup of a reader at this id came to.
+fn told<T: Drop>(found: Result<T, existing_iter::Error>, id: ObjectId) -> Answer {
+    match found {
+        Ok(_) => Answer::Found,
+        Err(existing_iter::Error::Find(find::Error::OutOfMemory)) => Answer::WithoutMemory,
+        Err(existing_iter::Error::Find(_)) => Answer::Failed,
+        Err(existing_iter::Error::NotFound { oid }) => at(oid, id, Answer::Missing),
+        Err(
+            existing_iter::Error::ObjectKind {
+                oid,
+                actual,
+                expected,
+            },
+        ) => at(oid, id, Answer::OfKind(actual, expected)),
+    }
+}
+
+/// What a lookup of any object at this id came to.
+fn any<T: Drop>(found: Result<T, existing::Error>, id: ObjectId) -> Answer {
+    match found {
+        Ok(_) => Answer::Found,
+        Err(existing::Error::Find(find::Error::OutOfMemory)) => Answer::WithoutMemory,
+        Err(existing::Error::Find(_)) => Answer::Failed,
+        Err(existing::Error::NotFound { oid }) => at(oid, id, Answer::Missing),
     }
 }
 
 /// What the lookup of an object of this kind comes to.
-fn found(alloc: Global, store: &Failing, kind: Kind, id: ObjectId) -> Answer {
+pub(crate) fn found(alloc: Global, store: &Failing, kind: Kind, id: ObjectId) -> Answer {
     let mut buffer = Vec::new(alloc);
     match kind {
-        Kind::Tree => read(store.find_tree(alloc, id.as_oid(), &mut buffer)),
-        Kind::Blob => read(store.find_blob(alloc, id.as_oid(), &mut buffer)),
-        Kind::Commit => read(store.find_commit(alloc, id.as_oid(), &mut buffer)),
-        Kind::Tag => read(store.find_tag(alloc, id.as_oid(), &mut buffer)),
+        Kind::Tree => read(store.find_tree(alloc, id.as_oid(), &mut buffer), id),
+        Kind::Blob => read(store.find_blob(alloc, id.as_oid(), &mut buffer), id),
+        Kind::Commit => read(store.find_commit(alloc, id.as_oid(), &mut buffer), id),
+        Kind::Tag => read(store.find_tag(alloc, id.as_oid(), &mut buffer), id),
     }
 }
 
 /// What the lookup of a reader of this kind comes to; of blobs there is none, so that of any object.
-fn found_reader(alloc: Global, store: &Failing, kind: Kind, id: ObjectId) -> Answer {
+pub(crate) fn found_reader(alloc: Global, store: &Failing, kind: Kind, id: ObjectId) -> Answer {
     let mut buffer = Vec::new(alloc);
     match kind {
-        Kind::Tree => told(store.find_tree_iter(id.as_oid(), &mut buffer)),
-        Kind::Commit => told(store.find_commit_iter(alloc, id.as_oid(), &mut buffer)),
-        Kind::Tag => told(store.find_tag_iter(id.as_oid(), &mut buffer)),
-        Kind::Blob => match store.find(id.as_oid(), &mut buffer) {
-            Ok(_) => Answer::Found,
-            Err(existing::Error::Find(_)) => Answer::Failed,
-            Err(existing::Error::NotFound { .. }) => Answer::Missing,
-        },
+        Kind::Tree => told(store.find_tree_iter(id.as_oid(), &mut buffer), id),
+        Kind::Commit => told(store.find_commit_iter(alloc, id.as_oid(), &mut buffer), id),
+        Kind::Tag => told(store.find_tag_iter(id.as_oid(), &mut buffer), id),
+        Kind::Blob => any(store.find(id.as_oid(), &mut buffer), id),
     }
 }
 
 /// A store with one object, which fails at its first lookup where `fails` says so.
-fn store_of(
+pub(crate) fn store_of(
     alloc: Global,
     kind: Kind,
     text: &[u8],
@@ -205,7 +230,7 @@ fn a_store_that_fails(rt: HostRuntime) {
 }
 
 /// Whether the tree without entries is found by its id.
-fn finds_the_empty_tree(alloc: Global, store: &Failing, kind: HashKind) -> bool {
+pub(crate) fn finds_the_empty_tree(alloc: Global, store: &Failing, kind: HashKind) -> bool {
     let mut buffer = Vec::new(alloc);
     match store.find_tree(alloc, ObjectId::empty_tree(kind).as_oid(), &mut buffer) {
         Ok(tree) => tree.entries.is_empty(),
@@ -235,20 +260,12 @@ fn empty_objects(rt: HostRuntime) -> Result<(), Fail> {
     Ok(())
 }
 
-/// Whether an object of any kind isn't found at the id, which the refusal has.
-fn has_none(alloc: Global, store: &Failing, id: ObjectId) -> bool {
-    let mut buffer = Vec::new(alloc);
-    match store.find(id.as_oid(), &mut buffer) {
-        Err(existing::Error::NotFound { oid }) => oid == id,
-        _ => false,
-    }
-}
-
 /// By [`FindExt::find`] the empty tree is found where the store has it alone.
 #[test]
 fn empty_tree_as_any_object(rt: HostRuntime) -> Result<(), Fail> {
     let (store, _) = store_of(rt.alloc(), Kind::Blob, b"", false)?;
-    assert!(rt; has_none(rt.alloc(), &store, ObjectId::empty_tree(HashKind::Sha1)));
+    let empty = ObjectId::empty_tree(HashKind::Sha1);
+    assert!(rt; found_reader(rt.alloc(), &store, Kind::Blob, empty) == Answer::Missing);
     Ok(())
 }
 
@@ -286,29 +303,12 @@ fn headers_not_found(rt: HostRuntime) -> Result<(), Fail> {
     Ok(())
 }
 
-/// Whether no tree is found at the id, which the refusal has.
-fn has_no_tree(alloc: Global, store: &Failing, id: ObjectId) -> bool {
-    let mut buffer = Vec::new(alloc);
-    match store.find_tree(alloc, id.as_oid(), &mut buffer) {
-        Err(existing_object::Error::ObjectKind { oid, .. }) => oid == id,
-        _ => false,
-    }
-}
-
-/// Whether no reader of a tree is found at the id, which the refusal has.
-fn has_no_reader(alloc: Global, store: &Failing, id: ObjectId) -> bool {
-    let mut buffer = Vec::new(alloc);
-    match store.find_tree_iter(id.as_oid(), &mut buffer) {
-        Err(existing_iter::Error::ObjectKind { oid, .. }) => oid == id,
-        _ => false,
-    }
-}
-
 /// Each error has the id that was asked for.
 #[test]
 fn ids_of_errors(rt: HostRuntime) -> Result<(), Fail> {
     let (store, id) = store_of(rt.alloc(), Kind::Blob, b"x", false)?;
-    assert!(rt; has_no_tree(rt.alloc(), &store, id));
-    assert!(rt; has_no_reader(rt.alloc(), &store, id));
+    let of_a_blob = Answer::OfKind(Kind::Blob, Kind::Tree);
+    assert!(rt; found(rt.alloc(), &store, Kind::Tree, id) == of_a_blob);
+    assert!(rt; found_reader(rt.alloc(), &store, Kind::Tree, id) == of_a_blob);
     Ok(())
 }

@@ -2,8 +2,6 @@
 #![tactic(auto)]
 
 #[cfg(test)]
-mod editing;
-#[cfg(test)]
 mod existing;
 #[cfg(test)]
 mod failing;

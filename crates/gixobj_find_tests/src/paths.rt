@@ -21,12 +21,23 @@ fn is_file(found: &Option<Entry>, id: ObjectId, name: &[u8]) -> bool {
     }
 }
 
+/// The entry at a path from the tree with these bytes, in a store.
+pub(crate) fn entry_from<S: Find>(
+    alloc: Global,
+    store: &S,
+    tree: &[u8],
+    hash_kind: HashKind,
+    path: &[u8],
+) -> Result<Option<Entry>, find::Error> {
+    let mut buffer = Vec::new(alloc);
+    let reader = TreeRefIter::from_bytes(tree, hash_kind);
+    reader.lookup_entry_by_path(alloc, store, &mut buffer, path)
+}
+
 /// The entry at a path from the second tree, in a store of both.
 fn at_path(alloc: Global, path: &[u8]) -> Result<Option<Entry>, find::Error> {
     let store = two_trees(alloc)?;
-    let mut buffer = Vec::new(alloc);
-    let reader = TreeRefIter::from_bytes(ROOT_TEXT, HashKind::Sha1);
-    reader.lookup_entry_by_path(alloc, &store, &mut buffer, path)
+    entry_from(alloc, &store, ROOT_TEXT, HashKind::Sha1, path)
 }
 
 #[test]
@@ -111,9 +122,7 @@ const MIXED: &[u8] = b"40000 blob\0\
 
 /// Whether an entry is at a path from the tree with these bytes, in a store; none where the lookup fails.
 fn is_there_from<S: Find>(alloc: Global, store: &S, tree: &[u8], path: &[u8]) -> Option<bool> {
-    let mut buffer = Vec::new(alloc);
-    let reader = TreeRefIter::from_bytes(tree, HashKind::Sha1);
-    match reader.lookup_entry_by_path(alloc, store, &mut buffer, path) {
+    match entry_from(alloc, store, tree, HashKind::Sha1, path) {
         Ok(found) => Some(found.is_some()),
         Err(_) => None,
     }
@@ -132,10 +141,8 @@ fn kinds_of_objects_and_not_modes(rt: HostRuntime) -> Result<(), Fail> {
 
 /// Whether a lookup of a path from the second tree fails with the store.
 fn fails<S: Find>(alloc: Global, store: &S, path: &[u8]) -> bool {
-    let mut buffer = Vec::new(alloc);
-    let reader = TreeRefIter::from_bytes(ROOT_TEXT, HashKind::Sha1);
     matches!(
-        &reader.lookup_entry_by_path(alloc, store, &mut buffer, path),
+        &entry_from(alloc, store, ROOT_TEXT, HashKind::Sha1, path),
         Err(find::Error::Store(_))
     )
 }
@@ -165,9 +172,7 @@ fn id_from<S: Find>(
     hash_kind: HashKind,
     path: &[u8],
 ) -> Option<ObjectId> {
-    let mut buffer = Vec::new(alloc);
-    let reader = TreeRefIter::from_bytes(tree, hash_kind);
-    match reader.lookup_entry_by_path(alloc, store, &mut buffer, path) {
+    match entry_from(alloc, store, tree, hash_kind, path) {
         Ok(Some(entry)) => Some(entry.oid),
         _ => None,
     }

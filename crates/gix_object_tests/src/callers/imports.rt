@@ -1,24 +1,14 @@
 //! Edits that are imported into a store.
 
 use super::{FIRST, SECOND};
-use crate::samples::{id, path_of};
+use crate::samples::{id, path_of, upsert};
 use gix_object::hash::Kind;
-use gix_object::tree::EntryKind;
 use gix_object::tree::editor::{Edit, Editor, Error, WriteError, Written};
 use gix_object::{Tree, encode};
 use gixobj_callers::importer::{ImportError, import_files};
 use gixobj_find::Memory;
-use std::alloc::{AllocError, Global};
+use std::alloc::Global;
 use std::test::Fail;
-
-/// A file that is put at a path.
-fn file_at(alloc: Global, names: &[&str], hex: &[u8]) -> Result<Edit, AllocError> {
-    Ok(Edit::Upsert {
-        path: path_of(alloc, names)?,
-        kind: EntryKind::Blob,
-        id: id(hex),
-    })
-}
 
 fn empty_editor(alloc: Global) -> Editor<Memory> {
     Editor::new(Tree::empty(alloc), Memory::new(alloc), Kind::Sha1)
@@ -57,10 +47,10 @@ const GONE_ON: &[u8] = b"ed09f01c0a6d6684b098b8d3591ada3fb12b32f3";
 fn imported(rt: HostRuntime) -> Result<(), Fail> {
     let alloc = rt.alloc();
     let mut editor = empty_editor(alloc);
-    let near = file_at(alloc, &["c"], SECOND)?;
-    let far = file_at(alloc, &["a", "b"], FIRST)?;
+    let near = upsert(alloc, &["c"], id(SECOND))?;
+    let far = upsert(alloc, &["a", "b"], id(FIRST))?;
     assert!(rt; is_imported(alloc, &mut editor, vec![in alloc; far, near]?, IMPORTED));
-    let more = file_at(alloc, &["a", "d"], SECOND)?;
+    let more = upsert(alloc, &["a", "d"], id(SECOND))?;
     let path = path_of(alloc, &["c"])?;
     let less = Edit::Remove { path };
     assert!(rt; is_imported(alloc, &mut editor, vec![in alloc; more, less]?, GONE_ON));
@@ -86,14 +76,14 @@ fn refusal(alloc: Global, editor: &mut Editor<Memory>, edits: Vec<Edit>) -> &'st
 fn not_imported(rt: HostRuntime) -> Result<(), Fail> {
     let alloc = rt.alloc();
     let mut editor = empty_editor(alloc);
-    let near = file_at(alloc, &["c"], SECOND)?;
+    let near = upsert(alloc, &["c"], id(SECOND))?;
     let edits = vec![in alloc; near, Edit::Write]?;
     assert_eq!(rt; refusal(alloc, &mut editor, edits), "holds a write");
-    let near = file_at(alloc, &["c"], SECOND)?;
-    let slashed = file_at(alloc, &["a/b"], FIRST)?;
+    let near = upsert(alloc, &["c"], id(SECOND))?;
+    let slashed = upsert(alloc, &["a/b"], id(FIRST))?;
     let edits = vec![in alloc; near, slashed]?;
     assert_eq!(rt; refusal(alloc, &mut editor, edits), "slash in the second");
-    let zero = file_at(alloc, &["\0"], FIRST)?;
+    let zero = upsert(alloc, &["\0"], id(FIRST))?;
     let edits = vec![in alloc; zero]?;
     assert_eq!(rt; refusal(alloc, &mut editor, edits), "not written");
     Ok(())

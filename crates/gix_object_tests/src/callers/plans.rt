@@ -1,12 +1,11 @@
 //! An entry that is put into a stored tree, or into the empty one.
 
 use super::{FIRST, SECOND};
-use crate::samples::{id, path_of, text_of};
-use bstr::BString;
+use crate::samples::{id, path_of, text_of, tree_of};
 use gix_object::find::Never;
 use gix_object::hash::{Kind as HashKind, ObjectId};
+use gix_object::tree::EntryKind;
 use gix_object::tree::editor::{Error, WriteError, Written};
-use gix_object::tree::{Entry, EntryKind};
 use gix_object::{Find, Kind, Tree, encode};
 use gixobj_callers::planner::{PlanError, RootError, with_entry_in_stored};
 use gixobj_find::Memory;
@@ -20,12 +19,7 @@ pub(super) fn stored(alloc: Global, names: &[&str]) -> Result<(Memory, ObjectId)
     let mut kind = EntryKind::Blob;
     let mut oid = id(FIRST);
     for name in names {
-        let mut tree = Tree::empty(alloc);
-        tree.entries.push(Entry {
-            mode: kind.into(),
-            filename: BString::from_slice(alloc, name.as_bytes())?,
-            oid,
-        })?;
+        let tree = tree_of(alloc, &[(kind, name.as_bytes(), oid)])?;
         let text = text_of(alloc, &tree)?;
         oid = store.insert(Kind::Tree, HashKind::Sha1, &text)?;
         kind = EntryKind::Tree;

@@ -2,7 +2,7 @@
 
 use super::plans::stored;
 use super::{FIRST, SECOND};
-use crate::samples::{id, path_of};
+use crate::samples::{id, path_of, upsert};
 use gix_object::hash::Kind;
 use gix_object::tree::EntryKind;
 use gix_object::tree::editor::{Command, Edit, Editor, WriteError};
@@ -86,22 +86,13 @@ fn not_uploaded(rt: HostRuntime) -> Result<(), Fail> {
     Ok(())
 }
 
-/// The file of the first id, put at a path.
-fn file_at(alloc: Global, names: &[&str]) -> Result<Command, AllocError> {
-    Ok(Command::Edit(Edit::Upsert {
-        path: path_of(alloc, names)?,
-        kind: EntryKind::Blob,
-        id: id(FIRST),
-    }))
-}
-
 /// A file is put in and written, then another beside it, which is taken out again.
 fn script(alloc: Global) -> Result<Vec<Command>, AllocError> {
     let path = path_of(alloc, &["a", "c"])?;
     let mut commands = Vec::new(alloc);
-    commands.push(file_at(alloc, &["a", "b"])?)?;
+    commands.push(Command::Edit(upsert(alloc, &["a", "b"], id(FIRST))?))?;
     commands.push(Command::Edit(Edit::Write))?;
-    commands.push(file_at(alloc, &["a", "c"])?)?;
+    commands.push(Command::Edit(upsert(alloc, &["a", "c"], id(FIRST))?))?;
     commands.push(Command::Edit(Edit::Write))?;
     commands.push(Command::Edit(Edit::Remove { path }))?;
     commands.push(Command::Edit(Edit::Write))?;

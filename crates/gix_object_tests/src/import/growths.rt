@@ -1,13 +1,14 @@
 //! The three steps, where a growth is refused on the way: the steps before it are imported as ever, and a new importer
 //! imports all of them.
 
-use crate::import::samples::{COMMITS, are_commits, kept_commit, number, plain_steps, step};
+use crate::import::samples::{
+    COMMITS, are_commits, imports, kept_commit, plain_steps, step, told_of,
+};
 use gixobj_editor::editor::{Error, WriteError};
 use gixobj_fields::encode;
 use gixobj_find::{KeepError, Memory};
 use gixobj_hash::hash::Kind as HashKind;
-use gixobj_import::{ImportError, Importer, Step, Stopped, import_all};
-use std::alloc::Global;
+use gixobj_import::{ImportError, Importer, Stopped, import_all};
 use std::test::Fail;
 
 /// Whether it is told that memory was wanting, where it may be.
@@ -30,15 +31,6 @@ fn is_cut_off(stopped: &Stopped) -> bool {
         && is_for_memory(&stopped.error)
 }
 
-/// Whether a new importer imports all of the steps.
-fn imports_all(alloc: Global, steps: &[Step]) -> bool {
-    let mut importer = Importer::new(alloc, Memory::new(alloc), HashKind::Sha1);
-    match import_all(&mut importer, steps) {
-        Ok(imported) => are_commits(&imported, &COMMITS),
-        Err(_) => false,
-    }
-}
-
 #[test]
 fn three_steps_whatever_is_refused(rt: HostRuntime) -> Result<(), Fail> {
     let alloc = rt.alloc();
@@ -56,14 +48,14 @@ fn three_steps_whatever_is_refused(rt: HostRuntime) -> Result<(), Fail> {
         Err(stopped) => {
             assert!(rt; is_cut_off(&stopped));
             // No growth is refused any more.
-            let behind = importer.step(&nothing);
-            let failed = matches!(&behind, Err(error) if number(error) == 7);
+            let behind = told_of(&mut importer, &nothing);
             // Where the list had no memory nothing was done, and the importer goes on.
-            assert!(rt; failed || (behind.is_ok() && stopped.done.is_empty()));
+            assert!(rt; behind == 7 || (behind == 0 && stopped.done.is_empty()));
             for it in &stopped.done {
                 assert!(rt; kept_commit(alloc, importer.store_mut(), it.commit).is_some());
             }
-            assert!(rt; imports_all(alloc, &steps));
+            let mut importer = Importer::new(alloc, Memory::new(alloc), HashKind::Sha1);
+            assert!(rt; imports(&mut importer, &steps, &COMMITS));
         }
     }
     Ok(())

@@ -1,13 +1,14 @@
 //! Every refusal of a step, and what comes behind it.
 
 use crate::import::samples::{
-    COMMITS, are_commits, number, path_of, plain_steps, step, step_by, upsert,
+    COMMITS, are_commits, imports, number, plain_steps, step, step_by, stop_of, told_of,
 };
+use crate::samples::{path_of, upsert};
 use gixobj_editor::Edit;
 use gixobj_editor::editor::Error;
 use gixobj_find::Memory;
 use gixobj_hash::hash::{Kind as HashKind, ObjectId};
-use gixobj_import::{ImportError, Importer, Step, Stopped, import_all};
+use gixobj_import::{ImportError, Importer, Step, Stopped};
 use gixobj_tree::tree::EntryKind;
 use std::alloc::{AllocError, Global};
 use std::test::Fail;
@@ -19,7 +20,7 @@ fn stopped_by(alloc: Global, it: Step) -> Result<Option<Stopped>, AllocError> {
     let mut steps = plain_steps(alloc)?;
     steps.push(it)?;
     let mut importer = Importer::new(alloc, Memory::new(alloc), HashKind::Sha1);
-    Ok(import_all(&mut importer, &steps).err())
+    Ok(stop_of(&mut importer, &steps))
 }
 
 /// The number of the refusal of this step behind the three, which are imported.
@@ -31,7 +32,7 @@ fn refused(alloc: Global, edits: Vec<Edit>) -> Result<Option<u8>, AllocError> {
 #[test]
 fn a_write_in_a_step(rt: HostRuntime) -> Result<(), Fail> {
     let alloc = rt.alloc();
-    let edits = vec![in alloc; upsert(alloc, "a", FILE)?, Edit::Write]?;
+    let edits = vec![in alloc; upsert(alloc, &["a"], FILE)?, Edit::Write]?;
     assert!(rt; refused(alloc, edits)? == Some(1));
     Ok(())
 }
@@ -40,11 +41,9 @@ fn a_write_in_a_step(rt: HostRuntime) -> Result<(), Fail> {
 fn nothing_changed_by_a_write_in_a_step(rt: HostRuntime) -> Result<(), Fail> {
     let alloc = rt.alloc();
     let mut importer = Importer::new(alloc, Memory::new(alloc), HashKind::Sha1);
-    let edits = vec![in alloc; upsert(alloc, "a", FILE)?, Edit::Write]?;
-    let first = importer.step(&step(alloc, edits)?);
-    assert!(rt; matches!(&first, Err(error) if number(error) == 1));
-    let imported = import_all(&mut importer, &plain_steps(alloc)?);
-    assert!(rt; matches!(&imported, Ok(imported) if are_commits(imported, &COMMITS)));
+    let edits = vec![in alloc; upsert(alloc, &["a"], FILE)?, Edit::Write]?;
+    assert!(rt; told_of(&mut importer, &step(alloc, edits)?) == 1);
+    assert!(rt; imports(&mut importer, &plain_steps(alloc)?, &COMMITS));
     Ok(())
 }
 
@@ -70,20 +69,23 @@ fn refused_edit(alloc: Global, edits: Vec<Edit>) -> Result<Option<(usize, u8)>, 
 #[test]
 fn the_edit_of_this_number(rt: HostRuntime) -> Result<(), Fail> {
     let alloc = rt.alloc();
-    let first = vec![in alloc; upsert(alloc, "a//b", FILE)?, upsert(alloc, "a", FILE)?]?;
+    let first = vec![in alloc;
+        upsert(alloc, &["a", "", "b"], FILE)?,
+        upsert(alloc, &["a"], FILE)?,
+    ]?;
     assert!(rt; refused_edit(alloc, first)? == Some((0, 1)));
-    let path = path_of(alloc, "bak")?;
-    let leaf = vec![in alloc; upsert(alloc, "a", FILE)?, Edit::RemoveLeaf { path }]?;
+    let path = path_of(alloc, &["bak"])?;
+    let leaf = vec![in alloc; upsert(alloc, &["a"], FILE)?, Edit::RemoveLeaf { path }]?;
     assert!(rt; refused_edit(alloc, leaf)? == Some((1, 4)));
     let submodule = Edit::Upsert {
-        path: path_of(alloc, "sub")?,
+        path: path_of(alloc, &["sub"])?,
         kind: EntryKind::Tree,
         id: FILE,
     };
     let unknown = vec![in alloc;
         submodule,
-        upsert(alloc, "a", FILE)?,
-        upsert(alloc, "sub/b", FILE)?,
+        upsert(alloc, &["a"], FILE)?,
+        upsert(alloc, &["sub", "b"], FILE)?,
     ]?;
     assert!(rt; refused_edit(alloc, unknown)? == Some((2, 3)));
     Ok(())
@@ -92,7 +94,7 @@ fn the_edit_of_this_number(rt: HostRuntime) -> Result<(), Fail> {
 #[test]
 fn a_name_with_a_zero_byte(rt: HostRuntime) -> Result<(), Fail> {
     let alloc = rt.alloc();
-    let edits = vec![in alloc; upsert(alloc, "a\0b", FILE)?]?;
+    let edits = vec![in alloc; upsert(alloc, &["a\0b"], FILE)?]?;
     assert!(rt; refused(alloc, edits)? == Some(3));
     Ok(())
 }
@@ -114,14 +116,12 @@ fn an_author_that_no_commit_may_have(rt: HostRuntime) -> Result<(), Fail> {
 fn a_failed_importer(rt: HostRuntime) -> Result<(), Fail> {
     let alloc = rt.alloc();
     let mut importer = Importer::new(alloc, Memory::new(alloc), HashKind::Sha1);
-    let edits = vec![in alloc; upsert(alloc, "", FILE)?]?;
-    let first = importer.step(&step(alloc, edits)?);
-    assert!(rt; matches!(&first, Err(error) if number(error) == 2));
+    let edits = vec![in alloc; upsert(alloc, &[""], FILE)?]?;
+    assert!(rt; told_of(&mut importer, &step(alloc, edits)?) == 2);
     // Also a step that holds a write, and a list of steps.
     let write = vec![in alloc; Edit::Write]?;
-    let second = importer.step(&step(alloc, write)?);
-    assert!(rt; matches!(&second, Err(error) if number(error) == 7));
-    let stopped = import_all(&mut importer, &plain_steps(alloc)?).err();
+    assert!(rt; told_of(&mut importer, &step(alloc, write)?) == 7);
+    let stopped = stop_of(&mut importer, &plain_steps(alloc)?);
     let told = stopped.is_some_and(|it| it.done.is_empty() && number(&it.error) == 7);
     assert!(rt; told);
     Ok(())
@@ -131,7 +131,6 @@ fn a_failed_importer(rt: HostRuntime) -> Result<(), Fail> {
 fn no_steps(rt: HostRuntime) -> Result<(), Fail> {
     let alloc = rt.alloc();
     let mut importer = Importer::new(alloc, Memory::new(alloc), HashKind::Sha1);
-    let imported = import_all(&mut importer, &[]);
-    assert!(rt; matches!(&imported, Ok(imported) if imported.is_empty()));
+    assert!(rt; imports(&mut importer, &[], &[]));
     Ok(())
 }

@@ -1,38 +1,16 @@
 //! Steps, and what several tests ask of an import.
 
+use crate::samples::{id, upsert};
 use bstr::BString;
 use gixobj_actor::actor::Signature;
 use gixobj_actor::date::Time;
 use gixobj_editor::Edit;
+use gixobj_find::{Keep, KeepCommit};
 use gixobj_hash::hash::ObjectId;
 use gixobj_hash::{Kind, compute_hash};
-use gixobj_import::{ImportError, Imported, Step};
+use gixobj_import::{ImportError, Imported, Importer, Step, Stopped, import_all};
 use gixobj_object::Find;
-use gixobj_tree::tree::EntryKind;
 use std::alloc::{AllocError, Global};
-
-/// The id that the hex digits spell; of others the null id.
-pub(crate) fn id(hex: &str) -> ObjectId {
-    ObjectId::from_hex(hex.as_bytes()).unwrap_or(ObjectId::null(gixobj_hash::hash::Kind::Sha1))
-}
-
-/// The path of the names between slashes.
-pub(crate) fn path_of(alloc: Global, text: &str) -> Result<Vec<BString>, AllocError> {
-    let mut path = Vec::new(alloc);
-    for name in text.as_bytes().split(|byte| *byte == b'/') {
-        path.push(BString::from_slice(alloc, name)?)?;
-    }
-    Ok(path)
-}
-
-/// An edit that puts a blob in.
-pub(crate) fn upsert(alloc: Global, path: &str, id: ObjectId) -> Result<Edit, AllocError> {
-    Ok(Edit::Upsert {
-        path: path_of(alloc, path)?,
-        kind: EntryKind::Blob,
-        id,
-    })
-}
 
 /// An actor at the beginning of time.
 pub(crate) fn actor(alloc: Global, name: &str) -> Result<Signature, AllocError> {
@@ -68,12 +46,12 @@ pub(crate) struct Blobs {
 
 /// A file; then another one, and a new version of it; then the first version in a directory.
 pub(crate) fn three_steps(alloc: Global, blobs: &Blobs) -> Result<Vec<Step>, AllocError> {
-    let first = vec![in alloc; upsert(alloc, "test.txt", blobs.old)?]?;
+    let first = vec![in alloc; upsert(alloc, &["test.txt"], blobs.old)?]?;
     let second = vec![in alloc;
-        upsert(alloc, "new.txt", blobs.other)?,
-        upsert(alloc, "test.txt", blobs.new)?,
+        upsert(alloc, &["new.txt"], blobs.other)?,
+        upsert(alloc, &["test.txt"], blobs.new)?,
     ]?;
-    let third = vec![in alloc; upsert(alloc, "bak/test.txt", blobs.old)?]?;
+    let third = vec![in alloc; upsert(alloc, &["bak", "test.txt"], blobs.old)?]?;
     Ok(vec![in alloc;
         step(alloc, first)?,
         step(alloc, second)?,
@@ -84,9 +62,9 @@ pub(crate) fn three_steps(alloc: Global, blobs: &Blobs) -> Result<Vec<Step>, All
 /// The three steps with ids by SHA-1.
 pub(crate) fn plain_steps(alloc: Global) -> Result<Vec<Step>, AllocError> {
     let blobs = Blobs {
-        old: id("83baae61804e65cc73a7201a7252750c76066a30"),
-        new: id("1f7a7a472abf3dd9643fd615f6da379c4acb3e3a"),
-        other: id("fa49b077972391ad58037050f2a75f74e3671e92"),
+        old: id(b"83baae61804e65cc73a7201a7252750c76066a30"),
+        new: id(b"1f7a7a472abf3dd9643fd615f6da379c4acb3e3a"),
+        other: id(b"fa49b077972391ad58037050f2a75f74e3671e92"),
     };
     three_steps(alloc, &blobs)
 }
@@ -127,5 +105,33 @@ pub(crate) fn are_commits(imported: &[Imported], commits: &[&str]) -> bool {
         && imported
             .iter()
             .zip(commits)
-            .all(|(it, hex)| it.commit == id(hex))
+            .all(|(it, hex)| it.commit == id(hex.as_bytes()))
+}
+
+/// The number of the refusal of a step, or 0.
+pub(crate) fn told_of<S: Keep + KeepCommit>(importer: &mut Importer<S>, step: &Step) -> u8 {
+    match importer.step(step) {
+        Ok(_) => 0,
+        Err(error) => number(&error),
+    }
+}
+
+/// Where an import of steps comes to a stop.
+pub(crate) fn stop_of<S: Keep + KeepCommit>(
+    importer: &mut Importer<S>,
+    steps: &[Step],
+) -> Option<Stopped> {
+    import_all(importer, steps).err()
+}
+
+/// Whether all steps are imported, as these commits.
+pub(crate) fn imports<S: Keep + KeepCommit>(
+    importer: &mut Importer<S>,
+    steps: &[Step],
+    commits: &[&str],
+) -> bool {
+    match import_all(importer, steps) {
+        Ok(imported) => are_commits(&imported, commits),
+        Err(_) => false,
+    }
 }

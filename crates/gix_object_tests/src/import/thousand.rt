@@ -1,13 +1,13 @@
 //! A history of 1,000 steps of three edits, as `git fast-import` makes it: `examples/imports.py` has the rule of its steps and
 //! prints the ids. Each commit names the one before it, so the last id alone tells of all of them.
 
-use crate::import::samples::{id, path_of};
+use crate::samples::{id, path_of};
 use bstr::BString;
 use gixobj_actor::actor::Signature;
 use gixobj_actor::date::Time;
 use gixobj_editor::Edit;
 use gixobj_find::Memory;
-use gixobj_hash::hash::{Kind as HashKind, ObjectId};
+use gixobj_hash::hash::Kind as HashKind;
 use gixobj_hash::{Kind, compute_hash};
 use gixobj_import::{Imported, Importer, Step, import_all};
 use gixobj_tree::tree::EntryKind;
@@ -67,8 +67,10 @@ const SHA256: (&str, &str) = (
 /// A file three directories down.
 fn file_at(alloc: Global, number: u32) -> Result<Vec<BString>, AllocError> {
     let (first, second, third) = (number % 10, number % 7, number % 50);
-    let text = format!(in alloc; "a{first}/b{second}/f{third}")?;
-    path_of(alloc, text.as_str())
+    let first = format!(in alloc; "a{first}")?;
+    let second = format!(in alloc; "b{second}")?;
+    let third = format!(in alloc; "f{third}")?;
+    path_of(alloc, &[first.as_str(), second.as_str(), third.as_str()])
 }
 
 /// The three edits of a step: two files with the step's number in them, and a file taken out.
@@ -85,7 +87,7 @@ fn edits_of(alloc: Global, hash: HashKind, number: u32) -> Result<Vec<Edit>, All
             id
         },
         Edit::Upsert {
-            path: path_of(alloc, program.as_str())?,
+            path: path_of(alloc, &[program.as_str()])?,
             kind: EntryKind::BlobExecutable,
             id
         },
@@ -127,9 +129,8 @@ fn imported(alloc: Global, hash: HashKind) -> Result<Option<Vec<Imported>>, Allo
 
 /// Whether this was imported of a step.
 fn is_row(imported: &[Imported], number: usize, row: (&str, &str)) -> bool {
-    imported
-        .get(number)
-        .is_some_and(|it| it.commit == id(row.0) && it.written.id == id(row.1))
+    imported.get(number).is_some_and(|it| it.commit == id(row.0.as_bytes())
+        && it.written.id == id(row.1.as_bytes()))
 }
 
 #[test]

@@ -2,11 +2,13 @@
 //! answer, in a repository of either object format.
 
 use crate::import::samples::{
-    Blobs, COMMITS, are_commits, id, kept_commit, number, plain_steps, step_by, three_steps,
+    Blobs, COMMITS, are_commits, kept_commit, plain_steps, step_by, three_steps, told_of,
 };
+use crate::samples::id;
 use gixobj_find::Memory;
 use gixobj_hash::hash::Kind as HashKind;
-use gixobj_import::{Imported, Importer, import_all};
+use gixobj_import::{Imported, Importer, Step, import_all};
+use std::alloc::Global;
 use std::test::Fail;
 
 /// The trees, how many were handed out, and the size of the commit, of each step.
@@ -43,27 +45,44 @@ const COMMITS_256: [&str; 3] = [
 /// Whether the trees are these, and so many were handed out.
 fn are_trees(imported: &[Imported], rows: &[(&str, usize, usize)]) -> bool {
     imported.iter().zip(rows).all(|(it, (tree, count, _))| {
-        it.written.id == id(tree) && it.written.trees.len() == *count
+        it.written.id == id(tree.as_bytes()) && it.written.trees.len() == *count
     })
+}
+
+/// Whether the steps are imported as these trees and commits.
+fn imports_so(
+    importer: &mut Importer<Memory>,
+    steps: &[Step],
+    rows: &[(&str, usize, usize)],
+    commits: &[&str],
+) -> bool {
+    match import_all(importer, steps) {
+        Ok(imported) => are_trees(&imported, rows) && are_commits(&imported, commits),
+        Err(_) => false,
+    }
+}
+
+/// Whether a store has these commits, of these sizes.
+fn has_commits(
+    alloc: Global,
+    store: &Memory,
+    rows: &[(&str, usize, usize)],
+    commits: &[&str],
+) -> bool {
+    commits.iter().zip(rows).all(|(hex, (_, _, size))| kept_commit(alloc, store, id(hex.as_bytes()))
+        == Some(*size))
 }
 
 #[test]
 fn three_steps_and_two_refused(rt: HostRuntime) -> Result<(), Fail> {
     let alloc = rt.alloc();
     let mut importer = Importer::new(alloc, Memory::new(alloc), HashKind::Sha1);
-    let Ok(imported) = import_all(&mut importer, &plain_steps(alloc)?) else {
-        return Err(Fail::from("refused"));
-    };
-    assert!(rt; are_trees(&imported, &SHA1) && are_commits(&imported, &COMMITS));
+    assert!(rt; imports_so(&mut importer, &plain_steps(alloc)?, &SHA1, &COMMITS));
     let fourth = step_by(alloc, "A>", Vec::new(alloc))?;
-    let refused = importer.step(&fourth);
-    assert!(rt; matches!(&refused, Err(error) if number(error) == 5));
+    assert!(rt; told_of(&mut importer, &fourth) == 5);
     let fifth = step_by(alloc, "A", Vec::new(alloc))?;
-    let failed = importer.step(&fifth);
-    assert!(rt; matches!(&failed, Err(error) if number(error) == 7));
-    for (it, (_, _, size)) in imported.iter().zip(&SHA1) {
-        assert!(rt; kept_commit(alloc, importer.store_mut(), it.commit) == Some(*size));
-    }
+    assert!(rt; told_of(&mut importer, &fifth) == 7);
+    assert!(rt; has_commits(alloc, importer.store_mut(), &SHA1, &COMMITS));
     Ok(())
 }
 
@@ -71,18 +90,13 @@ fn three_steps_and_two_refused(rt: HostRuntime) -> Result<(), Fail> {
 fn three_steps_by_sha256(rt: HostRuntime) -> Result<(), Fail> {
     let alloc = rt.alloc();
     let blobs = Blobs {
-        old: id("58a67ed1c161a4e89a110968310fe31e39920ef68d4c7c7e0d6695797533f50d"),
-        new: id("bd965fae20eb0dd136c5fb90b7c99ea1863ab46bb9a2647be049f38751749e61"),
-        other: id("6d5fd291bb0f67444e99ab492f1bf1fcdf5dca09dab24cf331e05111b4cfc1a3"),
+        old: id(b"58a67ed1c161a4e89a110968310fe31e39920ef68d4c7c7e0d6695797533f50d"),
+        new: id(b"bd965fae20eb0dd136c5fb90b7c99ea1863ab46bb9a2647be049f38751749e61"),
+        other: id(b"6d5fd291bb0f67444e99ab492f1bf1fcdf5dca09dab24cf331e05111b4cfc1a3"),
     };
     let mut importer = Importer::new(alloc, Memory::new(alloc), HashKind::Sha256);
     let steps = three_steps(alloc, &blobs)?;
-    let Ok(imported) = import_all(&mut importer, &steps) else {
-        return Err(Fail::from("refused"));
-    };
-    assert!(rt; are_trees(&imported, &SHA256) && are_commits(&imported, &COMMITS_256));
-    for (it, (_, _, size)) in imported.iter().zip(&SHA256) {
-        assert!(rt; kept_commit(alloc, importer.store_mut(), it.commit) == Some(*size));
-    }
+    assert!(rt; imports_so(&mut importer, &steps, &SHA256, &COMMITS_256));
+    assert!(rt; has_commits(alloc, importer.store_mut(), &SHA256, &COMMITS_256));
     Ok(())
 }

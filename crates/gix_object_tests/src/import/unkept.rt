@@ -1,9 +1,11 @@
 //! Each call to keep a tree or a commit refused in turn.
 
 use crate::import::failing::Failing;
-use crate::import::samples::{COMMITS, are_commits, kept_commit, number, plain_steps, step};
+use crate::import::samples::{
+    COMMITS, are_commits, imports, kept_commit, number, plain_steps, step, stop_of, told_of,
+};
 use gixobj_hash::hash::Kind as HashKind;
-use gixobj_import::{Importer, import_all};
+use gixobj_import::Importer;
 use std::alloc::Global;
 use std::test::Fail;
 
@@ -26,13 +28,12 @@ fn stops(alloc: Global, refused: u64, before: usize, counts: (u64, u64)) -> Resu
     }
     let (commits, _) = COMMITS.split_at(before);
     let mut importer = Importer::new(alloc, Failing::new(alloc, refused), HashKind::Sha1);
-    let Err(stopped) = import_all(&mut importer, &plain_steps(alloc)?) else {
+    let Some(stopped) = stop_of(&mut importer, &plain_steps(alloc)?) else {
         return Ok(false);
     };
     let told = number(&stopped.error) == 4 && are_commits(&stopped.done, commits);
     let kept = importer.store_mut().counts() == counts;
-    let next = importer.step(&step(alloc, Vec::new(alloc))?);
-    let failed = matches!(&next, Err(error) if number(error) == 7);
+    let failed = told_of(&mut importer, &step(alloc, Vec::new(alloc))?) == 7;
     let still = importer.store_mut().counts() == counts;
     let all_there = stopped.done.iter().all(|it| kept_commit(
         alloc,
@@ -55,8 +56,7 @@ fn each_keep_refused_in_turn(rt: HostRuntime) -> Result<(), Fail> {
 fn no_keep_refused(rt: HostRuntime) -> Result<(), Fail> {
     let alloc = rt.alloc();
     let mut importer = Importer::new(alloc, Failing::new(alloc, 8), HashKind::Sha1);
-    let imported = import_all(&mut importer, &plain_steps(alloc)?);
-    assert!(rt; matches!(&imported, Ok(imported) if are_commits(imported, &COMMITS)));
+    assert!(rt; imports(&mut importer, &plain_steps(alloc)?, &COMMITS));
     assert!(rt; importer.store_mut().counts() == (7, 3));
     Ok(())
 }

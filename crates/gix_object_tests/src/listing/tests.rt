@@ -1,10 +1,10 @@
 //! Worked examples.
 
 use super::files_of;
-use bstr::BString;
+use crate::samples::tree_of;
 use gix_object::Tree;
 use gix_object::hash::{Kind, ObjectId};
-use gix_object::tree::{Entry, EntryKind};
+use gix_object::tree::EntryKind;
 use std::alloc::{AllocError, Global};
 use std::test::Fail;
 
@@ -14,21 +14,15 @@ const FILE: EntryKind = EntryKind::Blob;
 
 const TREE: EntryKind = EntryKind::Tree;
 
-fn id(byte: u8) -> ObjectId {
-    ObjectId::Sha1([byte; 20])
-}
+const FIRST: ObjectId = ObjectId::Sha1([1; 20]);
 
-fn tree_of(alloc: Global, rows: &[Row]) -> Result<Tree, AllocError> {
-    let mut entries = Vec::new(alloc);
-    for (kind, name, id) in rows {
-        entries.push(Entry {
-            mode: (*kind).into(),
-            filename: BString::from_slice(alloc, name)?,
-            oid: *id,
-        })?;
-    }
-    Ok(Tree { entries })
-}
+const SECOND: ObjectId = ObjectId::Sha1([2; 20]);
+
+const THIRD: ObjectId = ObjectId::Sha1([3; 20]);
+
+const FOURTH: ObjectId = ObjectId::Sha1([4; 20]);
+
+const SEVENTH: ObjectId = ObjectId::Sha1([7; 20]);
 
 /// Line by line the mode of each file, the names of its path, and the first byte of its id.
 fn shown(
@@ -48,55 +42,69 @@ fn shown(
     Ok(text)
 }
 
-#[test]
-fn to_a_depth(rt: HostRuntime) -> Result<(), Fail> {
-    let alloc = rt.alloc();
-    let inner = tree_of(alloc, &[(FILE, b"b", id(2))])?;
-    let later = tree_of(alloc, &[(FILE, b"c", id(7))])?;
-    let table = [(id(1), inner), (id(1), later)];
-    let root = tree_of(
+/// Whether these files are shown to these depths.
+fn are_shown(
+    alloc: Global,
+    table: &[(ObjectId, Tree)],
+    tree: &Tree,
+    wanted: &[(usize, &str)],
+) -> Result<bool, AllocError> {
+    for &(depth, files) in wanted {
+        if shown(alloc, table, depth, tree)?.as_str() != files {
+            return Ok(false);
+        }
+    }
+    Ok(true)
+}
+
+/// The entries of a root whose directory `d` is in the table, twice, and whose directory `u` isn't.
+fn root_of(alloc: Global) -> Result<Tree, AllocError> {
+    tree_of(
         alloc,
         &[
-            (FILE, b"a", id(3)),
-            (TREE, b"d", id(1)),
+            (FILE, b"a", THIRD),
+            (TREE, b"d", FIRST),
             (TREE, b"e", ObjectId::empty_tree(Kind::Sha1)),
             (TREE, b"f", ObjectId::empty_tree(Kind::Sha256)),
             (FILE, b"p", ObjectId::null(Kind::Sha1)),
             (TREE, b"q", ObjectId::null(Kind::Sha256)),
-            (TREE, b"u", id(4)),
-            (FILE, b"v", id(1)),
+            (TREE, b"u", FOURTH),
+            (FILE, b"v", FIRST),
         ],
-    )?;
-    for (depth, files) in [
-        (0, ""),
-        (1, "blob a 3\ntree u 4\nblob v 1\n"),
-        (2, "blob a 3\nblob d b 2\ntree u 4\nblob v 1\n"),
-        (3, "blob a 3\nblob d b 2\ntree u 4\nblob v 1\n"),
-    ] {
-        assert_eq!(rt;
-            shown(alloc, &table, depth, &root)?.as_str(),
-            files,
-            "to depth {depth}"
-        );
-    }
+    )
+}
+
+/// Its files to each depth.
+const TO_A_DEPTH: &[(usize, &str)] = &[
+    (0, ""),
+    (1, "blob a 3\ntree u 4\nblob v 1\n"),
+    (2, "blob a 3\nblob d b 2\ntree u 4\nblob v 1\n"),
+    (3, "blob a 3\nblob d b 2\ntree u 4\nblob v 1\n"),
+];
+
+#[test]
+fn to_a_depth(rt: HostRuntime) -> Result<(), Fail> {
+    let alloc = rt.alloc();
+    let inner = tree_of(alloc, &[(FILE, b"b", SECOND)])?;
+    let later = tree_of(alloc, &[(FILE, b"c", SEVENTH)])?;
+    let table = [(FIRST, inner), (FIRST, later)];
+    assert!(rt; are_shown(alloc, &table, &root_of(alloc)?, TO_A_DEPTH)?);
     Ok(())
 }
+
+/// A file, and a directory by the id of this tree.
+const IN_ITSELF: &[Row] = &[(FILE, b"a", THIRD), (TREE, b"d", FIRST)];
+
+/// Its files to two depths.
+const OF_ITSELF: &[(usize, &str)] = &[
+    (1, "blob a 3\n"),
+    (3, "blob a 3\nblob d a 3\nblob d d a 3\n"),
+];
 
 #[test]
 fn a_tree_in_itself(rt: HostRuntime) -> Result<(), Fail> {
     let alloc = rt.alloc();
-    let rows: [Row; 2] = [(FILE, b"a", id(3)), (TREE, b"d", id(1))];
-    let table = [(id(1), tree_of(alloc, &rows)?)];
-    let root = tree_of(alloc, &rows)?;
-    for (depth, files) in [
-        (1, "blob a 3\n"),
-        (3, "blob a 3\nblob d a 3\nblob d d a 3\n"),
-    ] {
-        assert_eq!(rt;
-            shown(alloc, &table, depth, &root)?.as_str(),
-            files,
-            "to depth {depth}"
-        );
-    }
+    let table = [(FIRST, tree_of(alloc, IN_ITSELF)?)];
+    assert!(rt; are_shown(alloc, &table, &tree_of(alloc, IN_ITSELF)?, OF_ITSELF)?);
     Ok(())
 }

@@ -25,49 +25,51 @@ const LISTED_SHA256: &[u8] = b"\
 
 const ONE_LINE: &[u8] = b"100644 blob 83baae61804e65cc73a7201a7252750c76066a30 test.txt\n";
 
+/// Words, trees, and what is listed of them.
+const TREES: &[(&str, &[u8], &[u8])] = &[
+    ("tree", ONE_ENTRY, ONE_LINE),
+    (
+        "tree",
+        b"tree 36\x00100644 test.txt\x00\x83\xba\xaea\x80Ne\xccs\xa7 \x1arRu\x0cv\x06j0and more",
+        ONE_LINE,
+    ),
+    ("tree", TREE, LISTED),
+    ("tree sha256", TREE_SHA256, LISTED_SHA256),
+    ("tree", b"tree 0\0", b""),
+    ("tree sha256", b"tree 0\0and more", b""),
+    // names, as they are
+    (
+        "tree",
+        b"tree 37\x00100644 two\nlines\x00\x83\xba\xaea\x80Ne\xccs\xa7 \x1arRu\x0cv\x06j0",
+        b"100644 blob 83baae61804e65cc73a7201a7252750c76066a30 two\nlines\n",
+    ),
+    (
+        "tree",
+        b"tree 32\x00100644 a \xff\t\x00\x83\xba\xaea\x80Ne\xccs\xa7 \x1arRu\x0cv\x06j0",
+        b"100644 blob 83baae61804e65cc73a7201a7252750c76066a30 a \xff\t\n",
+    ),
+    // modes, as they are written
+    (
+        "tree",
+        b"tree 29\x00040000 a\x00\x83\xba\xaea\x80Ne\xccs\xa7 \x1arRu\x0cv\x06j0",
+        b"040000 tree 83baae61804e65cc73a7201a7252750c76066a30 a\n",
+    ),
+    (
+        "tree",
+        b"tree 29\x00100664 a\x00\x83\xba\xaea\x80Ne\xccs\xa7 \x1arRu\x0cv\x06j0",
+        b"100664 blob 83baae61804e65cc73a7201a7252750c76066a30 a\n",
+    ),
+    (
+        "tree",
+        b"tree 29\x00100700 a\x00\x83\xba\xaea\x80Ne\xccs\xa7 \x1arRu\x0cv\x06j0",
+        b"100700 exe 83baae61804e65cc73a7201a7252750c76066a30 a\n",
+    ),
+];
+
 #[test]
 fn trees(rt: HostRuntime) -> Result<(), Fail> {
     let alloc = rt.alloc();
-    let rows: [(&str, &[u8], &[u8]); 11] = [
-        ("tree", ONE_ENTRY, ONE_LINE),
-        (
-            "tree",
-            b"tree 36\x00100644 test.txt\x00\x83\xba\xaea\x80Ne\xccs\xa7 \x1arRu\x0cv\x06j0and more",
-            ONE_LINE,
-        ),
-        ("tree", TREE, LISTED),
-        ("tree sha256", TREE_SHA256, LISTED_SHA256),
-        ("tree", b"tree 0\0", b""),
-        ("tree sha256", b"tree 0\0and more", b""),
-        // names, as they are
-        (
-            "tree",
-            b"tree 37\x00100644 two\nlines\x00\x83\xba\xaea\x80Ne\xccs\xa7 \x1arRu\x0cv\x06j0",
-            b"100644 blob 83baae61804e65cc73a7201a7252750c76066a30 two\nlines\n",
-        ),
-        (
-            "tree",
-            b"tree 32\x00100644 a \xff\t\x00\x83\xba\xaea\x80Ne\xccs\xa7 \x1arRu\x0cv\x06j0",
-            b"100644 blob 83baae61804e65cc73a7201a7252750c76066a30 a \xff\t\n",
-        ),
-        // modes, as they are written
-        (
-            "tree",
-            b"tree 29\x00040000 a\x00\x83\xba\xaea\x80Ne\xccs\xa7 \x1arRu\x0cv\x06j0",
-            b"040000 tree 83baae61804e65cc73a7201a7252750c76066a30 a\n",
-        ),
-        (
-            "tree",
-            b"tree 29\x00100664 a\x00\x83\xba\xaea\x80Ne\xccs\xa7 \x1arRu\x0cv\x06j0",
-            b"100664 blob 83baae61804e65cc73a7201a7252750c76066a30 a\n",
-        ),
-        (
-            "tree",
-            b"tree 29\x00100700 a\x00\x83\xba\xaea\x80Ne\xccs\xa7 \x1arRu\x0cv\x06j0",
-            b"100700 exe 83baae61804e65cc73a7201a7252750c76066a30 a\n",
-        ),
-    ];
-    for (line, input, output) in rows {
+    for &(line, input, output) in TREES {
         let got = answer_of(alloc, line, input)?;
         assert_eq!(rt; got.1.as_slice(), output, "{line} {input:?}");
         assert_eq!(rt; got.0, 0, "{line} {input:?}");
@@ -76,53 +78,55 @@ fn trees(rt: HostRuntime) -> Result<(), Fail> {
     Ok(())
 }
 
+/// Words, inputs, and the first fault of each.
+const FAULTS: &[(&str, &[u8], &str)] = &[
+    ("tree", b"", "bad header"),
+    ("tree", b"tree 0", "bad header"),
+    ("tree", b"tree x\x00", "bad header"),
+    ("tree", b"trees 0\x00", "bad header"),
+    // short data, of a tree, of a tree whose front is bad, of another kind, with a tree's front
+    (
+        "tree",
+        b"tree 36\x00100644 test.txt\x00\x83\xba\xaea\x80Ne\xccs\xa7 \x1arRu\x0cv\x06",
+        "short data",
+    ),
+    ("tree", b"tree 7\x00hello\n", "short data"),
+    ("tree", b"tree 1\x00", "short data"),
+    ("tree", b"blob 7\x00hello\n", "short data"),
+    (
+        "tree",
+        b"blob 37\x00100644 test.txt\x00\x83\xba\xaea\x80Ne\xccs\xa7 \x1arRu\x0cv\x06j0",
+        "short data",
+    ),
+    // another kind, whose content is no tree's or a tree's
+    ("tree", b"blob 6\x00hello\n", "not a tree"),
+    ("tree sha256", b"tag 0\x00", "not a tree"),
+    (
+        "tree",
+        b"commit 36\x00100644 test.txt\x00\x83\xba\xaea\x80Ne\xccs\xa7 \x1arRu\x0cv\x06j0",
+        "not a tree",
+    ),
+    // a bad tree, from its first entry or behind a good one, or with ids of the other kind
+    ("tree", b"tree 6\x00hello\n", "bad tree"),
+    (
+        "tree",
+        b"tree 35\x00100644 test.txt\x00\x83\xba\xaea\x80Ne\xccs\xa7 \x1arRu\x0cv\x06j0",
+        "bad tree",
+    ),
+    (
+        "tree",
+        b"tree 42\x00100644 test.txt\x00\x83\xba\xaea\x80Ne\xccs\xa7 \x1arRu\x0cv\x06j0hello\n",
+        "bad tree",
+    ),
+    ("tree sha256", ONE_ENTRY, "bad tree"),
+    ("tree sha256", TREE, "bad tree"),
+    ("tree", TREE_SHA256, "bad tree"),
+];
+
 #[test]
 fn first_faults(rt: HostRuntime) -> Result<(), Fail> {
     let alloc = rt.alloc();
-    let rows: [(&str, &[u8], &str); 18] = [
-        ("tree", b"", "bad header"),
-        ("tree", b"tree 0", "bad header"),
-        ("tree", b"tree x\x00", "bad header"),
-        ("tree", b"trees 0\x00", "bad header"),
-        // short data, of a tree, of a tree whose front is bad, of another kind, with a tree's front
-        (
-            "tree",
-            b"tree 36\x00100644 test.txt\x00\x83\xba\xaea\x80Ne\xccs\xa7 \x1arRu\x0cv\x06",
-            "short data",
-        ),
-        ("tree", b"tree 7\x00hello\n", "short data"),
-        ("tree", b"tree 1\x00", "short data"),
-        ("tree", b"blob 7\x00hello\n", "short data"),
-        (
-            "tree",
-            b"blob 37\x00100644 test.txt\x00\x83\xba\xaea\x80Ne\xccs\xa7 \x1arRu\x0cv\x06j0",
-            "short data",
-        ),
-        // another kind, whose content is no tree's or a tree's
-        ("tree", b"blob 6\x00hello\n", "not a tree"),
-        ("tree sha256", b"tag 0\x00", "not a tree"),
-        (
-            "tree",
-            b"commit 36\x00100644 test.txt\x00\x83\xba\xaea\x80Ne\xccs\xa7 \x1arRu\x0cv\x06j0",
-            "not a tree",
-        ),
-        // a bad tree, from its first entry or behind a good one, or with ids of the other kind
-        ("tree", b"tree 6\x00hello\n", "bad tree"),
-        (
-            "tree",
-            b"tree 35\x00100644 test.txt\x00\x83\xba\xaea\x80Ne\xccs\xa7 \x1arRu\x0cv\x06j0",
-            "bad tree",
-        ),
-        (
-            "tree",
-            b"tree 42\x00100644 test.txt\x00\x83\xba\xaea\x80Ne\xccs\xa7 \x1arRu\x0cv\x06j0hello\n",
-            "bad tree",
-        ),
-        ("tree sha256", ONE_ENTRY, "bad tree"),
-        ("tree sha256", TREE, "bad tree"),
-        ("tree", TREE_SHA256, "bad tree"),
-    ];
-    for (line, input, fault) in rows {
+    for &(line, input, fault) in FAULTS {
         let got = answer_of(alloc, line, input)?;
         let told = format!(in alloc; "gixobj: {fault}\n")?;
         assert_eq!(rt; got.2.as_slice(), told.as_bytes(), "{line} {input:?}");

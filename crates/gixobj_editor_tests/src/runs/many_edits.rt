@@ -1,10 +1,9 @@
 //! Many edits in one directory, by one command, with ample memory: each is done. Ids are those that `git mktree --missing`
 //! answers.
 
-use crate::runs::samples::{editor_over, run_on};
-use crate::samples::{FILE, names};
+use crate::runs::samples::{editor_over, put, run_on};
+use crate::samples::names;
 use bstr::BString;
-use gixobj_base::tree::EntryKind;
 use gixobj_editor::{Command, Edit, EditReply, Reply};
 use std::alloc::{AllocError, Global};
 use std::test::Fail;
@@ -12,23 +11,14 @@ use std::test::Fail;
 /// The root with the directory `a` of the files `f0` to `f31`.
 const ROOT: &str = "e11086f75f7478014be187d85a658cdcf8da7527";
 
-/// The path of this text alone.
-fn path(alloc: Global, name: &str) -> Result<Vec<BString>, AllocError> {
-    Ok(vec![in alloc; BString::from_slice(alloc, name.as_bytes())?]?)
-}
-
 /// The files `f0` to `f31` are put into the directory `a`, and the root is written.
 fn many_files(alloc: Global) -> Result<Vec<Command>, AllocError> {
     let mut edits = Vec::new(alloc);
     for number in 0..32u8 {
         let name = format!(in alloc; "f{number}")?;
-        edits.push(Edit::Upsert {
-            path: path(alloc, name.as_str())?,
-            kind: EntryKind::Blob,
-            id: FILE,
-        })?;
+        edits.push(put(alloc, name.as_bytes())?)?;
     }
-    let prefix = path(alloc, "a")?;
+    let prefix = vec![in alloc; BString::from_slice(alloc, b"a")?]?;
     Ok(vec![in alloc; Command::At { prefix, edits }, Command::Edit(Edit::Write)]?)
 }
 

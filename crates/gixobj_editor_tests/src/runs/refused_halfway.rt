@@ -1,6 +1,6 @@
 //! An edit in a directory that is refused between others, and a root that is refused: the rest of the run goes on.
 
-use crate::runs::samples::{editor_over, run_on};
+use crate::runs::samples::{editor_over, put, run_on};
 use crate::samples::{FILE, names};
 use bstr::BString;
 use gixobj_base::Tree;
@@ -19,15 +19,6 @@ const ROOT: &str = "d79ed5c1e2ff97a59beb0fc1a1b79b68aa0be74a";
 
 /// That of a root with the file `f`.
 const ROOT_OF_ONE: &str = "62ebf0092433c4f3272b4b55bfbfdf3b479cefa1";
-
-/// A file of this name is put in.
-fn put(alloc: Global, name: &[u8]) -> Result<Edit, AllocError> {
-    Ok(Edit::Upsert {
-        path: vec![in alloc; BString::from_slice(alloc, name)?]?,
-        kind: EntryKind::Blob,
-        id: FILE,
-    })
-}
 
 /// Three files are put into a directory, the second without a name, and the root is written.
 fn edits_in_a_directory(alloc: Global) -> Result<Vec<Command>, AllocError> {

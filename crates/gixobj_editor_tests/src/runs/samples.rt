@@ -1,10 +1,13 @@
 //! What several tests run, and how.
 
 use crate::runs::failing::Failing;
+use crate::samples::{FILE, id_of};
+use bstr::BString;
 use gixobj_base::hash::Kind as HashKind;
+use gixobj_base::tree::EntryKind;
 use gixobj_base::{OutOfMemory, Tree, encode};
 use gixobj_editor::editor::Editor;
-use gixobj_editor::{Command, Reply, run};
+use gixobj_editor::{Command, Edit, Reply, run};
 use gixobj_script::{edit_on, read_script};
 use std::alloc::{AllocError, Global};
 use std::test::Fail;
@@ -76,4 +79,13 @@ pub(crate) fn tells(
         Ok(text) => text.as_slice() == wanted.as_bytes(),
         Err(_) => false,
     }
+}
+
+/// A file of this name is put in.
+pub(crate) fn put(alloc: Global, name: &[u8]) -> Result<Edit, AllocError> {
+    Ok(Edit::Upsert {
+        path: vec![in alloc; BString::from_slice(alloc, name)?]?,
+        kind: EntryKind::Blob,
+        id: FILE,
+    })
 }

@@ -1,13 +1,15 @@
 //! Stores that refuse to keep a tree, or fail to find one: what is told, and how the run goes on.
 
 use crate::runs::failing::{Failing, OFFLINE};
-use crate::runs::samples::{editor_over, replies_to, tells};
+use crate::runs::samples::{TEN_LINES, editor_over, replies_to, tells};
 use crate::samples::names;
 use gixobj_base::encode;
 use gixobj_base::hash::ObjectId;
+use gixobj_editor::editor::Error;
 use gixobj_editor::{EditReply, Reply};
 use gixobj_find::KeepError;
-use gixobj_object::Find;
+use gixobj_find::find::existing_object;
+use gixobj_object::{Find, find};
 use std::alloc::Global;
 use std::test::Fail;
 
@@ -30,12 +32,44 @@ at bak write
 write
 ";
 
-/// The lookups and the calls of `keep` that fail, and what is told then.
-const ROWS: &[(&[u64], &[u64], &str)] = &[
-    (
-        &[],
-        &[],
-        "ok
+/// A file is put into a stored directory.
+const AT_THE_FIRST: &str = "upsert blob 0101010101010101010101010101010101010101 a/b/c
+write
+root
+upsert tree 708f683ce235f6e3b367a0d6fc2780c3ad22547e a
+upsert blob 0101010101010101010101010101010101010101 a/f
+write
+remove a
+write
+";
+
+/// A file is put into a stored directory of another one, three times.
+const AT_THE_FIRST_AND_THE_THIRD: &str = "upsert blob 0101010101010101010101010101010101010101 a/b/c
+write
+root
+upsert tree 708f683ce235f6e3b367a0d6fc2780c3ad22547e a
+upsert blob 0101010101010101010101010101010101010101 a/b/d
+upsert blob 0101010101010101010101010101010101010101 a/b/d
+upsert blob 0101010101010101010101010101010101010101 a/b/d
+";
+
+/// The lookups and the calls of `keep` that fail, what is told of a script then, and how many calls of `keep` there are.
+struct Row {
+    name: &'static str,
+    script: &'static str,
+    lookups_that_fail: &'static [u64],
+    keeps_that_fail: &'static [u64],
+    told: &'static str,
+    keeps: u64,
+}
+
+const ROWS: &[Row] = &[
+    Row {
+        name: "no-refusal",
+        script: WRITE_AGAIN,
+        lookups_that_fail: &[],
+        keeps_that_fail: &[],
+        told: "ok
 ok
 wrote 90b9c61d2318706c9668ce0b53d697aa2719b7b0 2
 ok
@@ -43,11 +77,14 @@ wrote 21d32280ec25095dcf1a389927245f7b082b590b 1
 wrote 408532bf3332b2c1bcfe9f28b3fbf83d5af25444 2
 lookups 1
 ",
-    ),
-    (
-        &[],
-        &[2],
-        "ok
+        keeps: 5,
+    },
+    Row {
+        name: "the-second-tree-of-a-write-is-not-kept",
+        script: WRITE_AGAIN,
+        lookups_that_fail: &[],
+        keeps_that_fail: &[2],
+        told: "ok
 ok
 unkept 90b9c61d2318706c9668ce0b53d697aa2719b7b0
 ok
@@ -55,11 +92,14 @@ wrote 21d32280ec25095dcf1a389927245f7b082b590b 1
 wrote 408532bf3332b2c1bcfe9f28b3fbf83d5af25444 2
 lookups 1
 ",
-    ),
-    (
-        &[],
-        &[1],
-        "ok
+        keeps: 5,
+    },
+    Row {
+        name: "the-first-tree-of-a-write-is-not-kept",
+        script: WRITE_AGAIN,
+        lookups_that_fail: &[],
+        keeps_that_fail: &[1],
+        told: "ok
 ok
 unkept 90b9c61d2318706c9668ce0b53d697aa2719b7b0
 refused 3
@@ -67,11 +107,14 @@ refused 3
 wrote 90b9c61d2318706c9668ce0b53d697aa2719b7b0 1
 lookups 2
 ",
-    ),
-    (
-        &[],
-        &[3, 5],
-        "ok
+        keeps: 2,
+    },
+    Row {
+        name: "the-tree-of-a-cursor-and-a-root-are-not-kept",
+        script: WRITE_AGAIN,
+        lookups_that_fail: &[],
+        keeps_that_fail: &[3, 5],
+        told: "ok
 ok
 wrote 90b9c61d2318706c9668ce0b53d697aa2719b7b0 2
 ok
@@ -79,11 +122,14 @@ unkept 21d32280ec25095dcf1a389927245f7b082b590b
 unkept 408532bf3332b2c1bcfe9f28b3fbf83d5af25444
 lookups 1
 ",
-    ),
-    (
-        &[1],
-        &[],
-        "ok
+        keeps: 5,
+    },
+    Row {
+        name: "the-first-lookup-fails",
+        script: WRITE_AGAIN,
+        lookups_that_fail: &[1],
+        keeps_that_fail: &[],
+        told: "ok
 ok
 wrote 90b9c61d2318706c9668ce0b53d697aa2719b7b0 2
 refused 3
@@ -91,29 +137,245 @@ wrote d8329fc1cc938780ffdd9f94e0d364e0ea74f579 1
 wrote 90b9c61d2318706c9668ce0b53d697aa2719b7b0 1
 lookups 2
 ",
-    ),
+        keeps: 4,
+    },
+    Row {
+        name: "told-and-counted",
+        script: TEN_LINES,
+        lookups_that_fail: &[],
+        keeps_that_fail: &[],
+        told: "ok
+ok
+ok
+wrote 3c4e9cd789d88d8d89c1073707c3585e41b0e614 2
+ok
+wrote 3c4e9cd789d88d8d89c1073707c3585e41b0e614 1
+wrote d8329fc1cc938780ffdd9f94e0d364e0ea74f579 1
+ok
+wrote 0155eb4229851634a0f03eb265b69f5a2d56f341 1
+refused 1
+lookups 2
+",
+        keeps: 5,
+    },
+    Row {
+        name: "asked-where-the-count-rises",
+        script: "upsert blob 0101010101010101010101010101010101010101 a/b/c
+write
+root
+upsert tree 708f683ce235f6e3b367a0d6fc2780c3ad22547e a
+upsert blob 0101010101010101010101010101010101010101 a/b/d
+upsert blob 0101010101010101010101010101010101010101 a/b/d
+",
+        lookups_that_fail: &[2],
+        keeps_that_fail: &[],
+        told: "ok
+wrote 0777f611c446507a3c6fa4a976a7a8d5f0eaed6d 3
+ok
+ok
+refused 3
+ok
+lookups 3
+",
+        keeps: 3,
+    },
+    Row {
+        name: "not-asked-by-what-looks-nothing-up",
+        script: "upsert blob 0101010101010101010101010101010101010101 a/b/c
+write
+root
+upsert tree 708f683ce235f6e3b367a0d6fc2780c3ad22547e a
+upsert blob 0101010101010101010101010101010101010101 a/d
+write
+upsert blob 0101010101010101010101010101010101010101 a/e
+",
+        lookups_that_fail: &[2],
+        keeps_that_fail: &[],
+        told: "ok
+wrote 0777f611c446507a3c6fa4a976a7a8d5f0eaed6d 3
+ok
+ok
+ok
+wrote 9e93a904d3f6460c336f65230b296e4a27948f8e 2
+refused 3
+lookups 2
+",
+        keeps: 5,
+    },
+    Row {
+        name: "asked-by-a-removal",
+        script: "upsert blob 0101010101010101010101010101010101010101 a/b/c
+write
+root
+upsert tree 708f683ce235f6e3b367a0d6fc2780c3ad22547e a
+remove a/b/c
+remove a/b/c
+",
+        lookups_that_fail: &[2],
+        keeps_that_fail: &[],
+        told: "ok
+wrote 0777f611c446507a3c6fa4a976a7a8d5f0eaed6d 3
+ok
+ok
+refused 3
+ok
+lookups 3
+",
+        keeps: 3,
+    },
+    Row {
+        name: "asked-for-a-directory-that-is-not-there",
+        script: "upsert tree 0303030303030303030303030303030303030303 a
+remove a/b
+remove a
+write
+",
+        lookups_that_fail: &[],
+        keeps_that_fail: &[],
+        told: "ok
+refused 3
+ok
+wrote 4b825dc642cb6eb9a060e54bf8d69288fbee4904 1
+lookups 1
+",
+        keeps: 1,
+    },
+    Row {
+        name: "a-store-that-fails",
+        script: AT_THE_FIRST,
+        lookups_that_fail: &[1],
+        keeps_that_fail: &[],
+        told: "ok
+wrote 0777f611c446507a3c6fa4a976a7a8d5f0eaed6d 3
+ok
+ok
+refused 3
+wrote 0777f611c446507a3c6fa4a976a7a8d5f0eaed6d 1
+ok
+wrote 4b825dc642cb6eb9a060e54bf8d69288fbee4904 1
+lookups 1
+",
+        keeps: 5,
+    },
+    Row {
+        name: "a-store-that-fails-at-the-first-lookup-and-the-third",
+        script: AT_THE_FIRST_AND_THE_THIRD,
+        lookups_that_fail: &[1, 3],
+        keeps_that_fail: &[],
+        told: "ok
+wrote 0777f611c446507a3c6fa4a976a7a8d5f0eaed6d 3
+ok
+ok
+refused 3
+refused 3
+ok
+lookups 4
+",
+        keeps: 3,
+    },
+    Row {
+        name: "not-asked-for-directories-without-files",
+        script: "upsert blob 0101010101010101010101010101010101010101 a/b/c
+write
+root
+upsert tree 708f683ce235f6e3b367a0d6fc2780c3ad22547e a
+upsert tree 0000000000000000000000000000000000000000 e
+leaf e/f
+remove e/f
+upsert blob 0101010101010101010101010101010101010101 e/f
+upsert tree 4b825dc642cb6eb9a060e54bf8d69288fbee4904 e
+leaf e/f
+remove e/f
+upsert blob 0101010101010101010101010101010101010101 e/f
+",
+        lookups_that_fail: &[2],
+        keeps_that_fail: &[],
+        told: "ok
+wrote 0777f611c446507a3c6fa4a976a7a8d5f0eaed6d 3
+ok
+ok
+ok
+ok
+ok
+ok
+ok
+ok
+ok
+ok
+lookups 0
+",
+        keeps: 3,
+    },
+    Row {
+        name: "not-asked-for-bad-names",
+        script: "upsert blob 0101010101010101010101010101010101010101 a/b/c
+write
+root
+upsert tree 708f683ce235f6e3b367a0d6fc2780c3ad22547e a
+upsert blob 0101010101010101010101010101010101010101 a/
+remove /a
+",
+        lookups_that_fail: &[2],
+        keeps_that_fail: &[],
+        told: "ok
+wrote 0777f611c446507a3c6fa4a976a7a8d5f0eaed6d 3
+ok
+ok
+refused 1
+refused 1
+lookups 0
+",
+        keeps: 3,
+    },
 ];
 
-/// Whether this is told of the script, and the store was asked as often as is told.
-fn tells_and_asks(
-    alloc: Global,
-    lookups_that_fail: &'static [u64],
-    keeps_that_fail: &'static [u64],
-    wanted: &str,
-) -> bool {
-    let mut editor = editor_over(alloc, lookups_that_fail, keeps_that_fail);
-    tells(alloc, &mut editor, WRITE_AGAIN, wanted)
+/// These rows.
+fn rows() -> &'static [Row] {
+    ROWS
+}
+
+/// Whether this is told of the script of a row, and the store was asked as often as is told.
+fn tells_and_asks(alloc: Global, row: &Row) -> bool {
+    let mut editor = editor_over(alloc, row.lookups_that_fail, row.keeps_that_fail);
+    tells(alloc, &mut editor, row.script, row.told)
         && editor.lookups() == editor.store_mut().lookups()
+        && editor.store_mut().keeps() == row.keeps
 }
 
 #[test]
 fn told_of_refusals(rt: HostRuntime) {
-    for &(lookups_that_fail, keeps_that_fail, wanted) in ROWS {
-        assert!(rt;
-            tells_and_asks(rt.alloc(), lookups_that_fail, keeps_that_fail, wanted),
-            "{wanted}"
-        );
+    for row in rows() {
+        assert!(rt; tells_and_asks(rt.alloc(), row), "{}", row.name);
     }
+}
+
+/// Whether an edit was refused since the store failed.
+fn is_offline(reply: Option<&Reply<encode::Error>>) -> bool {
+    match reply {
+        Some(
+            Reply::Edit(
+                EditReply::Refused(
+                    Error::FindExistingObject(
+                        existing_object::Error::Find(find::Error::Store(message)),
+                    ),
+                ),
+            ),
+        ) => message.as_bytes() == OFFLINE,
+        _ => false,
+    }
+}
+
+/// Each edit that looked up in vain says so.
+#[test]
+fn a_store_that_fails(rt: HostRuntime) -> Result<(), Fail> {
+    let alloc = rt.alloc();
+    let mut editor = editor_over(alloc, &[1], &[]);
+    let replies = replies_to(alloc, &mut editor, AT_THE_FIRST)?;
+    assert!(rt; is_offline(replies.get(4)));
+    let mut editor = editor_over(alloc, &[1, 3], &[]);
+    let replies = replies_to(alloc, &mut editor, AT_THE_FIRST_AND_THE_THIRD)?;
+    assert!(rt; is_offline(replies.get(4)) && is_offline(replies.get(5)));
+    Ok(())
 }
 
 /// Whether the last reply says that two trees went out, and the second wasn't kept.
