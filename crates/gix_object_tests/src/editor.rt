@@ -1,6 +1,5 @@
 //! What is told of a refused tree, and a history in a caller's clause. Ids are those that `git mktree --missing` answers.
-ghost use Rattle.std.specs.Prelude.{ℕ, ◌∷◌, [], IfOk, IfSome, Ok};
-ghost use Rattle.std.specs.Fn.{CalledAt};
+ghost use Rattle.std.specs.Prelude.{ℕ, ◌∷◌, [], IfOk, IfSome};
 ghost use Rattle.gixobj_base.specs.Mode.{mode_of_kind};
 ghost use Rattle.gixobj_base.specs.tree.tree.entry_kind.EntryKind.TheVariants.{Blob};
 ghost use Rattle.gixobj_files.specs.Bases.{HasBases};

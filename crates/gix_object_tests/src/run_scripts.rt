@@ -2,7 +2,7 @@
 
 use crate::listing::{Listed, files_of};
 use crate::plain_lists::{are_same, assure, begins, below, forget, joined, put};
-use crate::samples::{id_of, tree_of};
+use crate::samples::tree_of;
 use bstr::BString;
 use gix_object::hash::{Kind as HashKind, ObjectId};
 use gix_object::tree::EntryKind;
@@ -335,7 +335,7 @@ fn replies_to(
         alloc,
         &mut editor,
         commands,
-        |tree: &Tree| id_of(alloc, tree),
+        |tree: &Tree| tree.compute_id(alloc, HashKind::Sha1),
     )
 }
 

@@ -120,7 +120,7 @@ pub(crate) fn upserted(
 
 /// Whether a script is run on an editor.
 pub(crate) fn is_run(alloc: Global, editor: &mut Editor<Memory>, script: &str) -> bool {
-    let out = |tree: &Tree| id_of(alloc, tree);
+    let out = |tree: &Tree| tree.compute_id(alloc, HashKind::Sha1);
     edit_on(alloc, editor, script.as_bytes(), HashKind::Sha1, out).is_ok()
 }
 

@@ -168,7 +168,7 @@ fn saves_by_a_cursor(
 ) -> Result<bool, Fail> {
     let directory = path_of(alloc, b"a")?;
     let mut cursor = editor.cursor_at(&directory)?;
-    match cursor.write(|tree: &Tree| id_of(alloc, tree)) {
+    match cursor.write(|tree: &Tree| tree.compute_id(alloc, HashKind::Sha1)) {
         Ok(written) => Ok(written.saved == wanted.saved && went_out(alloc, &written, wanted.ids)),
         Err(_) => Ok(false),
     }

@@ -1,7 +1,7 @@
 //! What several tests run, and how.
 
 use crate::runs::failing::Failing;
-use crate::samples::{FILE, id_of};
+use crate::samples::FILE;
 use bstr::BString;
 use gixobj_base::hash::Kind as HashKind;
 use gixobj_base::tree::EntryKind;
