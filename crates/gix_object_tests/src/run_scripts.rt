@@ -8,8 +8,7 @@ use bstr::BString;
 use gix_object::hash::{Kind as HashKind, ObjectId};
 use gix_object::tree::editor::{Command, Edit, EditReply, Editor, Error, Reply, Written, run};
 use gix_object::tree::{Entry, EntryKind};
-use gix_object::{Keep, Tree, encode};
-use gixobj_find::Memory;
+use gix_object::{Keep, Memory, Tree, encode};
 use std::alloc::{AllocError, Global};
 use std::test::Fail;
 

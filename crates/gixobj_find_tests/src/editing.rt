@@ -7,8 +7,7 @@ use gix_object::find::existing_object;
 use gix_object::hash::{Kind as HashKind, ObjectId};
 use gix_object::tree::editor::{Editor, Error};
 use gix_object::tree::{Entry, EntryKind};
-use gix_object::{Kind, Tree, WriteTo, compute_hash, encode, find};
-use gixobj_find::Memory;
+use gix_object::{Kind, Memory, Tree, WriteTo, compute_hash, encode, find};
 use std::alloc::{AllocError, Global};
 use std::test::Fail;
 

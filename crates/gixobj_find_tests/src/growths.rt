@@ -4,8 +4,7 @@
 use crate::samples::{KINDS, ROOT_TEXT, VERSION_1, id, text_of, two_trees};
 use gix_object::find::{existing, existing_iter, existing_object};
 use gix_object::hash::{Kind as HashKind, ObjectId};
-use gix_object::{FindExt, Kind, OutOfMemory, TreeRefIter, decode, find};
-use gixobj_find::Memory;
+use gix_object::{FindExt, Kind, Memory, OutOfMemory, TreeRefIter, decode, find};
 use std::alloc::Global;
 use std::test::Fail;
 

@@ -3,8 +3,7 @@
 use crate::samples::two_trees;
 use gix_object::find::{existing, existing_object};
 use gix_object::hash::{Kind as HashKind, ObjectId};
-use gix_object::{FindExt, Kind, OutOfMemory, decode};
-use gixobj_find::Memory;
+use gix_object::{FindExt, Kind, Memory, OutOfMemory, decode};
 use std::alloc::Global;
 use std::test::Fail;
 

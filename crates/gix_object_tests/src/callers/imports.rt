@@ -5,9 +5,8 @@ use crate::samples::{id, id_of, path_of};
 use gix_object::hash::Kind;
 use gix_object::tree::EntryKind;
 use gix_object::tree::editor::{Edit, Editor, Error, WriteError, Written};
-use gix_object::{Tree, encode};
+use gix_object::{Memory, Tree, encode};
 use gixobj_callers::importer::{ImportError, import_files};
-use gixobj_find::Memory;
 use std::alloc::{AllocError, Global};
 use std::test::Fail;
 

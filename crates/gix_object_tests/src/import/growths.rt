@@ -2,11 +2,10 @@
 //! imports all of them.
 
 use crate::import::samples::{COMMITS, are_commits, kept_commit, number, plain_steps, step};
-use gixobj_editor::editor::{Error, WriteError};
-use gixobj_fields::encode;
-use gixobj_find::{KeepError, Memory};
-use gixobj_hash::hash::Kind as HashKind;
-use gixobj_import::{ImportError, Importer, Step, Stopped, import_all};
+use gix_object::hash::Kind as HashKind;
+use gix_object::import::{ImportError, Importer, Step, Stopped, import_all};
+use gix_object::tree::editor::{Error, WriteError};
+use gix_object::{KeepError, Memory, encode};
 use std::alloc::Global;
 use std::test::Fail;
 

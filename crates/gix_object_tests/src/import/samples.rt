@@ -1,19 +1,18 @@
 //! Steps, and what several tests ask of an import.
 
 use bstr::BString;
-use gixobj_actor::actor::Signature;
-use gixobj_actor::date::Time;
-use gixobj_editor::Edit;
-use gixobj_hash::hash::ObjectId;
-use gixobj_hash::{Kind, compute_hash};
-use gixobj_import::{ImportError, Imported, Step};
-use gixobj_object::Find;
-use gixobj_tree::tree::EntryKind;
+use gix_object::actor::Signature;
+use gix_object::date::Time;
+use gix_object::hash::ObjectId;
+use gix_object::import::{ImportError, Imported, Step};
+use gix_object::tree::EntryKind;
+use gix_object::tree::editor::Edit;
+use gix_object::{Find, Kind, compute_hash};
 use std::alloc::{AllocError, Global};
 
 /// The id that the hex digits spell; of others the null id.
 pub(crate) fn id(hex: &str) -> ObjectId {
-    ObjectId::from_hex(hex.as_bytes()).unwrap_or(ObjectId::null(gixobj_hash::hash::Kind::Sha1))
+    ObjectId::from_hex(hex.as_bytes()).unwrap_or(ObjectId::null(gix_object::hash::Kind::Sha1))
 }
 
 /// The path of the names between slashes.

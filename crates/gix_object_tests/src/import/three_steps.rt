@@ -4,9 +4,9 @@
 use crate::import::samples::{
     Blobs, COMMITS, are_commits, id, kept_commit, number, plain_steps, step_by, three_steps,
 };
-use gixobj_find::Memory;
-use gixobj_hash::hash::Kind as HashKind;
-use gixobj_import::{Imported, Importer, import_all};
+use gix_object::Memory;
+use gix_object::hash::Kind as HashKind;
+use gix_object::import::{Imported, Importer, import_all};
 use std::test::Fail;
 
 /// The trees, how many were handed out, and the size of the commit, of each step.

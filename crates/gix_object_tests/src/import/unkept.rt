@@ -2,8 +2,8 @@
 
 use crate::import::failing::Failing;
 use crate::import::samples::{COMMITS, are_commits, kept_commit, number, plain_steps, step};
-use gixobj_hash::hash::Kind as HashKind;
-use gixobj_import::{Importer, import_all};
+use gix_object::hash::Kind as HashKind;
+use gix_object::import::{Importer, import_all};
 use std::alloc::Global;
 use std::test::Fail;
 
