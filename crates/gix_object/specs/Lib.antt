@@ -1,13 +1,50 @@
+pub use Rattle.gixobj_actor.specs.Actor
+pub use Rattle.gixobj_actor.specs.ActorWriting
+pub use Rattle.gixobj_actor.specs.Date
+pub use Rattle.gixobj_actor.specs.declared as actor
+pub use Rattle.gixobj_commit.specs.Commit
+pub use Rattle.gixobj_commit.specs.CommitOwned
+pub use Rattle.gixobj_commit.specs.CommitRuns
+pub use Rattle.gixobj_commit.specs.CommitSigning
+pub use Rattle.gixobj_commit.specs.CommitTokens
+pub use Rattle.gixobj_commit.specs.CommitViews
+pub use Rattle.gixobj_commit.specs.CommitWriting
+pub use Rattle.gixobj_commit.specs.ExtraHeaders
+pub use Rattle.gixobj_commit.specs.Extracting
+pub use Rattle.gixobj_commit.specs.HeadersLeft
+pub use Rattle.gixobj_commit.specs.Lines
+pub use Rattle.gixobj_commit.specs.Mergetags
+pub use Rattle.gixobj_commit.specs.ParentsLeft
+pub use Rattle.gixobj_commit.specs.Readers
+pub use Rattle.gixobj_commit.specs.Rewriting
+pub use Rattle.gixobj_commit.specs.TokenFilters
+pub use Rattle.gixobj_commit.specs.TokenGiving
+pub use Rattle.gixobj_commit.specs.TokenPassing
+pub use Rattle.gixobj_commit.specs.declared as commit
 pub use Rattle.gixobj_directories.specs.Calls
 pub use Rattle.gixobj_directories.specs.Handing
+pub use Rattle.gixobj_directories.specs.LookedUp
 pub use Rattle.gixobj_directories.specs.Openings
+pub use Rattle.gixobj_directories.specs.declared as directories
 pub use Rattle.gixobj_editor.specs.Commands
 pub use Rattle.gixobj_editor.specs.Cursors
+pub use Rattle.gixobj_editor.specs.OneId
 pub use Rattle.gixobj_editor.specs.Removals
 pub use Rattle.gixobj_editor.specs.Replies
 pub use Rattle.gixobj_editor.specs.RunTables
 pub use Rattle.gixobj_editor.specs.Upserts
 pub use Rattle.gixobj_editor.specs.Writes
+pub use Rattle.gixobj_editor.specs.declared as editor
+pub use Rattle.gixobj_fields.specs.FieldWriting
+pub use Rattle.gixobj_fields.specs.HeaderReading
+pub use Rattle.gixobj_fields.specs.HeaderText
+pub use Rattle.gixobj_fields.specs.Readers as FieldReaders
+pub use Rattle.gixobj_fields.specs.Runs
+pub use Rattle.gixobj_fields.specs.StreamHash
+pub use Rattle.gixobj_fields.specs.Streams
+pub use Rattle.gixobj_fields.specs.Writing
+pub use Rattle.gixobj_fields.specs.declared as fields
+pub use Rattle.gixobj_files.specs.Bases
 pub use Rattle.gixobj_files.specs.Editing
 pub use Rattle.gixobj_files.specs.Edits
 pub use Rattle.gixobj_files.specs.Files
@@ -15,16 +52,40 @@ pub use Rattle.gixobj_files.specs.Halting
 pub use Rattle.gixobj_files.specs.HandingOut
 pub use Rattle.gixobj_files.specs.History
 pub use Rattle.gixobj_files.specs.Opening
+pub use Rattle.gixobj_files.specs.PlainHistory
 pub use Rattle.gixobj_files.specs.State
 pub use Rattle.gixobj_files.specs.Tables
 pub use Rattle.gixobj_files.specs.Unopened
 pub use Rattle.gixobj_find.specs.Existing
 pub use Rattle.gixobj_find.specs.Keeping
+pub use Rattle.gixobj_find.specs.Memory
 pub use Rattle.gixobj_find.specs.Nothing
 pub use Rattle.gixobj_find.specs.Writers
+pub use Rattle.gixobj_find.specs.declared as find
+pub use Rattle.gixobj_hash.specs.Bytes
+pub use Rattle.gixobj_hash.specs.Decode
+pub use Rattle.gixobj_hash.specs.Encode
+pub use Rattle.gixobj_hash.specs.Hash
+pub use Rattle.gixobj_hash.specs.Kind
+pub use Rattle.gixobj_hash.specs.Optional
+pub use Rattle.gixobj_hash.specs.Texts
+pub use Rattle.gixobj_hash.specs.declared as hash
 pub use Rattle.gixobj_import.specs.ByDigest
+pub use Rattle.gixobj_import.specs.Commits
+pub use Rattle.gixobj_import.specs.Edited
 pub use Rattle.gixobj_import.specs.Imports
 pub use Rattle.gixobj_import.specs.Steps
+pub use Rattle.gixobj_import.specs.declared as import
+pub use Rattle.gixobj_object.specs.BorrowedObjects
+pub use Rattle.gixobj_object.specs.Checksums
+pub use Rattle.gixobj_object.specs.EntryGiving
+pub use Rattle.gixobj_object.specs.Lookups
+pub use Rattle.gixobj_object.specs.LooseObjects
+pub use Rattle.gixobj_object.specs.ObjectReading
+pub use Rattle.gixobj_object.specs.Objects
+pub use Rattle.gixobj_object.specs.Stores
+pub use Rattle.gixobj_object.specs.TreeReaders
+pub use Rattle.gixobj_object.specs.declared as object
 pub use Rattle.gixobj_signature.specs.Calls as ProgramCalls
 pub use Rattle.gixobj_signature.specs.Fields
 pub use Rattle.gixobj_signature.specs.GpgReports
@@ -37,3 +98,47 @@ pub use Rattle.gixobj_signature.specs.Trust
 pub use Rattle.gixobj_signature.specs.Verifiers
 pub use Rattle.gixobj_signature.specs.Verifying
 pub use Rattle.gixobj_signature.specs.VerifyingCalls
+pub use Rattle.gixobj_signature.specs.declared as signature
+pub use Rattle.gixobj_signed.specs.Agreeing
+pub use Rattle.gixobj_signed.specs.LineFields
+pub use Rattle.gixobj_signed.specs.OneMarker
+pub use Rattle.gixobj_signed.specs.SignedTexts
+pub use Rattle.gixobj_tag.specs.LineReading
+pub use Rattle.gixobj_tag.specs.NameRule
+pub use Rattle.gixobj_tag.specs.Readers as TagReaders
+pub use Rattle.gixobj_tag.specs.Rewriting as TagRewriting
+pub use Rattle.gixobj_tag.specs.Signed
+pub use Rattle.gixobj_tag.specs.TagExtracting
+pub use Rattle.gixobj_tag.specs.TagOwned
+pub use Rattle.gixobj_tag.specs.TagSigning
+pub use Rattle.gixobj_tag.specs.TagText
+pub use Rattle.gixobj_tag.specs.TagTokens
+pub use Rattle.gixobj_tag.specs.TagViews
+pub use Rattle.gixobj_tag.specs.TagWriting
+pub use Rattle.gixobj_tag.specs.TokenGiving as TagTokenGiving
+pub use Rattle.gixobj_tag.specs.declared as tag
+pub use Rattle.gixobj_text.specs.Blocks
+pub use Rattle.gixobj_text.specs.Bodies
+pub use Rattle.gixobj_text.specs.BodyLines
+pub use Rattle.gixobj_text.specs.Filters
+pub use Rattle.gixobj_text.specs.GivingBlocks
+pub use Rattle.gixobj_text.specs.GivingTrailers
+pub use Rattle.gixobj_text.specs.Markers
+pub use Rattle.gixobj_text.specs.MessageTrailers
+pub use Rattle.gixobj_text.specs.Summing
+pub use Rattle.gixobj_text.specs.Titles
+pub use Rattle.gixobj_text.specs.TrailerBlocks
+pub use Rattle.gixobj_text.specs.TrailerNames
+pub use Rattle.gixobj_text.specs.Trailers
+pub use Rattle.gixobj_text.specs.Unfolding
+pub use Rattle.gixobj_text.specs.declared as text
+pub use Rattle.gixobj_tree.specs.Entries
+pub use Rattle.gixobj_tree.specs.EntryOrder
+pub use Rattle.gixobj_tree.specs.Mode
+pub use Rattle.gixobj_tree.specs.ModeNumber
+pub use Rattle.gixobj_tree.specs.Rewriting as TreeRewriting
+pub use Rattle.gixobj_tree.specs.TreeReading
+pub use Rattle.gixobj_tree.specs.TreeText
+pub use Rattle.gixobj_tree.specs.TreeViews
+pub use Rattle.gixobj_tree.specs.WellFormed
+pub use Rattle.gixobj_tree.specs.declared as tree

@@ -19,5 +19,7 @@ pub use gixobj_codec::{
     LooseDecodeError, Object, ObjectRef, Store, Tag, TagRef, TagRefIter, TreeRef, TreeRefIter,
     commit, data, tag,
 };
-pub use gixobj_find::{FindExt, HeaderExt, Keep, KeepCommit, KeepError, Write, find, write};
+pub use gixobj_find::{
+    FindExt, HeaderExt, Keep, KeepCommit, KeepError, Memory, Write, find, write,
+};
 pub use gixobj_import::import;

@@ -1,7 +1,7 @@
 -- Lists of files.
 use Rattle.std.specs.Prelude.{◌≡◌, ◌⊎◌, ℕ, List, [], ◌∷◌}
-use Rattle.gixobj_base.specs.hash.hash.object_id.ObjectId.{ObjectId}
-use Rattle.gixobj_files.specs.Files.{FileSet, Path}
+use Rattle.gix_object.specs.Files.{FileSet, Path}
+use Rattle.gix_object.specs.hash.hash.object_id.ObjectId.{ObjectId}
 
 -- a file as contracts see it
 pub record FileView : Type 0 where

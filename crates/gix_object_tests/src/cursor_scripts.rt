@@ -4,11 +4,10 @@
 use crate::listing::Listed;
 use crate::scripts::{self, Numbers, begins, copy_of, drawn_path, forget, names, put, writes};
 use bstr::BString;
-use gix_object::Tree;
 use gix_object::hash::{Kind as HashKind, ObjectId};
 use gix_object::tree::editor::{Cursor, Editor, Error, Written};
 use gix_object::tree::{Entry, EntryKind};
-use gixobj_find::Memory;
+use gix_object::{Memory, Tree};
 use std::alloc::{AllocError, Global};
 use std::test::Fail;
 

@@ -1,14 +1,14 @@
 //! What is told of a refused tree, and a history in a caller's clause. Ids are those that `git mktree --missing` answers.
 ghost use Rattle.std.specs.Prelude.{ℕ, ◌∷◌, [], IfOk, IfSome};
-ghost use Rattle.gixobj_base.specs.Mode.{mode_of_kind};
-ghost use Rattle.gixobj_base.specs.tree.tree.entry_kind.EntryKind.TheVariants.{Blob};
-ghost use Rattle.gixobj_files.specs.Bases.{HasBases};
-ghost use Rattle.gixobj_files.specs.State.{EditorFiles, open_bases, open_dirs};
-ghost use Rattle.gixobj_directories.specs.Calls.{IsCallableOnTrees, answered, names_of};
-ghost use Rattle.gixobj_directories.specs.Openings.{OfTrees};
-ghost use Rattle.gixobj_files.specs.Files.{NamedFiles, SameFiles, Table};
-ghost use Rattle.gixobj_files.specs.Tables.{AgreesWithPairs, AgreesWithStore};
-ghost use Rattle.gixobj_files.specs.History.{History, remove, upsert};
+ghost use Rattle.gix_object.specs.Bases.{HasBases};
+ghost use Rattle.gix_object.specs.Calls.{IsCallableOnTrees, answered, names_of};
+ghost use Rattle.gix_object.specs.Files.{NamedFiles, SameFiles, Table};
+ghost use Rattle.gix_object.specs.History.{History, remove, upsert};
+ghost use Rattle.gix_object.specs.Mode.{mode_of_kind};
+ghost use Rattle.gix_object.specs.Openings.{OfTrees};
+ghost use Rattle.gix_object.specs.State.{EditorFiles, open_bases, open_dirs};
+ghost use Rattle.gix_object.specs.Tables.{AgreesWithPairs, AgreesWithStore};
+ghost use Rattle.gix_object.specs.tree.tree.entry_kind.EntryKind.TheVariants.{Blob};
 
 use crate::samples::{id, path_of};
 use bstr::BString;

@@ -2,8 +2,8 @@
 ghost use Rattle.std.specs.Prelude.{◌≡◌, ◌++◌, ◌∷◌, [], IfOk, OnOk, map};
 ghost use Rattle.std.specs.Option.{option_copied};
 ghost use Rattle.bstr.specs.Owned.{bstring_bytes};
-ghost use Rattle.gixobj_files.specs.Files.{Below, Files, SameFiles, Table};
-ghost use Rattle.gixobj_files.specs.Tables.{IsFirst, IsTableOf};
+ghost use Rattle.gix_object.specs.Files.{Below, Files, SameFiles, Table};
+ghost use Rattle.gix_object.specs.Tables.{IsFirst, IsTableOf};
 ghost use Rattle.gix_object_tests.specs.Lists.{Lists, in_front};
 
 #[cfg(test)]
@@ -28,8 +28,8 @@ pub(crate) struct Listed {
 }
 
 impl Model for Listed {
-    ghost use Rattle.gixobj_directories.specs.Calls.{names_of};
-    ghost use Rattle.gixobj_base.specs.Mode.{mode_bits};
+    ghost use Rattle.gix_object.specs.Calls.{names_of};
+    ghost use Rattle.gix_object.specs.Mode.{mode_bits};
     ghost use Rattle.gix_object_tests.specs.Lists.{FileView};
 
     ghost Value = { FileView };

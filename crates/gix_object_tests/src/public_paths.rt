@@ -4,9 +4,10 @@ mod root {
     pub use gix_object::{
         Blob, BlobRef, Commit, CommitRef, CommitRefIter, Data, Exists, Find, FindExt, FindHeader,
         FindObjectOrHeader, Header, HeaderExt, Keep, KeepCommit, KeepError, Kind, LooseDecodeError,
-        Object, ObjectRef, OutOfMemory, Store, Tag, TagRef, TagRefIter, Tree, TreeRef, TreeRefIter,
-        Write, WriteTo, actor, commit, compute_hash, compute_stream_hash, data, date, decode,
-        encode, find, hash, import, kind, laws, signature, stream_hash, streams, tag, tree, write,
+        Memory, Object, ObjectRef, OutOfMemory, Store, Tag, TagRef, TagRefIter, Tree, TreeRef,
+        TreeRefIter, Write, WriteTo, actor, commit, compute_hash, compute_stream_hash, data, date,
+        decode, encode, find, hash, import, kind, laws, signature, stream_hash, streams, tag, tree,
+        write,
     };
 }
 
@@ -87,6 +88,62 @@ mod of_laws {
         every_list_makes_a_table, every_store_has_its_own_table, every_store_names_trees,
         fitting_imports_have_a_table, fitting_pairs_have_a_table, fitting_runs_have_a_table,
         trees_read_as_themselves,
+    };
+}
+
+mod of_laws_of_commits {
+    pub use gix_object::laws::readers::{
+        actors_are_found, ids_are_found, message_is_found, readers_read_one_language,
+        tokens_are_passed,
+    };
+    pub use gix_object::laws::tokens::{runs_are_their_tokens, tokens_have_one_reading};
+    pub use gix_object::laws::{
+        borrowed_headers_are_found, borrowed_mergetags_are_found, commit_has_one_reading,
+        commit_reads_and_writes, commit_writes_back, owned_forms_have_the_parts,
+        owned_headers_are_found, owned_mergetags_are_found, readers, tokens,
+    };
+}
+
+mod of_laws_of_fields {
+    pub use gix_object::laws::{
+        actor_line_has_one_reading, actor_reads_back, header_fields_have_one_reading,
+        header_reads_back, hex_reads_back, hex_spells_one_id, hex_writes_back,
+        loose_header_reads_back, mode_reads_back, time_reads_back, writers_fail_as_their_sinks,
+    };
+}
+
+mod of_laws_of_messages {
+    pub use gix_object::laws::{
+        bodies_have_one_block_start, bodies_have_one_list_of_blocks, messages_are_split_once,
+        messages_have_one_list_of_trailers, parts_are_the_body, readers_give_all,
+        trailer_lines_are_read,
+    };
+}
+
+mod of_laws_of_signatures {
+    pub use gix_object::laws::{
+        commits_give_their_payloads, owned_commits_have_line_fields, signatures_have_one_format,
+        signed_commit_gives_its_payload, signed_tag_gives_its_payload, tag_signatures_agree,
+        tags_give_their_payloads, texts_have_one_marker_place,
+    };
+}
+
+mod of_laws_of_stores {
+    pub use gix_object::laws::an_object_is_put_in;
+}
+
+mod of_laws_of_tags {
+    pub use gix_object::laws::{
+        owned_tags_have_the_parts, parts_of_tags_are_found, tag_has_one_reading,
+        tag_readers_read_one_language, tag_reads_and_writes, tag_tokens_are_passed,
+        tag_tokens_have_one_reading, tag_writes_back,
+    };
+}
+
+mod of_laws_of_trees {
+    pub use gix_object::laws::{
+        bytes_left_end_the_text, entries_are_passed, ids_are_the_same_or_not, tree_has_one_reading,
+        tree_readers_read_one_language, tree_reads_back, tree_writes_back,
     };
 }
 

@@ -7,8 +7,7 @@ use bstr::BString;
 use gix_object::hash::{Kind as HashKind, ObjectId};
 use gix_object::tree::EntryKind;
 use gix_object::tree::editor::{Editor, Error, Written};
-use gix_object::{Kind, Tree};
-use gixobj_find::Memory;
+use gix_object::{Kind, Memory, Tree};
 use std::alloc::{AllocError, Global};
 use std::test::Fail;
 

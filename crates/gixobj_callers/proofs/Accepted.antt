@@ -2,22 +2,22 @@
 use Rattle.std.proofs.Common.{◌≡◌, ◌⊎◌, ℕ, Bool, true, false, List, [], ◌∷◌, ◌++◌, ◌&&◌, ◌∙◌, Option, Some, None, Result, Ok, Err, IfOk, ap, cond, inl, inr, nat_eq, refl, subst, sym}
 use Rattle.std.specs.List.{filter_map, starts_with}
 use Rattle.std.specs.Prelude.{codes}
-use Rattle.gixobj_signature.specs.Calls.{Answer, CallView, OutputView, failed, no_memory, ran}
-use Rattle.gixobj_signature.specs.GpgReports.{gpg_report, status_of, told_lines, verdict}
-use Rattle.gixobj_signature.specs.Outcomes.{OutcomeView, is_good_status, is_trusted, judged, outcome_view}
-use Rattle.gixobj_signature.specs.Plans.{Carries, done}
-use Rattle.gixobj_signature.specs.SshReports.{ssh_report, ssh_status}
-use Rattle.gixobj_signature.specs.declared.signature.report.Outcome.{Outcome}
-use Rattle.gixobj_signature.specs.declared.signature.report.Status.{Status}
-use Rattle.gixobj_signature.specs.declared.signature.report.Status.TheVariants as status
-use Rattle.gixobj_signature.specs.declared.signature.report.TrustLevel.{TrustLevel}
-use Rattle.gixobj_signature.specs.declared.signature.report.TrustLevel.TheVariants as trust
-use Rattle.gixobj_text.specs.declared.signature.Format.{Format}
-use Rattle.gixobj_text.specs.declared.signature.Format.TheVariants as format
-use Rattle.gixobj_signature.specs.Verifiers.{OptionsView, ProgramView, SshView, by_open_pgp, by_ssh, by_x509}
-use Rattle.gixobj_signature.specs.Verifying.{ComesOf, Verified, accepts, gpg_verify_plan, human, mismatch, not_run, principals_in, reported, ssh_verified, ssh_verify_plan, tries, unsupported, verify_plan}
-use Rattle.gixobj_signature.specs.VerifyingCalls.{open_pgp_call, principal_call, x509_call}
-use Rattle.gixobj_signature.specs.declared.signature.verify.Error.{Error}
+use Rattle.gix_object.specs.GpgReports.{gpg_report, status_of, told_lines, verdict}
+use Rattle.gix_object.specs.Outcomes.{OutcomeView, is_good_status, is_trusted, judged, outcome_view}
+use Rattle.gix_object.specs.Plans.{Carries, done}
+use Rattle.gix_object.specs.ProgramCalls.{Answer, CallView, OutputView, failed, no_memory, ran}
+use Rattle.gix_object.specs.SshReports.{ssh_report, ssh_status}
+use Rattle.gix_object.specs.Verifiers.{OptionsView, ProgramView, SshView, by_open_pgp, by_ssh, by_x509}
+use Rattle.gix_object.specs.Verifying.{ComesOf, Verified, accepts, gpg_verify_plan, human, mismatch, not_run, principals_in, reported, ssh_verified, ssh_verify_plan, tries, unsupported, verify_plan}
+use Rattle.gix_object.specs.VerifyingCalls.{open_pgp_call, principal_call, x509_call}
+use Rattle.gix_object.specs.signature.signature.report.Outcome.{Outcome}
+use Rattle.gix_object.specs.signature.signature.report.Status.{Status}
+use Rattle.gix_object.specs.signature.signature.report.Status.TheVariants as status
+use Rattle.gix_object.specs.signature.signature.report.TrustLevel.{TrustLevel}
+use Rattle.gix_object.specs.signature.signature.report.TrustLevel.TheVariants as trust
+use Rattle.gix_object.specs.signature.signature.verify.Error.{Error}
+use Rattle.gix_object.specs.text.signature.Format.{Format}
+use Rattle.gix_object.specs.text.signature.Format.TheVariants as format
 use Rattle.gixobj_callers.specs.Releases.{AcceptsPrincipal, AsksInVain, ReportsGood, Vouches}
 
 -- ---- outcomes that are accepted

@@ -4,10 +4,10 @@ use Rattle.std.specs.Cmp.Lexicographic.{lists_total, nat_list_cmp_total, slice_c
 use Rattle.std.specs.FinMap as map
 use Rattle.std.specs.Ordering.{nat_cmp}
 use Rattle.std.specs.Prelude.{MatchOption, Option}
-use Rattle.gixobj_base.specs.Entries.{EntryView}
-use Rattle.gixobj_files.specs.Files.{Below, Files, Path, SameFiles, Table}
-use Rattle.gixobj_files.specs.Opening.{Dirs, HasAt, OpenFiles, in_dir}
-use Rattle.gixobj_files.specs.State.{root_alone}
+use Rattle.gix_object.specs.Entries.{EntryView}
+use Rattle.gix_object.specs.Files.{Below, Files, Path, SameFiles, Table}
+use Rattle.gix_object.specs.Opening.{Dirs, HasAt, OpenFiles, in_dir}
+use Rattle.gix_object.specs.State.{root_alone}
 
 root_open : (entries : List EntryView) → map.get (root_alone entries) [] ≡ Some entries
 root_open entries = map.get-insert (lists_total nat_list_cmp_total) map.empty [] entries []

@@ -2,13 +2,13 @@
 use Rattle.std.proofs.Common.{◌≡◌, ◌+◌, ◌∷◌, ℕ, IfErr, List, [], Result, Ok, Err, arith, refl, subst, suc, sym}
 use Rattle.std.specs.Prelude.{IsErrAnd}
 use Rattle.std.specs.List.{AllZip}
-use Rattle.gixobj_base.specs.Hash.{Spells}
-use Rattle.gixobj_base.specs.hash.hash.object_id.ObjectId.{ObjectId}
-use Rattle.gixobj_base.specs.hash.kind.Kind.TheVariants.{Tree}
-use Rattle.gixobj_codec.specs.EntryGiving.{IsAtEntry}
-use Rattle.gixobj_codec.specs.Lookups.{tree_left}
-use Rattle.gixobj_codec.specs.Stores.{Objects, StoredObject}
-use Rattle.gixobj_codec.specs.object.tree.TreeRefIter.{TreeRefIter}
+use Rattle.gix_object.specs.EntryGiving.{IsAtEntry}
+use Rattle.gix_object.specs.Hash.{Spells}
+use Rattle.gix_object.specs.Lookups.{tree_left}
+use Rattle.gix_object.specs.Stores.{Objects, StoredObject}
+use Rattle.gix_object.specs.hash.hash.object_id.ObjectId.{ObjectId}
+use Rattle.gix_object.specs.hash.kind.Kind.TheVariants.{Tree}
+use Rattle.gix_object.specs.object.tree.TreeRefIter.{TreeRefIter}
 use Rattle.gixobj_callers.specs.Ancestors.{IsAncestor, IsFirstParent}
 
 pub first_spelled : (hexes : List (List ℕ)) (ids : List ObjectId) (id : ObjectId) (more : List ObjectId) → AllZip Spells hexes ids → ids ≡ id ∷ more → (hex : List ℕ) × (others : List (List ℕ)) × (hexes ≡ hex ∷ others) × Spells hex id

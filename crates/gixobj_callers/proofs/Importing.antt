@@ -3,17 +3,17 @@ use Rattle.std.proofs.Common.{◌≡◌, ◌≢◌, ◌<◌, ℕ, suc, List, [],
 use Rattle.std.specs.Prelude.{Contains, position}
 use Rattle.std.specs.List.{position_or_len}
 use Rattle.gixobj_callers.specs.Imports.{Decides, IsWriteBehind, edits_and_write, is_done}
-use Rattle.gixobj_editor.specs.declared.command.Command.{Command}
-use Rattle.gixobj_editor.specs.declared.command.Edit.{Edit}
-use Rattle.gixobj_editor.specs.declared.command.Edit.TheVariants as edit
-use Rattle.gixobj_files.specs.State.{State}
-use Rattle.gixobj_editor.specs.Commands.{at_root}
-use Rattle.gixobj_editor.specs.Replies.{Answers, IsEditReply, IsRun}
-use Rattle.gixobj_editor.specs.declared.reply.EditReply.{EditReply}
-use Rattle.gixobj_editor.specs.declared.reply.EditReply.TheVariants as edit_reply
-use Rattle.gixobj_editor.specs.declared.reply.Reply.{Reply}
-use Rattle.gixobj_editor.specs.declared.reply.Reply.TheVariants as reply
 use Rattle.gixobj_object.specs.Stores.{Meaning}
+use Rattle.gix_object.specs.Commands.{at_root}
+use Rattle.gix_object.specs.Replies.{Answers, IsEditReply, IsRun, Meaning}
+use Rattle.gix_object.specs.State.{State}
+use Rattle.gix_object.specs.editor.command.Command.{Command}
+use Rattle.gix_object.specs.editor.command.Edit.{Edit}
+use Rattle.gix_object.specs.editor.command.Edit.TheVariants as edit
+use Rattle.gix_object.specs.editor.reply.EditReply.{EditReply}
+use Rattle.gix_object.specs.editor.reply.EditReply.TheVariants as edit_reply
+use Rattle.gix_object.specs.editor.reply.Reply.{Reply}
+use Rattle.gix_object.specs.editor.reply.Reply.TheVariants as reply
 
 abbrev pub is_other : {E : Type 0} → Reply E → Bool
 is_other its_reply = not (is_done its_reply)

@@ -3,12 +3,12 @@ use Rattle.std.proofs.Common.{◌≡◌, ◌≢◌, ◌+◌, ◌<◌, ℕ, List,
 use Rattle.std.proofs.lemmas.List.{drop_more}
 use Rattle.std.specs.FinMap as finite
 use Rattle.std.specs.Prelude.{Option}
-use Rattle.gixobj_base.specs.hash.hash.kind.Kind.TheVariants as hash
-use Rattle.gixobj_base.specs.hash.hash.object_id.ObjectId.{ObjectId}
-use Rattle.gixobj_base.specs.hash.hash.object_id.ObjectId.TheVariants.{Sha1}
-use Rattle.gixobj_base.specs.hash.kind.Kind.TheVariants as kind
-use Rattle.gixobj_codec.specs.Stores.{Objects, StoredObject, named, stored}
-use Rattle.gixobj_codec.specs.object.«data».Data.{Data}
+use Rattle.gix_object.specs.Stores.{Objects, StoredObject, named, stored}
+use Rattle.gix_object.specs.hash.hash.kind.Kind.TheVariants as hash
+use Rattle.gix_object.specs.hash.hash.object_id.ObjectId.{ObjectId}
+use Rattle.gix_object.specs.hash.hash.object_id.ObjectId.TheVariants.{Sha1}
+use Rattle.gix_object.specs.hash.kind.Kind.TheVariants as kind
+use Rattle.gix_object.specs.object.«data».Data.{Data}
 use Rattle.gixobj_callers.specs.Shelves.{listed_objects}
 
 -- what stands for a pair where there is none

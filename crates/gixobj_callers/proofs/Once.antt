@@ -1,9 +1,9 @@
 -- No path comes twice among those of the directories below one, entry by entry.
 use Rattle.std.proofs.Common.{◌≡◌, ◌≢◌, ◌∙◌, ◌⊎◌, ℕ, List, [], ◌∷◌, ◌++◌, ⊎_elim, ap, inl, inr, map, refl, subst, sym}
 use Rattle.std.specs.List.{AllByRecursion}
-use Rattle.gixobj_base.specs.Entries.{EntryView}
+use Rattle.gix_object.specs.Entries.{EntryView}
+use Rattle.gix_object.specs.Files.{Has, Path}
 use Rattle.gixobj_callers.specs.Uploads.{Once}
-use Rattle.gixobj_files.specs.Files.{Has, Path}
 
 -- each begins with a name of these
 abbrev pub Starts : (List ℕ → Type 0) → List Path → Type 0

@@ -1,21 +1,21 @@
 -- Two writes of a run that starts with no files.
 use Rattle.std.proofs.Common.{◌≡◌, ◌≢◌, ◌<◌, ◌≤◌, ◌↔◌, ◌⊎◌, ℕ, zero, suc, Bool, IsTrue, List, [], ◌∷◌, All, None, Option, Some, ap, arith, get_or, inl, inr, length, max, refl, subst, sym, take, ◌∙◌}
-use Rattle.gixobj_base.specs.hash.hash.kind.Kind.{Kind}
-use Rattle.gixobj_base.specs.hash.hash.object_id.ObjectId.{ObjectId}
+use Rattle.gix_object.specs.Commands.{accepted_steps, written_at, written_by}
+use Rattle.gix_object.specs.Files.{SameFiles, Table}
+use Rattle.gix_object.specs.History.{Step}
+use Rattle.gix_object.specs.OneId.{IdsTellFiles, IsPlainRun, files_before}
+use Rattle.gix_object.specs.PlainHistory.{NoFiles, PlainHistory}
+use Rattle.gix_object.specs.Replies.{Answers, IsRun, Meaning}
+use Rattle.gix_object.specs.State.{State}
+use Rattle.gix_object.specs.directories.write.Written.{Written}
+use Rattle.gix_object.specs.editor.command.Command.{Command}
+use Rattle.gix_object.specs.editor.reply.Reply.{Reply}
+use Rattle.gix_object.specs.hash.hash.kind.Kind.{Kind}
+use Rattle.gix_object.specs.hash.hash.object_id.ObjectId.{ObjectId}
 use Rattle.gixobj_callers.specs.Plans.{started}
 use Rattle.gixobj_callers.specs.Rebuilds.{AreReplies, IsCompared, NamesWritten, RefusesComparison, id_named, up_to}
 use Rattle.gixobj_callers.specs.declared.rebuilder.CompareError.{CompareError}
 use Rattle.gixobj_callers.specs.declared.rebuilder.CompareError.TheVariants as compare
-use Rattle.gixobj_editor.specs.declared.command.Command.{Command}
-use Rattle.gixobj_directories.specs.declared.write.Written.{Written}
-use Rattle.gixobj_files.specs.Files.{SameFiles, Table}
-use Rattle.gixobj_files.specs.History.{Step}
-use Rattle.gixobj_files.specs.PlainHistory.{NoFiles, PlainHistory}
-use Rattle.gixobj_files.specs.State.{State}
-use Rattle.gixobj_editor.specs.Commands.{accepted_steps, written_at, written_by}
-use Rattle.gixobj_editor.specs.OneId.{IdsTellFiles, IsPlainRun, files_before}
-use Rattle.gixobj_editor.specs.Replies.{Answers, IsRun}
-use Rattle.gixobj_editor.specs.declared.reply.Reply.{Reply}
 use Rattle.gixobj_object.specs.Stores.{Meaning}
 
 -- what the first replies tell, all of them tell

@@ -1,21 +1,21 @@
 -- Why a caller is refused, by cases of the errors.
 use Rattle.std.proofs.Common.{◌≡◌, ℕ, List, Result, Ok, Err, Some, refl, subst}
 use Rattle.std.specs.Prelude.{IfErr, IfOk}
-use Rattle.gixobj_base.specs.Streams.{SinkView}
-use Rattle.gixobj_base.specs.Writing.{FailsAsSink}
-use Rattle.gixobj_base.specs.fields.encode.Error as encode
-use Rattle.gixobj_base.specs.fields.encode.Error.TheVariants as written
-use Rattle.gixobj_base.specs.hash.decode.Error.{Error}
-use Rattle.gixobj_base.specs.hash.decode.Error.TheVariants.{Malformed, OutOfMemory}
-use Rattle.gixobj_base.specs.Entries.{EntryView}
-use Rattle.gixobj_base.specs.Hash.{Spells}
-use Rattle.gixobj_base.specs.hash.hash.kind.Kind.{Kind}
-use Rattle.gixobj_base.specs.hash.hash.object_id.ObjectId.{ObjectId}
-use Rattle.gixobj_codec.specs.Commit.{CommitLines, IsCommitText, IsNoCommitText, RefusesCommit}
-use Rattle.gixobj_codec.specs.Rewriting.{RefusesOwnFormOfCommit}
-use Rattle.gixobj_codec.specs.TreeReading.{IsTreeText, RefusesTreeText}
-use Rattle.gixobj_codec.specs.TokenPassing.{FindsFault, IsMessageToken}
-use Rattle.gixobj_codec.specs.commit.ref_iter.CommitRefIter.{CommitRefIter}
+use Rattle.gix_object.specs.Commit.{CommitLines, IsCommitText, IsNoCommitText, RefusesCommit}
+use Rattle.gix_object.specs.Entries.{EntryView}
+use Rattle.gix_object.specs.Hash.{Spells}
+use Rattle.gix_object.specs.Rewriting.{RefusesOwnFormOfCommit}
+use Rattle.gix_object.specs.Streams.{SinkView}
+use Rattle.gix_object.specs.TokenPassing.{FindsFault, IsMessageToken}
+use Rattle.gix_object.specs.TreeReading.{IsTreeText, RefusesTreeText}
+use Rattle.gix_object.specs.Writing.{FailsAsSink}
+use Rattle.gix_object.specs.commit.ref_iter.CommitRefIter.{CommitRefIter}
+use Rattle.gix_object.specs.fields.encode.Error as encode
+use Rattle.gix_object.specs.fields.encode.Error.TheVariants as written
+use Rattle.gix_object.specs.hash.decode.Error.{Error}
+use Rattle.gix_object.specs.hash.decode.Error.TheVariants.{Malformed, OutOfMemory}
+use Rattle.gix_object.specs.hash.hash.kind.Kind.{Kind}
+use Rattle.gix_object.specs.hash.hash.object_id.ObjectId.{ObjectId}
 use Rattle.gixobj_callers.specs.Copies.{FailsForPart, FailsForRoom}
 use Rattle.gixobj_callers.specs.declared.store.CopyError.TheVariants.{Read, Write}
 

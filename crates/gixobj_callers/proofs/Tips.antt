@@ -4,16 +4,16 @@ use Rattle.std.proofs.lemmas.Bool.{false≢true, true≢false}
 use Rattle.std.proofs.lemmas.List.{length-append, take_all}
 use Rattle.std.specs.Option.{option_to_list}
 use Rattle.std.specs.Prelude.{◌<◌, ◌↔◌, IfSome, IsNone, IsSome, slice_get}
-use Rattle.gixobj_base.specs.hash.hash.kind.Kind as hash
-use Rattle.gixobj_base.specs.hash.hash.object_id.ObjectId.{ObjectId}
-use Rattle.gixobj_codec.specs.Stores.{Objects}
-use Rattle.gixobj_import.specs.Imports.{AreCommitsOf, HaveFilesOfNothing, edits_of}
-use Rattle.gixobj_import.specs.declared.import.Imported.{Imported}
-use Rattle.gixobj_import.specs.declared.import.Step.{Step}
+use Rattle.gix_object.specs.Files.{NamedFiles, SameFiles}
+use Rattle.gix_object.specs.History.{History}
+use Rattle.gix_object.specs.Imports.{AreCommitsOf, HaveFilesOfNothing, edits_of}
+use Rattle.gix_object.specs.PlainHistory.{NoFiles}
+use Rattle.gix_object.specs.Stores.{Objects}
+use Rattle.gix_object.specs.hash.hash.kind.Kind as hash
+use Rattle.gix_object.specs.hash.hash.object_id.ObjectId.{ObjectId}
+use Rattle.gix_object.specs.import.import.Imported.{Imported}
+use Rattle.gix_object.specs.import.import.Step.{Step}
 use Rattle.gixobj_callers.specs.Archives.{IsOfStep, IsTip}
-use Rattle.gixobj_files.specs.Files.{NamedFiles, SameFiles}
-use Rattle.gixobj_files.specs.History.{History}
-use Rattle.gixobj_files.specs.PlainHistory.{NoFiles}
 
 pub as_many : (hash : hash.Kind) (parent : Option ObjectId) (steps : List Step) (imported : List Imported) (final : Objects) → AreCommitsOf hash parent steps imported final → length imported ≡ length steps
 as_many hash parent [] [] final are = refl

@@ -1,18 +1,18 @@
 -- What a reader of tokens tells of the text of a tag, by the laws of both readers.
 use Rattle.std.proofs.Common.{◌≡◌, ◌≤◌, ℕ, List, [], ◌∷◌, ◌++◌, Some, None, Ok, ap, arith, length, sym, subst, ◌∙◌}
-use Rattle.gixobj_base.specs.Hash.{Spells}
-use Rattle.gixobj_base.specs.hash.hash.kind.Kind.{Kind}
-use Rattle.gixobj_base.specs.hash.hash.object_id.ObjectId.{ObjectId}
+use Rattle.gix_object.specs.Hash.{Spells}
+use Rattle.gix_object.specs.Runs.{Ending, complete, tells_end, tells_piece}
+use Rattle.gix_object.specs.TagReaders.{AreTokensOfTag, MayMiss, NameCame, misses_body, misses_nothing, misses_tagger_and_body}
+use Rattle.gix_object.specs.TagText.{IsTagText, TagLines}
+use Rattle.gix_object.specs.TagTokenGiving.{GivesTagToken, IsAtStartOfTag, TellsTag, standing_in_tag, tag_token_id}
+use Rattle.gix_object.specs.TagTokens.{HasTagToken, TagTokenView, kind_token, name_token, tag_token_view, target_token}
+use Rattle.gix_object.specs.hash.hash.kind.Kind.{Kind}
+use Rattle.gix_object.specs.hash.hash.object_id.ObjectId.{ObjectId}
+use Rattle.gix_object.specs.tag.ref_iter.State.{State}
+use Rattle.gix_object.specs.tag.ref_iter.State.TheVariants as state
+use Rattle.gix_object.specs.tag.ref_iter.TagRefIter.{TagRefIter}
+use Rattle.gix_object.specs.tag.ref_iter.Token.{Token}
 use Rattle.gixobj_callers.specs.Told.{IsToTell}
-use Rattle.gixobj_codec.specs.Runs.{Ending, complete, tells_end, tells_piece}
-use Rattle.gixobj_codec.specs.TagReaders.{AreTokensOfTag, MayMiss, NameCame, misses_body, misses_nothing, misses_tagger_and_body}
-use Rattle.gixobj_codec.specs.TagText.{IsTagText, TagLines}
-use Rattle.gixobj_codec.specs.TagTokenGiving.{GivesTagToken, IsAtStartOfTag, TellsTag, standing_in_tag, tag_token_id}
-use Rattle.gixobj_codec.specs.TagTokens.{HasTagToken, TagTokenView, kind_token, name_token, target_token, tag_token_view}
-use Rattle.gixobj_codec.specs.tag.ref_iter.State.{State}
-use Rattle.gixobj_codec.specs.tag.ref_iter.State.TheVariants as state
-use Rattle.gixobj_codec.specs.tag.ref_iter.TagRefIter.{TagRefIter}
-use Rattle.gixobj_codec.specs.tag.ref_iter.Token.{Token}
 
 -- ---- the laws, as their functions state them
 

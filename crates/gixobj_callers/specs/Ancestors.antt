@@ -1,12 +1,12 @@
 -- Commits of a store, their first parents and their trees, and why a walk stops.
 use Rattle.std.specs.Prelude.{◌≡◌, ◌∷◌, ◌<◌, ℕ, Bool, List, Some, [], suc, zero}
-use Rattle.gixobj_base.specs.Hash.{Spells}
-use Rattle.gixobj_base.specs.hash.hash.object_id.ObjectId.{ObjectId}
-use Rattle.gixobj_base.specs.hash.kind.Kind.TheVariants.{Commit, Tree}
-use Rattle.gixobj_codec.specs.Commit.{CommitLines, IsCommitText}
-use Rattle.gixobj_codec.specs.Lookups.{Name, RefusesPath}
-use Rattle.gixobj_codec.specs.Stores.{Names, Objects, StoredObject}
-use Rattle.gixobj_find.specs.Existing.{RefusesObject, RefusesReader}
+use Rattle.gix_object.specs.Commit.{CommitLines, IsCommitText}
+use Rattle.gix_object.specs.Existing.{RefusesObject, RefusesReader}
+use Rattle.gix_object.specs.Hash.{Spells}
+use Rattle.gix_object.specs.Lookups.{Name, RefusesPath}
+use Rattle.gix_object.specs.Stores.{Names, Objects, StoredObject}
+use Rattle.gix_object.specs.hash.hash.object_id.ObjectId.{ObjectId}
+use Rattle.gix_object.specs.hash.kind.Kind.TheVariants.{Commit, Tree}
 use Rattle.gixobj_callers.specs.declared.history.Error.{Error}
 use Rattle.gixobj_callers.specs.declared.history.Error.TheVariants as history
 

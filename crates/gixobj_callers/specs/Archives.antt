@@ -1,18 +1,18 @@
 -- What a history comes to that was imported.
 use Rattle.std.specs.Prelude.{◌≡◌, ◌++◌, ◌∷◌, ℕ, List, [], None, Option, length}
-use Rattle.gixobj_base.specs.Hash.{id_of}
-use Rattle.gixobj_base.specs.hash.hash.kind.Kind as hash
-use Rattle.gixobj_base.specs.hash.hash.object_id.ObjectId.{ObjectId}
-use Rattle.gixobj_base.specs.hash.kind.Kind.TheVariants.{Commit}
-use Rattle.gixobj_codec.specs.Commit.{IsCommitText}
-use Rattle.gixobj_codec.specs.Stores.{Objects}
-use Rattle.gixobj_files.specs.Files.{NamedFiles, SameFiles, Table}
-use Rattle.gixobj_files.specs.History.{History}
-use Rattle.gixobj_import.specs.Commits.{step_commit, step_text}
-use Rattle.gixobj_import.specs.Imports.{AgreesWithImports, edits_of}
-use Rattle.gixobj_import.specs.declared.import.Imported.{Imported}
-use Rattle.gixobj_import.specs.declared.import.Step.{Step}
-use Rattle.gixobj_files.specs.PlainHistory.{NoFiles}
+use Rattle.gix_object.specs.Commit.{IsCommitText}
+use Rattle.gix_object.specs.Commits.{step_commit, step_text}
+use Rattle.gix_object.specs.Files.{NamedFiles, SameFiles, Table}
+use Rattle.gix_object.specs.Hash.{id_of}
+use Rattle.gix_object.specs.History.{History}
+use Rattle.gix_object.specs.Imports.{AgreesWithImports, edits_of}
+use Rattle.gix_object.specs.PlainHistory.{NoFiles}
+use Rattle.gix_object.specs.Stores.{Objects}
+use Rattle.gix_object.specs.hash.hash.kind.Kind as hash
+use Rattle.gix_object.specs.hash.hash.object_id.ObjectId.{ObjectId}
+use Rattle.gix_object.specs.hash.kind.Kind.TheVariants.{Commit}
+use Rattle.gix_object.specs.import.import.Imported.{Imported}
+use Rattle.gix_object.specs.import.import.Step.{Step}
 
 -- the commit's id is the digest of a text that is this step's, with its tree and a parent or none
 pub record IsOfStep (hash : hash.Kind) (step : Step) (it : Imported) : Type 0 where

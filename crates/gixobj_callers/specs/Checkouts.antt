@@ -1,22 +1,26 @@
 -- Checkouts: entries that are put into a directory of a root, and what goes out then.
 use Rattle.std.specs.Prelude.{◌≡◌, ◌⊎◌, List, [], ◌∷◌, map}
-use Rattle.gixobj_base.specs.Entries.{EntryView, Pair}
-use Rattle.gixobj_base.specs.Mode.{mode_of_kind}
+use Rattle.gixobj_base.specs.Entries.{Pair}
+use Rattle.gix_object.specs.Calls.{names_of}
+use Rattle.gix_object.specs.Cursors.{IsAssured, RefusesCursor, RefusesFromRoot, from_root}
+use Rattle.gix_object.specs.Entries.{EntryView}
+use Rattle.gix_object.specs.Files.{Path}
+use Rattle.gix_object.specs.Handing.{Stopped}
+use Rattle.gix_object.specs.HandingOut.{HandsOutSome}
+use Rattle.gix_object.specs.History.{Step, assure, upsert}
+use Rattle.gix_object.specs.Mode.{mode_of_kind}
+use Rattle.gix_object.specs.Replies.{Meaning}
+use Rattle.gix_object.specs.RunTables.{OfTrees}
+use Rattle.gix_object.specs.State.{State, open_bases, open_dirs}
+use Rattle.gix_object.specs.Tables.{Pair}
+use Rattle.gix_object.specs.Upserts.{IsUpserted, RefusesUpsert}
+use Rattle.gix_object.specs.Writes.{IsWrittenEditor}
+use Rattle.gix_object.specs.directories.write.Written.{Written}
+use Rattle.gix_object.specs.editor.editor.error.Error.{Error}
 use Rattle.gixobj_callers.specs.declared.checkout.CheckoutError.{CheckoutError}
 use Rattle.gixobj_callers.specs.declared.checkout.CheckoutError.TheVariants as checkout
 use Rattle.gixobj_callers.specs.declared.checkout.Planned.{Planned}
-use Rattle.gixobj_directories.specs.Calls.{names_of}
-use Rattle.gixobj_directories.specs.Handing.{Stopped}
 use Rattle.gixobj_directories.specs.Openings.{OfTrees}
-use Rattle.gixobj_directories.specs.declared.write.Written.{Written}
-use Rattle.gixobj_editor.specs.Cursors.{IsAssured, RefusesCursor, RefusesFromRoot, from_root}
-use Rattle.gixobj_editor.specs.Upserts.{IsUpserted, RefusesUpsert}
-use Rattle.gixobj_editor.specs.Writes.{IsWrittenEditor}
-use Rattle.gixobj_editor.specs.declared.editor.error.Error.{Error}
-use Rattle.gixobj_files.specs.Files.{Path}
-use Rattle.gixobj_files.specs.HandingOut.{HandsOutSome}
-use Rattle.gixobj_files.specs.History.{Step, assure, upsert}
-use Rattle.gixobj_files.specs.State.{State, open_bases, open_dirs}
 use Rattle.gixobj_object.specs.Stores.{Meaning}
 
 -- the path of an entry from the root

@@ -1,10 +1,10 @@
 -- Why a commit that was read is not written back.
 use Rattle.std.specs.Prelude.{◌⊎◌, ⊤}
-use Rattle.gixobj_base.specs.fields.encode.Error.TheVariants as encode
-use Rattle.gixobj_base.specs.hash.decode.Error.TheVariants as decode
-use Rattle.gixobj_codec.specs.Commit.{CommitLines}
-use Rattle.gixobj_codec.specs.ActorWriting.{IsUnwritable}
-use Rattle.gixobj_codec.specs.Rewriting.{HasEmptyEncoding}
+use Rattle.gix_object.specs.ActorWriting.{IsUnwritable}
+use Rattle.gix_object.specs.Commit.{CommitLines}
+use Rattle.gix_object.specs.Rewriting.{HasEmptyEncoding}
+use Rattle.gix_object.specs.fields.encode.Error.TheVariants as encode
+use Rattle.gix_object.specs.hash.decode.Error.TheVariants as decode
 use Rattle.gixobj_callers.specs.declared.store.CopyError.{CopyError}
 use Rattle.gixobj_callers.specs.declared.store.CopyError.TheVariants.{Read, Write}
 

@@ -2,21 +2,21 @@
 use Rattle.std.specs.Prelude.{◌≡◌, ◌++◌, ◌∷◌, ℕ, Bool, true, false, Contains, List, [], flat_map, length, map}
 use Rattle.gixobj_callers.specs.declared.importer.ImportError.{ImportError}
 use Rattle.gixobj_callers.specs.declared.importer.ImportError.TheVariants as import
-use Rattle.gixobj_editor.specs.declared.command.Command.{Command}
-use Rattle.gixobj_editor.specs.declared.command.Command.TheVariants as command
-use Rattle.gixobj_editor.specs.declared.command.Edit.{Edit}
-use Rattle.gixobj_editor.specs.declared.command.Edit.TheVariants as edit
-use Rattle.gixobj_editor.specs.declared.editor.error.Error.{Error}
-use Rattle.gixobj_files.specs.History.{Step}
-use Rattle.gixobj_files.specs.State.{State}
-use Rattle.gixobj_editor.specs.Commands.{at_root}
-use Rattle.gixobj_editor.specs.Replies.{Answers, AreEditReplies, IsEditReply, IsRun}
-use Rattle.gixobj_editor.specs.declared.reply.EditReply.{EditReply}
-use Rattle.gixobj_editor.specs.declared.reply.EditReply.TheVariants as edit_reply
-use Rattle.gixobj_editor.specs.declared.reply.Reply.{Reply}
-use Rattle.gixobj_editor.specs.declared.reply.Reply.TheVariants as reply
-use Rattle.gixobj_import.specs.Edited.{steps_if_done}
 use Rattle.gixobj_object.specs.Stores.{Meaning}
+use Rattle.gix_object.specs.Commands.{at_root}
+use Rattle.gix_object.specs.Edited.{steps_if_done}
+use Rattle.gix_object.specs.History.{Step}
+use Rattle.gix_object.specs.Replies.{Answers, AreEditReplies, IsEditReply, IsRun, Meaning}
+use Rattle.gix_object.specs.State.{State}
+use Rattle.gix_object.specs.editor.command.Command.{Command}
+use Rattle.gix_object.specs.editor.command.Command.TheVariants as command
+use Rattle.gix_object.specs.editor.command.Edit.{Edit}
+use Rattle.gix_object.specs.editor.command.Edit.TheVariants as edit
+use Rattle.gix_object.specs.editor.editor.error.Error.{Error}
+use Rattle.gix_object.specs.editor.reply.EditReply.{EditReply}
+use Rattle.gix_object.specs.editor.reply.EditReply.TheVariants as edit_reply
+use Rattle.gix_object.specs.editor.reply.Reply.{Reply}
+use Rattle.gix_object.specs.editor.reply.Reply.TheVariants as reply
 
 -- what all of the edits do, in order
 abbrev pub import_steps : List Edit → List Step

@@ -1,22 +1,28 @@
 -- Plans: an entry that is put into a stored root, and what goes out then.
 use Rattle.std.specs.Prelude.{◌≡◌, ◌≢◌, ℕ, Bool, List, []}
-use Rattle.gixobj_base.specs.Entries.{EntryView, IsWellFormed, Pair}
-use Rattle.gixobj_base.specs.Hash.{id_kind}
-use Rattle.gixobj_base.specs.hash.hash.kind.Kind as hash
-use Rattle.gixobj_base.specs.hash.hash.object_id.ObjectId.{ObjectId}
-use Rattle.gixobj_base.specs.hash.kind.Kind.TheVariants.{Tree}
-use Rattle.gixobj_codec.specs.Stores.{Meaning, Objects}
-use Rattle.gixobj_codec.specs.TreeReading.{IsTreeText}
-use Rattle.gixobj_directories.specs.Handing.{Stopped}
-use Rattle.gixobj_directories.specs.Openings.{NamesMalformed, NamesTree, OfTrees}
-use Rattle.gixobj_directories.specs.declared.write.Written.{Written}
-use Rattle.gixobj_editor.specs.Upserts.{IsUpserted, RefusesUpsert}
-use Rattle.gixobj_editor.specs.Writes.{IsWrittenEditor}
-use Rattle.gixobj_editor.specs.declared.editor.error.Error.{Error}
-use Rattle.gixobj_files.specs.Files.{Path}
-use Rattle.gixobj_files.specs.HandingOut.{HandsOutSome}
-use Rattle.gixobj_files.specs.State.{State, open_bases, open_dirs, root_alone}
-use Rattle.gixobj_find.specs.Existing.{IsEmptyId, NamesSuch, RefusesObject}
+use Rattle.gixobj_base.specs.Entries.{Pair}
+use Rattle.gixobj_codec.specs.Stores.{Meaning}
+use Rattle.gixobj_directories.specs.Openings.{OfTrees}
+use Rattle.gix_object.specs.Entries.{EntryView, IsWellFormed}
+use Rattle.gix_object.specs.Existing.{IsEmptyId, NamesSuch, RefusesObject}
+use Rattle.gix_object.specs.Files.{Path}
+use Rattle.gix_object.specs.Handing.{Stopped}
+use Rattle.gix_object.specs.HandingOut.{HandsOutSome}
+use Rattle.gix_object.specs.Hash.{id_kind}
+use Rattle.gix_object.specs.Openings.{NamesMalformed, NamesTree}
+use Rattle.gix_object.specs.Replies.{Meaning}
+use Rattle.gix_object.specs.RunTables.{OfTrees}
+use Rattle.gix_object.specs.State.{State, open_bases, open_dirs, root_alone}
+use Rattle.gix_object.specs.Stores.{Objects}
+use Rattle.gix_object.specs.Tables.{Pair}
+use Rattle.gix_object.specs.TreeReading.{IsTreeText}
+use Rattle.gix_object.specs.Upserts.{IsUpserted, RefusesUpsert}
+use Rattle.gix_object.specs.Writes.{IsWrittenEditor}
+use Rattle.gix_object.specs.directories.write.Written.{Written}
+use Rattle.gix_object.specs.editor.editor.error.Error.{Error}
+use Rattle.gix_object.specs.hash.hash.kind.Kind as hash
+use Rattle.gix_object.specs.hash.hash.object_id.ObjectId.{ObjectId}
+use Rattle.gix_object.specs.hash.kind.Kind.TheVariants.{Tree}
 use Rattle.gixobj_callers.specs.declared.planner.PlanError.{PlanError}
 use Rattle.gixobj_callers.specs.declared.planner.PlanError.TheVariants as plan
 use Rattle.gixobj_callers.specs.declared.planner.RootError.{RootError}

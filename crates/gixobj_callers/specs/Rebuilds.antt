@@ -1,19 +1,20 @@
 -- Scripts that are run on no files, and two of their writes that are compared.
 use Rattle.std.specs.Prelude.{◌≡◌, ◌≢◌, ◌⊎◌, ◌↔◌, ℕ, suc, Bool, IsTrue, List, [], None, Option, Some, max, take, ⊤}
-use Rattle.gixobj_base.specs.hash.hash.kind.Kind as hash
-use Rattle.gixobj_base.specs.hash.hash.object_id.ObjectId.{ObjectId}
+use Rattle.gix_object.specs.Commands.{written_at}
+use Rattle.gix_object.specs.Files.{SameFiles, Table}
+use Rattle.gix_object.specs.OneId.{IsPlainRun, files_before}
+use Rattle.gix_object.specs.Replies.{Answers, IsRun, Meaning}
+use Rattle.gix_object.specs.State.{State}
+use Rattle.gix_object.specs.Stores.{Objects}
+use Rattle.gix_object.specs.directories.write.Written.{Written}
+use Rattle.gix_object.specs.editor.command.Command.{Command}
+use Rattle.gix_object.specs.editor.reply.Reply.{Reply}
+use Rattle.gix_object.specs.hash.hash.kind.Kind as hash
+use Rattle.gix_object.specs.hash.hash.object_id.ObjectId.{ObjectId}
 use Rattle.gixobj_callers.specs.Plans.{started}
 use Rattle.gixobj_callers.specs.declared.rebuilder.CompareError.{CompareError}
 use Rattle.gixobj_callers.specs.declared.rebuilder.CompareError.TheVariants as compare
-use Rattle.gixobj_editor.specs.declared.command.Command.{Command}
-use Rattle.gixobj_object.specs.Stores.{Meaning, Objects}
-use Rattle.gixobj_directories.specs.declared.write.Written.{Written}
-use Rattle.gixobj_files.specs.Files.{SameFiles, Table}
-use Rattle.gixobj_files.specs.State.{State}
-use Rattle.gixobj_editor.specs.Commands.{written_at}
-use Rattle.gixobj_editor.specs.OneId.{IsPlainRun, files_before}
-use Rattle.gixobj_editor.specs.Replies.{Answers, IsRun}
-use Rattle.gixobj_editor.specs.declared.reply.Reply.{Reply}
+use Rattle.gixobj_object.specs.Stores.{Meaning}
 
 -- the id that a write names
 abbrev pub id_named : Option Written → Option ObjectId

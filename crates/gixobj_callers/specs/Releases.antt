@@ -5,40 +5,40 @@ use Rattle.std.specs.List.{filter_map, starts_with}
 use Rattle.std.specs.Cow.{cow_slice_items}
 use Rattle.std.specs.declared.alloc.Global.{Global}
 use Rattle.std.specs.declared.borrow.CowSlice.{CowSlice}
-use Rattle.gixobj_commit.specs.CommitSigning.{IsSignedCommit, RefusesSigningCommit, RefusesWritingCommit, payload_of_commit, with_signature}
-use Rattle.gixobj_commit.specs.CommitViews.{owned_commit_lines}
-use Rattle.gixobj_commit.specs.CommitWriting.{commit_text}
-use Rattle.gixobj_commit.specs.declared.commit.Commit.{Commit}
-use Rattle.gixobj_fields.specs.declared.encode.Error as encode
-use Rattle.gixobj_hash.specs.Hash.{id_kind}
-use Rattle.gixobj_hash.specs.declared.decode.Error as decode
-use Rattle.gixobj_hash.specs.declared.hash.kind.Kind as hash
-use Rattle.gixobj_hash.specs.declared.kind.Kind.{Kind}
-use Rattle.gixobj_hash.specs.declared.kind.Kind.TheVariants as kind
-use Rattle.gixobj_signature.specs.Calls.{Answer, CallView, OutputView, ran}
-use Rattle.gixobj_signature.specs.GpgReports.{gpg_report, status_of, told_lines, trust_in}
-use Rattle.gixobj_signature.specs.Outcomes.{OutcomeView, is_trusted, judged}
-use Rattle.gixobj_signature.specs.Plans.{Carries}
-use Rattle.gixobj_signature.specs.Signing as signing
-use Rattle.gixobj_signature.specs.Signing.{sign_plan}
-use Rattle.gixobj_signature.specs.SshReports.{ssh_report}
-use Rattle.gixobj_signature.specs.declared.signature.report.Outcome.{Outcome}
-use Rattle.gixobj_signature.specs.declared.signature.report.Status.TheVariants as status
-use Rattle.gixobj_signature.specs.declared.signature.report.TrustLevel.TheVariants as trust
-use Rattle.gixobj_signature.specs.declared.signature.sign.Error as sign
-use Rattle.gixobj_signature.specs.declared.signature.sign.Error.TheVariants.{Encode}
-use Rattle.gixobj_signature.specs.declared.signature.sign.Options.{Options}
-use Rattle.gixobj_text.specs.Markers.{HasNoMarker}
-use Rattle.gixobj_text.specs.declared.signature.Format.{Format}
-use Rattle.gixobj_text.specs.declared.signature.Format.TheVariants as format
-use Rattle.gixobj_tag.specs.TagExtracting as tags
-use Rattle.gixobj_commit.specs.Extracting as commits
-use Rattle.gixobj_signature.specs.SignedBytes.{signed_bytes}
-use Rattle.gixobj_signature.specs.Verifiers.{OptionsView, ProgramView, SshView, by_open_pgp, by_ssh, by_x509}
-use Rattle.gixobj_signature.specs.Verifying.{ComesOf, IsFormatOf, accepts, human, principals_in, verify_plan}
-use Rattle.gixobj_signature.specs.VerifyingCalls.{open_pgp_call, principal_call, principals_call, x509_call}
-use Rattle.gixobj_signature.specs.declared.signature.signed_data.SignedData.{SignedData}
-use Rattle.gixobj_signature.specs.declared.signature.verify.Error.{Error}
+use Rattle.gix_object.specs.CommitSigning.{IsSignedCommit, RefusesSigningCommit, RefusesWritingCommit, payload_of_commit, with_signature}
+use Rattle.gix_object.specs.CommitViews.{owned_commit_lines}
+use Rattle.gix_object.specs.CommitWriting.{commit_text}
+use Rattle.gix_object.specs.Extracting as commits
+use Rattle.gix_object.specs.GpgReports.{gpg_report, status_of, told_lines, trust_in}
+use Rattle.gix_object.specs.Hash.{id_kind}
+use Rattle.gix_object.specs.Markers.{HasNoMarker}
+use Rattle.gix_object.specs.Outcomes.{OutcomeView, is_trusted, judged}
+use Rattle.gix_object.specs.Plans.{Carries}
+use Rattle.gix_object.specs.ProgramCalls.{Answer, CallView, OutputView, ran}
+use Rattle.gix_object.specs.SignedBytes.{signed_bytes}
+use Rattle.gix_object.specs.Signing as signing
+use Rattle.gix_object.specs.Signing.{sign_plan}
+use Rattle.gix_object.specs.SshReports.{ssh_report}
+use Rattle.gix_object.specs.TagExtracting as tags
+use Rattle.gix_object.specs.Verifiers.{OptionsView, ProgramView, SshView, by_open_pgp, by_ssh, by_x509}
+use Rattle.gix_object.specs.Verifying.{ComesOf, IsFormatOf, accepts, human, principals_in, verify_plan}
+use Rattle.gix_object.specs.VerifyingCalls.{open_pgp_call, principal_call, principals_call, x509_call}
+use Rattle.gix_object.specs.commit.commit.Commit.{Commit}
+use Rattle.gix_object.specs.fields.encode.Error as encode
+use Rattle.gix_object.specs.hash.decode.Error as decode
+use Rattle.gix_object.specs.hash.hash.kind.Kind as hash
+use Rattle.gix_object.specs.hash.kind.Kind.{Kind}
+use Rattle.gix_object.specs.hash.kind.Kind.TheVariants as kind
+use Rattle.gix_object.specs.signature.signature.report.Outcome.{Outcome}
+use Rattle.gix_object.specs.signature.signature.report.Status.TheVariants as status
+use Rattle.gix_object.specs.signature.signature.report.TrustLevel.TheVariants as trust
+use Rattle.gix_object.specs.signature.signature.sign.Error as sign
+use Rattle.gix_object.specs.signature.signature.sign.Error.TheVariants.{Encode}
+use Rattle.gix_object.specs.signature.signature.sign.Options.{Options}
+use Rattle.gix_object.specs.signature.signature.signed_data.SignedData.{SignedData}
+use Rattle.gix_object.specs.signature.signature.verify.Error.{Error}
+use Rattle.gix_object.specs.text.signature.Format.{Format}
+use Rattle.gix_object.specs.text.signature.Format.TheVariants as format
 use Rattle.gixobj_callers.specs.declared.releases.AuditError.{AuditError}
 use Rattle.gixobj_callers.specs.declared.releases.AuditError.TheVariants as audit
 

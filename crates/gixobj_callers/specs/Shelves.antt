@@ -1,9 +1,9 @@
 -- What a shelf means as a store.
 use Rattle.std.specs.Prelude.{List, map}
 use Rattle.std.specs.FinMap as finite
-use Rattle.gixobj_base.specs.hash.hash.object_id.ObjectId.{ObjectId}
-use Rattle.gixobj_codec.specs.Stores.{Objects, stored}
-use Rattle.gixobj_codec.specs.object.«data».Data.{Data}
+use Rattle.gix_object.specs.Stores.{Objects, stored}
+use Rattle.gix_object.specs.hash.hash.object_id.ObjectId.{ObjectId}
+use Rattle.gix_object.specs.object.«data».Data.{Data}
 use Rattle.gixobj_callers.specs.declared.shelf.Shelf.{Shelf}
 
 -- what these objects mean: of an id that stands twice, the first one

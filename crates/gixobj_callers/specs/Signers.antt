@@ -1,8 +1,8 @@
 -- Who signed a commit off.
 use Rattle.std.specs.Prelude.{◌≡◌, ℕ, List, codes, filter}
-use Rattle.gixobj_codec.specs.MessageTrailers.{HasTrailers}
-use Rattle.gixobj_codec.specs.TrailerNames.{is_named}
-use Rattle.gixobj_codec.specs.Trailers.{TrailerView}
+use Rattle.gix_object.specs.MessageTrailers.{HasTrailers}
+use Rattle.gix_object.specs.TrailerNames.{is_named}
+use Rattle.gix_object.specs.Trailers.{TrailerView}
 
 -- the trailers of a message that sign it off, in order
 abbrev pub AreSignOffs : List ℕ → List TrailerView → Type 0

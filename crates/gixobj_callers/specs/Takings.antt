@@ -1,14 +1,14 @@
 -- Why a loose object is not taken over.
 use Rattle.std.specs.Prelude.{◌≡◌, ℕ, List, [], Some}
-use Rattle.gixobj_base.specs.Hash.{id_kind, id_of}
-use Rattle.gixobj_base.specs.Streams.{SinkView}
-use Rattle.gixobj_base.specs.Writing.{RefusesWriting}
-use Rattle.gixobj_base.specs.fields.encode.Error.{Error}
-use Rattle.gixobj_base.specs.hash.hash.object_id.ObjectId.{ObjectId}
-use Rattle.gixobj_codec.specs.BorrowedObjects.{RefusesBorrowedObject, borrowed_kind, borrowed_object_text}
-use Rattle.gixobj_codec.specs.Checksums.{HasBothIds}
-use Rattle.gixobj_codec.specs.LooseObjects.{IsLooseObject, RefusesLooseObject}
-use Rattle.gixobj_codec.specs.object.object.borrowed.ObjectRef.{ObjectRef}
+use Rattle.gix_object.specs.BorrowedObjects.{RefusesBorrowedObject, borrowed_kind, borrowed_object_text}
+use Rattle.gix_object.specs.Checksums.{HasBothIds}
+use Rattle.gix_object.specs.Hash.{id_kind, id_of}
+use Rattle.gix_object.specs.LooseObjects.{IsLooseObject, RefusesLooseObject}
+use Rattle.gix_object.specs.Streams.{SinkView}
+use Rattle.gix_object.specs.Writing.{RefusesWriting}
+use Rattle.gix_object.specs.fields.encode.Error.{Error}
+use Rattle.gix_object.specs.hash.hash.object_id.ObjectId.{ObjectId}
+use Rattle.gix_object.specs.object.object.borrowed.ObjectRef.{ObjectRef}
 use Rattle.gixobj_callers.specs.declared.store.TakeError.{TakeError}
 use Rattle.gixobj_callers.specs.declared.store.TakeError.TheVariants.{Read, Verify, Write}
 

@@ -1,9 +1,9 @@
 -- Tokens of a tag that a reader has still to tell.
 use Rattle.std.specs.Prelude.{List}
-use Rattle.gixobj_codec.specs.Runs.{complete}
-use Rattle.gixobj_codec.specs.TagTokenGiving.{TellsTag, standing_in_tag}
-use Rattle.gixobj_codec.specs.TagTokens.{TagTokenView}
-use Rattle.gixobj_codec.specs.tag.ref_iter.TagRefIter.{TagRefIter}
+use Rattle.gix_object.specs.Runs.{complete}
+use Rattle.gix_object.specs.TagTokenGiving.{TellsTag, standing_in_tag}
+use Rattle.gix_object.specs.TagTokens.{TagTokenView}
+use Rattle.gix_object.specs.tag.ref_iter.TagRefIter.{TagRefIter}
 
 -- these tokens come, to the end of the reader's bytes
 abbrev pub IsToTell : TagRefIter → List TagTokenView → Type 0

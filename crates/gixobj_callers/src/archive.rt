@@ -2,9 +2,9 @@
 ghost use Rattle.std.specs.Prelude.{◌≡◌, ◌↔◌, [], IfOk, IfSome, IsNone};
 ghost use Rattle.gixobj_callers.specs.Archives.{IsTip};
 
-use gixobj_base::hash::Kind;
-use gixobj_find::{Keep, KeepCommit};
-use gixobj_import::{ImportError, Imported, Importer, Step, import_all};
+use gix_object::hash::Kind;
+use gix_object::import::{ImportError, Imported, Importer, Step, import_all};
+use gix_object::{Keep, KeepCommit};
 use std::alloc::Global;
 
 /// Imports the steps of a history into a store, and answers what was imported last: its commit, and the root that was written

@@ -2,20 +2,19 @@
 ghost use Rattle.std.specs.Prelude.{◌≡◌, IfOk, codes, map};
 ghost use Rattle.std.specs.List.{AllZip};
 ghost use Rattle.bstr.specs.BStr.{bstr_bytes};
-ghost use Rattle.gixobj_base.specs.Hash.{IsHexOfAnId};
-ghost use Rattle.gixobj_base.specs.Hash.Hex.{IsHexOf};
-ghost use Rattle.gixobj_base.specs.hash.hash.kind.Kind.{Kind};
-ghost use Rattle.gixobj_codec.specs.CommitViews.{commit_lines, owned_commit_lines};
-ghost use Rattle.gixobj_codec.specs.ExtraHeaders.{IsFirstPlace, IsFirstValue, values_named};
-ghost use Rattle.gixobj_codec.specs.Mergetags.{IsTagOf};
+ghost use Rattle.gix_object.specs.CommitViews.{commit_lines, owned_commit_lines};
+ghost use Rattle.gix_object.specs.ExtraHeaders.{IsFirstPlace, IsFirstValue, values_named};
+ghost use Rattle.gix_object.specs.Hash.{IsHexOfAnId};
+ghost use Rattle.gix_object.specs.Hash.Hex.{IsHexOf};
+ghost use Rattle.gix_object.specs.Mergetags.{IsTagOf};
+ghost use Rattle.gix_object.specs.hash.hash.kind.Kind.{Kind};
 
 use bstr::BStr;
-use gixobj_base::OutOfMemory;
-use gixobj_base::decode::Error;
-use gixobj_codec::laws::{
+use gix_object::decode::Error;
+use gix_object::laws::{
     borrowed_headers_are_found, borrowed_mergetags_are_found, owned_headers_are_found,
 };
-use gixobj_codec::{Commit, CommitRef, TagRef};
+use gix_object::{Commit, CommitRef, OutOfMemory, TagRef};
 use std::alloc::Global;
 
 /// The value of the first header of this name.

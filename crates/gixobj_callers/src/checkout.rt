@@ -1,22 +1,23 @@
 //! A planner of checkouts that works in one directory of a root.
 ghost use Rattle.std.specs.Prelude.{◌≡◌, ℕ, IfErr, IfOk, OnOk};
-ghost use Rattle.gixobj_base.specs.Entries.{IsWellFormed};
-ghost use Rattle.gixobj_directories.specs.Calls.{IsCallableOnTrees, answered, denied, names_of};
+ghost use Rattle.gixobj_directories.specs.Calls.{answered, denied};
 ghost use Rattle.gixobj_directories.specs.Openings.{OfTrees};
-ghost use Rattle.gixobj_editor.specs.Cursors.{prefix_of};
-ghost use Rattle.gixobj_files.specs.Files.{Files, NamedFiles, SameFiles, Table};
-ghost use Rattle.gixobj_files.specs.History.{History};
-ghost use Rattle.gixobj_files.specs.Tables.{AgreesWithPairs, AgreesWithStore};
+ghost use Rattle.gix_object.specs.Calls.{IsCallableOnTrees, names_of};
+ghost use Rattle.gix_object.specs.Cursors.{prefix_of};
+ghost use Rattle.gix_object.specs.Entries.{IsWellFormed};
+ghost use Rattle.gix_object.specs.Files.{Files, NamedFiles, SameFiles, Table, Trees};
+ghost use Rattle.gix_object.specs.History.{History};
+ghost use Rattle.gix_object.specs.Openings.{AreTreesOf};
+ghost use Rattle.gix_object.specs.Tables.{AgreesWithPairs, AgreesWithStore};
 ghost use Rattle.gixobj_callers.specs.Checkouts.{AreNotPutIn, ArePutIn, IsCheckedOut, IsFilled, IsNotFilled, RefusesCheckout, steps_of_checkout};
 ghost use Rattle.gixobj_callers.specs.Plans.{started};
 ghost use Rattle.gixobj_object.specs.Stores.{meaning};
 
 use bstr::BString;
-use gixobj_base::Tree;
-use gixobj_base::hash::{Kind, ObjectId};
-use gixobj_base::tree::EntryKind;
-use gixobj_editor::editor::{Cursor, Editor, Error, WriteError, Written};
-use gixobj_object::Find;
+use gix_object::hash::{Kind, ObjectId};
+use gix_object::tree::EntryKind;
+use gix_object::tree::editor::{Cursor, Editor, Error, WriteError, Written};
+use gix_object::{Find, Tree};
 use std::fmt::Display;
 
 /// An entry that is to be put in, at a path from the directory of the checkout.

@@ -1,16 +1,15 @@
 //! A reader of history, who walks from a commit to its ancestors and looks up files in their trees.
 ghost use Rattle.std.specs.Prelude.{IfErr, IfOk, Some, map};
 ghost use Rattle.bstr.specs.Owned.{bstring_bytes};
-ghost use Rattle.gixobj_codec.specs.Lookups.{IsAtPath};
-ghost use Rattle.gixobj_codec.specs.Stores.{StoredObject};
+ghost use Rattle.gix_object.specs.Lookups.{IsAtPath};
+ghost use Rattle.gix_object.specs.Stores.{StoredObject};
 ghost use Rattle.gixobj_callers.specs.Ancestors.{HasTree, IsAncestor, IsFirstParent, RefusesEntryOfCommit, RefusesParent, RefusesWalk};
 
 use bstr::BString;
-use gixobj_base::hash::ObjectId;
-use gixobj_base::tree::Entry;
-use gixobj_codec::{Find, find};
-use gixobj_find::FindExt;
-use gixobj_find::find::{existing_iter, existing_object};
+use gix_object::find::{existing_iter, existing_object};
+use gix_object::hash::ObjectId;
+use gix_object::tree::Entry;
+use gix_object::{Find, FindExt, find};
 use std::alloc::Global;
 
 /// Why a walk stops.

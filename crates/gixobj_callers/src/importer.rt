@@ -1,30 +1,30 @@
 //! An importer of history: of edits, whose trees it has kept, and of commits, which it makes its own and writes.
 ghost use Rattle.std.specs.Prelude.{◌≡◌, ◌↔◌, ℕ, Contains, Err, IfErr, IfOk, IsTrue, OnErr, not, position};
 ghost use Rattle.std.specs.Fn.{FnReturnsAt};
-ghost use Rattle.gixobj_codec.specs.Commit.{CommitLines, IsCommitText};
-ghost use Rattle.gixobj_codec.specs.CommitWriting.{commit_text};
-ghost use Rattle.gixobj_codec.specs.Rewriting.{AreOwnPartsOfCommit};
-ghost use Rattle.gixobj_files.specs.Bases.{HasBases};
-ghost use Rattle.gixobj_files.specs.Files.{NamedFiles, SameFiles, Table};
-ghost use Rattle.gixobj_files.specs.History.{History};
-ghost use Rattle.gixobj_files.specs.State.{EditorFiles, open_bases, open_dirs};
-ghost use Rattle.gixobj_files.specs.Tables.{AgreesWithPairs};
-ghost use Rattle.gixobj_find.specs.Keeping.{with_trees};
-ghost use Rattle.gixobj_editor.specs.Replies.{IsCallable};
-ghost use Rattle.gixobj_editor.specs.RunTables.{AgreesWithObjects};
+ghost use Rattle.gix_object.specs.Bases.{HasBases};
+ghost use Rattle.gix_object.specs.Commit.{CommitLines, IsCommitText};
+ghost use Rattle.gix_object.specs.CommitWriting.{commit_text};
+ghost use Rattle.gix_object.specs.Files.{NamedFiles, SameFiles, Table};
+ghost use Rattle.gix_object.specs.History.{History};
+ghost use Rattle.gix_object.specs.Keeping.{with_trees};
+ghost use Rattle.gix_object.specs.Replies.{IsCallable};
+ghost use Rattle.gix_object.specs.Rewriting.{AreOwnPartsOfCommit};
+ghost use Rattle.gix_object.specs.RunTables.{AgreesWithObjects};
+ghost use Rattle.gix_object.specs.State.{EditorFiles, open_bases, open_dirs};
+ghost use Rattle.gix_object.specs.Tables.{AgreesWithPairs};
 ghost use Rattle.gixobj_callers.specs.Copies.{FailsForPart};
 ghost use Rattle.gixobj_callers.specs.Imports.{Decides, FailsImport, IsWriteBehind, edits_and_write, is_done, import_steps};
 ghost use Rattle.gixobj_object.specs.Stores.{meaning};
 
 use crate::store::CopyError;
-use gixobj_base::hash::{Kind, ObjectId};
-use gixobj_base::{OutOfMemory, Tree, WriteTo};
-use gixobj_codec::CommitRef;
-use gixobj_codec::laws::{commit_has_one_reading, owned_forms_have_the_parts};
-use gixobj_directories::laws::every_store_names_trees;
-use gixobj_editor::editor::{Editor, Error, WriteError, Written};
-use gixobj_editor::{Command, Edit, EditReply, Reply, run};
-use gixobj_find::{Keep, KeepError};
+use gix_object::hash::{Kind, ObjectId};
+use gix_object::laws::{
+    commit_has_one_reading, every_store_names_trees, owned_forms_have_the_parts,
+};
+use gix_object::tree::editor::{
+    Command, Edit, EditReply, Editor, Error, Reply, WriteError, Written, run,
+};
+use gix_object::{CommitRef, Keep, KeepError, OutOfMemory, Tree, WriteTo};
 use std::alloc::Global;
 use std::fmt::Display;
 

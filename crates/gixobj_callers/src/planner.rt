@@ -1,32 +1,30 @@
 //! A planner of checkouts, which goes through the entries of trees, and makes a tree from a stored one.
 ghost use Rattle.std.specs.Prelude.{◌≡◌, ℕ, All, IfErr, IfOk, IsFalse, List, MatchBool};
-ghost use Rattle.gixobj_base.specs.Entries.{EntryView};
-ghost use Rattle.gixobj_base.specs.Mode.{mode_of_kind};
-ghost use Rattle.gixobj_directories.specs.Calls.{IsCallableOnTrees, answered, denied, names_of};
+ghost use Rattle.gixobj_directories.specs.Calls.{answered, denied};
 ghost use Rattle.gixobj_directories.specs.Openings.{OfTrees};
-ghost use Rattle.gixobj_files.specs.Files.{NamedFiles, SameFiles, Table, Upserted, is_null};
-ghost use Rattle.gixobj_files.specs.Tables.{AgreesWithPairs, AgreesWithStore};
-ghost use Rattle.gixobj_codec.specs.TreeReading.{IsNoTreeText, IsTreeText};
-ghost use Rattle.gixobj_codec.specs.TreeRewriting.{ReadsBack};
+ghost use Rattle.gix_object.specs.Calls.{IsCallableOnTrees, names_of};
+ghost use Rattle.gix_object.specs.Entries.{EntryView};
+ghost use Rattle.gix_object.specs.Files.{NamedFiles, SameFiles, Table, Trees, Upserted, is_null};
+ghost use Rattle.gix_object.specs.Mode.{mode_of_kind};
+ghost use Rattle.gix_object.specs.Openings.{AreTreesOf};
+ghost use Rattle.gix_object.specs.Tables.{AgreesWithPairs, AgreesWithStore};
+ghost use Rattle.gix_object.specs.TreeReading.{IsNoTreeText, IsTreeText};
+ghost use Rattle.gix_object.specs.TreeRewriting.{ReadsBack};
 ghost use Rattle.gixobj_callers.specs.Copies.{FailsForRoom};
 ghost use Rattle.gixobj_callers.specs.Plans.{IsPlanned, IsRoot, RefusesPlan, RefusesRoot};
 ghost use Rattle.gixobj_object.specs.Stores.{meaning};
 
 use crate::store::CopyError;
 use bstr::BString;
-use gixobj_base::hash::{Kind, ObjectId};
-use gixobj_base::laws::writers_fail_as_their_sinks;
-use gixobj_base::tree::EntryKind;
-use gixobj_base::{Tree, WriteTo};
-use gixobj_codec::laws::{
+use gix_object::find::existing_object;
+use gix_object::hash::{Kind, ObjectId};
+use gix_object::laws::{
     entries_are_passed, ids_are_the_same_or_not, tree_has_one_reading,
-    tree_readers_read_one_language, tree_reads_back, tree_writes_back,
+    tree_readers_read_one_language, tree_reads_back, tree_writes_back, writers_fail_as_their_sinks,
 };
-use gixobj_codec::{TreeRef, TreeRefIter};
-use gixobj_editor::editor::{Editor, Error, WriteError, Written};
-use gixobj_find::FindExt;
-use gixobj_find::find::existing_object;
-use gixobj_object::Find;
+use gix_object::tree::EntryKind;
+use gix_object::tree::editor::{Editor, Error, WriteError, Written};
+use gix_object::{Find, FindExt, Tree, TreeRef, TreeRefIter, WriteTo};
 use std::alloc::Global;
 use std::fmt::Display;
 

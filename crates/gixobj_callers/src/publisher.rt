@@ -1,22 +1,22 @@
 //! A publisher of releases, who reads tags, checks their names and copies them.
 ghost use Rattle.std.specs.Prelude.{◌≡◌, IfErr, IfOk, MatchOption, Some};
 ghost use Rattle.bstr.specs.BStr.{bstr_bytes};
-ghost use Rattle.gixobj_base.specs.Hash.{Spells};
-ghost use Rattle.gixobj_base.specs.hash.hash.object_id.ObjectId.{ObjectId};
-ghost use Rattle.gixobj_codec.specs.NameRule.{IsTagName};
-ghost use Rattle.gixobj_codec.specs.TagRewriting.{KeepsBody};
-ghost use Rattle.gixobj_codec.specs.TagText.{IsTagText, TagLines};
-ghost use Rattle.gixobj_codec.specs.TagViews.{tag_lines};
+ghost use Rattle.gix_object.specs.Hash.{Spells};
+ghost use Rattle.gix_object.specs.NameRule.{IsTagName};
+ghost use Rattle.gix_object.specs.TagRewriting.{KeepsBody};
+ghost use Rattle.gix_object.specs.TagText.{IsTagText, TagLines};
+ghost use Rattle.gix_object.specs.TagViews.{tag_lines};
+ghost use Rattle.gix_object.specs.hash.hash.object_id.ObjectId.{ObjectId};
 ghost use Rattle.gixobj_callers.specs.Copies.{FailsForRoom};
 
 use crate::store::CopyError;
 use bstr::BStr;
-use gixobj_base::WriteTo;
-use gixobj_base::hash::{Kind, ObjectId};
-use gixobj_base::laws::writers_fail_as_their_sinks;
-use gixobj_codec::laws::{parts_of_tags_are_found, tag_has_one_reading, tag_writes_back};
-use gixobj_codec::tag::write::validated_name;
-use gixobj_codec::{TagRef, TagRefIter};
+use gix_object::hash::{Kind, ObjectId};
+use gix_object::laws::{
+    parts_of_tags_are_found, tag_has_one_reading, tag_writes_back, writers_fail_as_their_sinks,
+};
+use gix_object::tag::write::validated_name;
+use gix_object::{TagRef, TagRefIter, WriteTo};
 use std::alloc::Global;
 
 /// Reads a tag and writes it: a text comes back as it was where it is unsigned or its message is more than

@@ -1,16 +1,14 @@
 //! A rebuilder, which runs a script on no files, and tells whether two of its writes are the same.
 ghost use Rattle.std.specs.Prelude.{◌≡◌, ◌↔◌, IfErr, IfOk, IsTrue, None, OnErr};
 ghost use Rattle.std.specs.Fn.{FnReturnsAt};
-ghost use Rattle.gixobj_editor.specs.Commands.{written_at, written_by, written_by_edit};
-ghost use Rattle.gixobj_editor.specs.Replies.{IsCallable};
+ghost use Rattle.gix_object.specs.Commands.{written_at, written_by, written_by_edit};
+ghost use Rattle.gix_object.specs.Replies.{IsCallable};
 ghost use Rattle.gixobj_callers.specs.Rebuilds.{IsCompared, NamesWritten, RefusesComparison, id_named};
 ghost use Rattle.gixobj_object.specs.Stores.{meaning};
 
-use gixobj_base::hash::{Kind, ObjectId};
-use gixobj_base::{OutOfMemory, Tree};
-use gixobj_editor::editor::Editor;
-use gixobj_editor::{Command, EditReply, Reply, run};
-use gixobj_find::Keep;
+use gix_object::hash::{Kind, ObjectId};
+use gix_object::tree::editor::{Command, EditReply, Editor, Reply, run};
+use gix_object::{Keep, OutOfMemory, Tree};
 use std::alloc::Global;
 
 /// Why two writes of a script aren't compared.

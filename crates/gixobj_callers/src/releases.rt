@@ -2,22 +2,19 @@
 //! a runner runs.
 ghost use Rattle.std.specs.Prelude.{◌≡◌, IfErr, IfOk, IfSome, true};
 ghost use Rattle.std.specs.Cow.{cow_slice_items};
-ghost use Rattle.gixobj_commit.specs.CommitSigning.{RefusesWritingCommit};
-ghost use Rattle.gixobj_commit.specs.CommitViews.{owned_commit_lines};
-ghost use Rattle.gixobj_commit.specs.CommitWriting.{commit_text};
-ghost use Rattle.gixobj_signature.specs.Outcomes.{outcome_view};
-ghost use Rattle.gixobj_signature.specs.Signing as signing;
-ghost use Rattle.gixobj_signature.specs.SignedBytes.{signed_bytes};
-ghost use Rattle.gixobj_signature.specs.Verifiers.{options_view};
+ghost use Rattle.gix_object.specs.CommitSigning.{RefusesWritingCommit};
+ghost use Rattle.gix_object.specs.CommitViews.{owned_commit_lines};
+ghost use Rattle.gix_object.specs.CommitWriting.{commit_text};
+ghost use Rattle.gix_object.specs.Outcomes.{outcome_view};
+ghost use Rattle.gix_object.specs.SignedBytes.{signed_bytes};
+ghost use Rattle.gix_object.specs.Signing as signing;
+ghost use Rattle.gix_object.specs.Verifiers.{options_view};
 ghost use Rattle.gixobj_callers.specs.Releases.{ComesOfVerifying, GivesSignature, IsAccepted, IsAudit, IsSignedText, RefusesAudit, RefusesSignature, RefusesSignedText, Vouches};
 
 use bstr::BStr;
-use gixobj_commit::{Commit, CommitRefIter};
-use gixobj_fields::{WriteTo, encode};
-use gixobj_hash::{Kind, decode, hash};
-use gixobj_signature::signature::verify::{self, Options, Outcome};
-use gixobj_signature::signature::{Runner, SignedData, sign};
-use gixobj_tag::TagRefIter;
+use gix_object::signature::verify::{self, Options, Outcome};
+use gix_object::signature::{Runner, SignedData, sign};
+use gix_object::{Commit, CommitRefIter, Kind, TagRefIter, WriteTo, decode, encode, hash};
 use std::alloc::Global;
 use std::borrow::CowSlice;
 

@@ -1,11 +1,10 @@
 //! A store of one's own: objects that lie in memory already, in no order.
 ghost use Rattle.gixobj_callers.specs.Shelves.{shelf_objects};
-ghost use Rattle.gixobj_codec.specs.Stores.{IsFound};
+ghost use Rattle.gix_object.specs.Stores.{IsFound};
 
-use gixobj_base::Header;
-use gixobj_base::hash::{ObjectId, oid};
-use gixobj_codec::laws::an_object_is_put_in;
-use gixobj_codec::{Data, Exists, Find, FindHeader, Store, find};
+use gix_object::hash::{ObjectId, oid};
+use gix_object::laws::an_object_is_put_in;
+use gix_object::{Data, Exists, Find, FindHeader, Header, Store, find};
 
 /// Objects with their ids. Where an id stands twice, the first one counts.
 #[derive(Clone, Copy, Debug)]

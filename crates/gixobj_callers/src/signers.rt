@@ -1,21 +1,20 @@
 //! A reader of messages, who lists who signed a commit off, and takes a body apart.
 ghost use Rattle.std.specs.Prelude.{◌≡◌, IfErr, IfOk, map};
-ghost use Rattle.gixobj_base.specs.hash.decode.Error.TheVariants.{Malformed};
-ghost use Rattle.gixobj_codec.specs.Blocks.{joined_parts};
-ghost use Rattle.gixobj_codec.specs.Bodies.{bytes_of_body};
-ghost use Rattle.gixobj_codec.specs.Commit.{CommitLines, IsCommitText, IsNoCommitText};
-ghost use Rattle.gixobj_codec.specs.CommitViews.{commit_lines};
-ghost use Rattle.gixobj_codec.specs.GivingBlocks.{block_view};
-ghost use Rattle.gixobj_codec.specs.GivingTrailers.{trailer_view};
+ghost use Rattle.gix_object.specs.Blocks.{joined_parts};
+ghost use Rattle.gix_object.specs.Bodies.{bytes_of_body};
+ghost use Rattle.gix_object.specs.Commit.{CommitLines, IsCommitText, IsNoCommitText};
+ghost use Rattle.gix_object.specs.CommitViews.{commit_lines};
+ghost use Rattle.gix_object.specs.GivingBlocks.{block_view};
+ghost use Rattle.gix_object.specs.GivingTrailers.{trailer_view};
+ghost use Rattle.gix_object.specs.hash.decode.Error.TheVariants.{Malformed};
 ghost use Rattle.gixobj_callers.specs.Signers.{AreSignOffs};
 
-use gixobj_base::OutOfMemory;
-use gixobj_base::decode::Error;
-use gixobj_base::hash::Kind;
-use gixobj_codec::CommitRef;
-use gixobj_codec::commit::message::BodyRef;
-use gixobj_codec::commit::message::body::{MessageBlock, TrailerRef};
-use gixobj_codec::laws::{parts_are_the_body, readers_give_all};
+use gix_object::commit::message::BodyRef;
+use gix_object::commit::message::body::{MessageBlock, TrailerRef};
+use gix_object::decode::Error;
+use gix_object::hash::Kind;
+use gix_object::laws::{parts_are_the_body, readers_give_all};
+use gix_object::{CommitRef, OutOfMemory};
 use std::alloc::Global;
 
 /// The trailers that sign a commit off, in order, of the commit's text.

@@ -1,26 +1,25 @@
 //! A store of objects, which writes what it has read.
 ghost use Rattle.std.specs.Prelude.{◌≢◌, ◌≡◌, ℕ, List, [], All, IfErr, IfOk, Some};
 ghost use Rattle.std.specs.List.{AllPass};
-ghost use Rattle.gixobj_base.specs.Hash.{id_kind, id_of, is_lower_hex_digit};
-ghost use Rattle.gixobj_base.specs.Hash.Borrowed.{borrowed_id};
-ghost use Rattle.gixobj_base.specs.Entries.{EntryView};
-ghost use Rattle.gixobj_codec.specs.Commit.{CommitLines, IsCommitText};
-ghost use Rattle.gixobj_codec.specs.BorrowedObjects.{borrowed_kind, borrowed_object_text};
-ghost use Rattle.gixobj_codec.specs.LooseObjects.{IsLooseObject};
-ghost use Rattle.gixobj_codec.specs.object.object.borrowed.ObjectRef.{ObjectRef};
-ghost use Rattle.gixobj_codec.specs.TreeReading.{IsTreeText};
-ghost use Rattle.gixobj_codec.specs.TreeRewriting.{HasOwnModes};
+ghost use Rattle.gix_object.specs.BorrowedObjects.{borrowed_kind, borrowed_object_text};
+ghost use Rattle.gix_object.specs.Commit.{CommitLines, IsCommitText};
+ghost use Rattle.gix_object.specs.Entries.{EntryView};
+ghost use Rattle.gix_object.specs.Hash.{id_kind, id_of, is_lower_hex_digit};
+ghost use Rattle.gix_object.specs.Hash.Borrowed.{borrowed_id};
+ghost use Rattle.gix_object.specs.LooseObjects.{IsLooseObject};
+ghost use Rattle.gix_object.specs.TreeReading.{IsTreeText};
+ghost use Rattle.gix_object.specs.TreeRewriting.{HasOwnModes};
+ghost use Rattle.gix_object.specs.object.object.borrowed.ObjectRef.{ObjectRef};
 ghost use Rattle.gixobj_callers.specs.Copies.{FailsForRoom};
 ghost use Rattle.gixobj_callers.specs.Takings.{RefusesTaking};
 
-use gixobj_base::hash::{Kind, oid};
-use gixobj_base::laws::writers_fail_as_their_sinks;
-use gixobj_base::{WriteTo, decode, encode};
-use gixobj_codec::data::verify;
-use gixobj_codec::laws::{
+use gix_object::data::verify;
+use gix_object::hash::{Kind, oid};
+use gix_object::laws::{
     commit_has_one_reading, commit_writes_back, tree_has_one_reading, tree_writes_back,
+    writers_fail_as_their_sinks,
 };
-use gixobj_codec::{CommitRef, Data, LooseDecodeError, ObjectRef, TreeRef};
+use gix_object::{CommitRef, Data, LooseDecodeError, ObjectRef, TreeRef, WriteTo, decode, encode};
 use std::alloc::Global;
 
 /// Why there is no copy.

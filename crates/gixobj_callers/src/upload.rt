@@ -1,15 +1,16 @@
 //! A planner of uploads, which tells what an editor's files need that isn't there yet.
 ghost use Rattle.std.specs.Prelude.{◌≡◌, IfErr, IfOk, OnErr};
-ghost use Rattle.gixobj_directories.specs.Calls.{IsCallableOnTrees, answered, denied};
-ghost use Rattle.gixobj_directories.specs.Handing.{Stopped};
-ghost use Rattle.gixobj_editor.specs.Writes.{IsWrittenEditor};
-ghost use Rattle.gixobj_files.specs.HandingOut.{HandsOutSome};
-ghost use Rattle.gixobj_files.specs.State.{open_bases, open_dirs};
+ghost use Rattle.gixobj_directories.specs.Calls.{answered, denied};
+ghost use Rattle.gix_object.specs.Calls.{IsCallableOnTrees};
+ghost use Rattle.gix_object.specs.Handing.{Stopped};
+ghost use Rattle.gix_object.specs.HandingOut.{HandsOutSome};
+ghost use Rattle.gix_object.specs.State.{open_bases, open_dirs};
+ghost use Rattle.gix_object.specs.Writes.{IsWrittenEditor};
 ghost use Rattle.gixobj_callers.specs.Uploads.{Divides, IsEnough, NamesItsFiles};
 
-use gixobj_base::Tree;
-use gixobj_base::hash::ObjectId;
-use gixobj_editor::editor::{Editor, WriteError};
+use gix_object::Tree;
+use gix_object::hash::ObjectId;
+use gix_object::tree::editor::{Editor, WriteError};
 
 /// What has to be uploaded, for the files of an editor, to a store that has what the editor opened.
 #[derive(Debug, Drop)]

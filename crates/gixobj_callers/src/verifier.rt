@@ -1,17 +1,17 @@
 //! A verifier of tags, who reads each by both readers.
 ghost use Rattle.std.specs.Prelude.{◌≡◌, ◌≢◌, ◌∷◌, ℕ, List, IfNone, IfSome};
 ghost use Rattle.bstr.specs.BStr.{bstr_bytes};
-ghost use Rattle.gixobj_base.specs.Hash.{Spells};
+ghost use Rattle.gix_object.specs.Hash.{Spells};
+ghost use Rattle.gix_object.specs.TagText.{IsNoTagText, IsTagText, TagLines};
+ghost use Rattle.gix_object.specs.TagTokens.{TagTokenView, name_token, tag_token_view};
+ghost use Rattle.gix_object.specs.TagViews.{tag_lines};
 ghost use Rattle.gixobj_callers.specs.Told.{IsToTell};
-ghost use Rattle.gixobj_codec.specs.TagText.{IsNoTagText, IsTagText, TagLines};
-ghost use Rattle.gixobj_codec.specs.TagTokens.{TagTokenView, name_token, tag_token_view};
-ghost use Rattle.gixobj_codec.specs.TagViews.{tag_lines};
 
 use bstr::BStr;
-use gixobj_base::hash::{Kind, ObjectId};
-use gixobj_codec::laws::{tag_readers_read_one_language, tag_tokens_have_one_reading};
-use gixobj_codec::tag::ref_iter::Token;
-use gixobj_codec::{TagRef, TagRefIter};
+use gix_object::hash::{Kind, ObjectId};
+use gix_object::laws::{tag_readers_read_one_language, tag_tokens_have_one_reading};
+use gix_object::tag::ref_iter::Token;
+use gix_object::{TagRef, TagRefIter};
 
 /// What both readers say of one text.
 #[derive(Clone, Copy, Debug)]

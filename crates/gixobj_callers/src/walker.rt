@@ -2,16 +2,15 @@
 ghost use Rattle.std.specs.Prelude.{◌≡◌, IfErr, IfOk, IsTrue};
 ghost use Rattle.std.specs.List.{AllZip};
 ghost use Rattle.bstr.specs.BStr.{bstr_bytes};
-ghost use Rattle.gixobj_base.specs.Hash.{Spells};
-ghost use Rattle.gixobj_base.specs.hash.decode.Error.TheVariants as decode;
-ghost use Rattle.gixobj_codec.specs.Commit.{CommitLines, IsCommitText, IsNoCommitText};
+ghost use Rattle.gix_object.specs.Commit.{CommitLines, IsCommitText, IsNoCommitText};
+ghost use Rattle.gix_object.specs.Hash.{Spells};
+ghost use Rattle.gix_object.specs.hash.decode.Error.TheVariants as decode;
 
 use bstr::BStr;
-use gixobj_base::OutOfMemory;
-use gixobj_base::decode::Error;
-use gixobj_base::hash::{Kind, ObjectId};
-use gixobj_codec::CommitRefIter;
-use gixobj_codec::laws::readers::{ids_are_found, message_is_found};
+use gix_object::decode::Error;
+use gix_object::hash::{Kind, ObjectId};
+use gix_object::laws::readers::{ids_are_found, message_is_found};
+use gix_object::{CommitRefIter, OutOfMemory};
 use std::alloc::Global;
 
 /// The tree of a commit. It is refused only where the text is no commit's.

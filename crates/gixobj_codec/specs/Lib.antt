@@ -5,10 +5,12 @@ pub use Rattle.gixobj_actor.specs.declared as actor
 pub use Rattle.gixobj_commit.specs.Commit
 pub use Rattle.gixobj_commit.specs.CommitOwned
 pub use Rattle.gixobj_commit.specs.CommitRuns
+pub use Rattle.gixobj_commit.specs.CommitSigning
 pub use Rattle.gixobj_commit.specs.CommitTokens
 pub use Rattle.gixobj_commit.specs.CommitViews
 pub use Rattle.gixobj_commit.specs.CommitWriting
 pub use Rattle.gixobj_commit.specs.ExtraHeaders
+pub use Rattle.gixobj_commit.specs.Extracting
 pub use Rattle.gixobj_commit.specs.HeadersLeft
 pub use Rattle.gixobj_commit.specs.Lines
 pub use Rattle.gixobj_commit.specs.Mergetags
@@ -49,7 +51,9 @@ pub use Rattle.gixobj_tag.specs.NameRule
 pub use Rattle.gixobj_tag.specs.Readers as TagReaders
 pub use Rattle.gixobj_tag.specs.Rewriting as TagRewriting
 pub use Rattle.gixobj_tag.specs.Signed
+pub use Rattle.gixobj_tag.specs.TagExtracting
 pub use Rattle.gixobj_tag.specs.TagOwned
+pub use Rattle.gixobj_tag.specs.TagSigning
 pub use Rattle.gixobj_tag.specs.TagText
 pub use Rattle.gixobj_tag.specs.TagTokens
 pub use Rattle.gixobj_tag.specs.TagViews

@@ -1,10 +1,9 @@
 //! A store that counts its lookups, and fails at some of them.
-ghost use Rattle.gixobj_find.specs.Memory.{memory_objects};
+ghost use Rattle.gix_object.specs.Memory.{memory_objects};
 
 use bstr::BString;
 use gix_object::hash::oid;
-use gix_object::{Data, Exists, Find, FindHeader, Header, Store, find};
-use gixobj_find::Memory;
+use gix_object::{Data, Exists, Find, FindHeader, Header, Memory, Store, find};
 use std::alloc::Global;
 use std::cell::Cell;
 

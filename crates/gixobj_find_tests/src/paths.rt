@@ -4,8 +4,7 @@ use crate::failing::Failing;
 use crate::samples::{BAK, ROOT, ROOT_TEXT, VERSION_1, id, id_of_bytes, names, two_trees};
 use gix_object::hash::{Kind as HashKind, ObjectId};
 use gix_object::tree::{Entry, EntryKind};
-use gix_object::{Find, FindExt, Kind, TreeRefIter, find};
-use gixobj_find::Memory;
+use gix_object::{Find, FindExt, Kind, Memory, TreeRefIter, find};
 use std::alloc::Global;
 use std::test::Fail;
 

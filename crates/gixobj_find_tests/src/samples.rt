@@ -2,8 +2,7 @@
 
 use bstr::BString;
 use gix_object::hash::{Kind as HashKind, ObjectId};
-use gix_object::{Kind, OutOfMemory, write};
-use gixobj_find::Memory;
+use gix_object::{Kind, Memory, OutOfMemory, write};
 use std::alloc::{AllocError, Global};
 
 /// The kinds of objects.

@@ -3,8 +3,7 @@
 use crate::failing::Failing;
 use crate::samples::{BAK, ROOT, id, id_of_bytes, text_of, two_trees};
 use gix_object::hash::{Kind as HashKind, ObjectId};
-use gix_object::{Exists, Find, FindHeader, FindObjectOrHeader, Kind, find};
-use gixobj_find::Memory;
+use gix_object::{Exists, Find, FindHeader, FindObjectOrHeader, Kind, Memory, find};
 use std::alloc::Global;
 use std::rc::Rc;
 use std::test::Fail;

@@ -4,9 +4,8 @@ use super::{FIRST, SECOND};
 use crate::samples::{id, path_of, upsert};
 use gix_object::hash::Kind;
 use gix_object::tree::editor::{Edit, Editor, Error, WriteError, Written};
-use gix_object::{Tree, encode};
+use gix_object::{Memory, Tree, encode};
 use gixobj_callers::importer::{ImportError, import_files};
-use gixobj_find::Memory;
 use std::alloc::Global;
 use std::test::Fail;
 

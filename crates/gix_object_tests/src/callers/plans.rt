@@ -6,9 +6,8 @@ use gix_object::find::Never;
 use gix_object::hash::{Kind as HashKind, ObjectId};
 use gix_object::tree::EntryKind;
 use gix_object::tree::editor::{Error, WriteError, Written};
-use gix_object::{Find, Kind, Tree, encode};
+use gix_object::{Find, Kind, Tree, encode, Memory};
 use gixobj_callers::planner::{PlanError, RootError, with_entry_in_stored};
-use gixobj_find::Memory;
 use std::alloc::{AllocError, Global};
 use std::test::Fail;
 

@@ -6,11 +6,10 @@ use crate::samples::{id, path_of, upsert};
 use gix_object::hash::Kind;
 use gix_object::tree::EntryKind;
 use gix_object::tree::editor::{Command, Edit, Editor, WriteError};
-use gix_object::{Tree, encode};
+use gix_object::{Memory, Tree, encode};
 use gixobj_callers::planner::root_in;
 use gixobj_callers::rebuilder::{CompareError, wrote_the_same};
 use gixobj_callers::upload::{Upload, upload_of};
-use gixobj_find::Memory;
 use std::alloc::{AllocError, Global};
 use std::test::Fail;
 

@@ -1,12 +1,10 @@
 //! A store that counts what it keeps, and refuses at one place.
 ghost use Rattle.std.specs.Prelude.{◌≡◌};
-ghost use Rattle.gixobj_find.specs.Memory.{memory_objects};
+ghost use Rattle.gix_object.specs.Memory.{memory_objects};
 
 use bstr::BString;
-use gixobj_find::{Keep, KeepCommit, KeepError, Memory};
-use gixobj_hash::hash::{ObjectId, oid};
-use gixobj_object::{Data, Find, Store, find};
-use gixobj_tree::Tree;
+use gix_object::hash::{ObjectId, oid};
+use gix_object::{Data, Find, Keep, KeepCommit, KeepError, Memory, Store, Tree, find};
 use std::alloc::Global;
 
 /// A store in memory. The call of `keep` or `keep_commit` at this place, counted from 1, is refused.

@@ -1,14 +1,11 @@
 //! The three steps, where a growth is refused on the way: the steps before it are imported as ever, and a new importer
 //! imports all of them.
 
-use crate::import::samples::{
-    COMMITS, are_commits, imports, kept_commit, plain_steps, step, told_of,
-};
-use gixobj_editor::editor::{Error, WriteError};
-use gixobj_fields::encode;
-use gixobj_find::{KeepError, Memory};
-use gixobj_hash::hash::Kind as HashKind;
-use gixobj_import::{ImportError, Importer, Stopped, import_all};
+use crate::import::samples::{COMMITS, are_commits, imports, kept_commit, plain_steps, step, told_of};
+use gix_object::hash::Kind as HashKind;
+use gix_object::import::{ImportError, Importer, Step, Stopped, import_all};
+use gix_object::tree::editor::{Error, WriteError};
+use gix_object::{KeepError, Memory, encode};
 use std::test::Fail;
 
 /// Whether it is told that memory was wanting, where it may be.

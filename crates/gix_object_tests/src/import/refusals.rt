@@ -4,12 +4,11 @@ use crate::import::samples::{
     COMMITS, are_commits, imports, number, plain_steps, step, step_by, stop_of, told_of,
 };
 use crate::samples::{path_of, upsert};
-use gixobj_editor::Edit;
-use gixobj_editor::editor::Error;
-use gixobj_find::Memory;
-use gixobj_hash::hash::{Kind as HashKind, ObjectId};
-use gixobj_import::{ImportError, Importer, Step, Stopped};
-use gixobj_tree::tree::EntryKind;
+use gix_object::Memory;
+use gix_object::hash::{Kind as HashKind, ObjectId};
+use gix_object::import::{ImportError, Importer, Step, Stopped, import_all};
+use gix_object::tree::EntryKind;
+use gix_object::tree::editor::{Edit, Error};
 use std::alloc::{AllocError, Global};
 use std::test::Fail;
 

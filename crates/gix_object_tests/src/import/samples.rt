@@ -2,14 +2,15 @@
 
 use crate::samples::{id, upsert};
 use bstr::BString;
-use gixobj_actor::actor::Signature;
-use gixobj_actor::date::Time;
-use gixobj_editor::Edit;
 use gixobj_find::{Keep, KeepCommit};
-use gixobj_hash::hash::ObjectId;
-use gixobj_hash::{Kind, compute_hash};
-use gixobj_import::{ImportError, Imported, Importer, Step, Stopped, import_all};
-use gixobj_object::Find;
+use gixobj_import::{Importer, Stopped, import_all};
+use gix_object::actor::Signature;
+use gix_object::date::Time;
+use gix_object::hash::ObjectId;
+use gix_object::import::{ImportError, Imported, Step};
+use gix_object::tree::EntryKind;
+use gix_object::tree::editor::Edit;
+use gix_object::{Find, Kind, compute_hash};
 use std::alloc::{AllocError, Global};
 
 /// An actor at the beginning of time.

@@ -3,14 +3,14 @@
 
 use crate::samples::{id, path_of};
 use bstr::BString;
-use gixobj_actor::actor::Signature;
-use gixobj_actor::date::Time;
-use gixobj_editor::Edit;
-use gixobj_find::Memory;
 use gixobj_hash::hash::Kind as HashKind;
-use gixobj_hash::{Kind, compute_hash};
-use gixobj_import::{Imported, Importer, Step, import_all};
-use gixobj_tree::tree::EntryKind;
+use gix_object::actor::Signature;
+use gix_object::date::Time;
+use gix_object::hash::{Kind as HashKind, ObjectId};
+use gix_object::import::{Imported, Importer, Step, import_all};
+use gix_object::tree::EntryKind;
+use gix_object::tree::editor::Edit;
+use gix_object::{Kind, Memory, compute_hash};
 use std::alloc::{AllocError, Global};
 use std::test::Fail;
 

@@ -1,11 +1,10 @@
 //! Each call to keep a tree or a commit refused in turn.
 
 use crate::import::failing::Failing;
-use crate::import::samples::{
-    COMMITS, are_commits, imports, kept_commit, number, plain_steps, step, stop_of, told_of,
-};
-use gixobj_hash::hash::Kind as HashKind;
+use crate::import::samples::{COMMITS, are_commits, imports, kept_commit, number, plain_steps, step, stop_of, told_of};
 use gixobj_import::Importer;
+use gix_object::hash::Kind as HashKind;
+use gix_object::import::{Importer, import_all};
 use std::alloc::Global;
 use std::test::Fail;
 

@@ -1,11 +1,11 @@
 -- Each call adds its step.
 use Rattle.std.proofs.Common.{ap, sym, subst, ◌∙◌}
-use Rattle.gixobj_base.specs.Mode.{mode_of_kind}
-use Rattle.gixobj_base.specs.tree.tree.entry_kind.EntryKind.TheVariants.{Blob}
-use Rattle.gixobj_directories.specs.Calls.{names_of}
-use Rattle.gixobj_directories.specs.Openings.{AreTreesOf}
-use Rattle.gixobj_files.specs.Files.{Upserted}
-use Rattle.gixobj_files.specs.State.{EditorFiles, State}
+use Rattle.gix_object.specs.Calls.{names_of}
+use Rattle.gix_object.specs.Files.{Upserted}
+use Rattle.gix_object.specs.Mode.{mode_of_kind}
+use Rattle.gix_object.specs.Openings.{AreTreesOf}
+use Rattle.gix_object.specs.State.{EditorFiles, State}
+use Rattle.gix_object.specs.tree.tree.entry_kind.EntryKind.TheVariants.{Blob}
 use Rattle.gixobj_files.proofs.EditedFiles.{same_removed, same_trans}
 use Rattle.gix_object_tests.proofs.editor.edited_and_written.Goals as goal
 

@@ -1,10 +1,10 @@
 use Rattle.std.proofs.Common.{◌≡◌, ◌≢◌, ◌∙◌, ◌<◌, List, [], ap, get_or, length, subst, true, false}
 use Rattle.std.proofs.lemmas.Result.{IfOk-weaker}
-use Rattle.gixobj_base.specs.Entries.{EntryView}
-use Rattle.gixobj_base.specs.Hash.{id_kind, id_of}
-use Rattle.gixobj_base.specs.Mode.{is_tree_mode}
-use Rattle.gixobj_base.specs.hash.kind.Kind.TheVariants.{Tree}
-use Rattle.gixobj_files.specs.Files.{is_null}
+use Rattle.gix_object.specs.Entries.{EntryView}
+use Rattle.gix_object.specs.Files.{is_null}
+use Rattle.gix_object.specs.Hash.{id_kind, id_of}
+use Rattle.gix_object.specs.Mode.{is_tree_mode}
+use Rattle.gix_object.specs.hash.kind.Kind.TheVariants.{Tree}
 use Rattle.gix_object_tests.proofs.Listings.{below_empty, below_file, below_null, below_tree, below_unknown, empty_tested_at, entry_added, filled_tested_at, first_tested_at, null_tested_at, tree_tested_at}
 use Rattle.gix_object_tests.proofs.listing.+listing.Goals as goal
 

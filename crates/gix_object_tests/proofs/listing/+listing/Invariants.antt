@@ -1,6 +1,6 @@
 use Rattle.std.proofs.Common.{◌+◌, ◌*◌, take}
-use Rattle.gixobj_files.specs.Files.{Files, SameFiles, Table}
-use Rattle.gixobj_files.specs.Tables.{IsTableOf}
+use Rattle.gix_object.specs.Files.{Files, SameFiles, Table}
+use Rattle.gix_object.specs.Tables.{IsTableOf}
 use Rattle.gix_object_tests.specs.Lists.{Lists}
 use Rattle.gix_object_tests.proofs.listing.+listing.Given as goal
 

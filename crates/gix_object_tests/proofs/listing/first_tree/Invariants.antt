@@ -1,6 +1,6 @@
 use Rattle.std.proofs.Common.{List, Option, drop}
-use Rattle.gixobj_base.specs.Entries.{EntryView}
-use Rattle.gixobj_files.specs.Tables.{IsFirst}
+use Rattle.gix_object.specs.Entries.{EntryView}
+use Rattle.gix_object.specs.Tables.{IsFirst}
 use Rattle.gix_object_tests.proofs.listing.first_tree.Given as goal
 
 abbrev pub invariant-loop-named : goal.invariant-loop-named

@@ -1,9 +1,9 @@
 -- What was imported last of the list.
 use Rattle.std.proofs.Common.{None, subst}
-use Rattle.gixobj_base.specs.hash.hash.kind.Kind.{Kind}
+use Rattle.gix_object.specs.Imports.{AreCommitsOf, HaveFilesOfNothing}
+use Rattle.gix_object.specs.hash.hash.kind.Kind.{Kind}
 use Rattle.gixobj_callers.proofs.Tips.{is_tip_taken, none_of_none}
 use Rattle.gixobj_callers.proofs.archive.tip_of.Goals as goal
-use Rattle.gixobj_import.specs.Imports.{AreCommitsOf, HaveFilesOfNothing}
 
 pub returns-in-Ok-clause-none : goal.returns-in-Ok-clause-none
 returns-in-Ok-clause-none g c =

@@ -1,13 +1,13 @@
 use Rattle.std.proofs.Common.{◌≡◌, ℕ, List, Result, ap, subst, sym, ◌∙◌}
 use Rattle.std.specs.List.{AllZip}
 use Rattle.std.specs.Prelude.{codes}
-use Rattle.gixobj_base.specs.hash.decode.Error.{Error}
-use Rattle.gixobj_base.specs.hash.hash.kind.Kind.{Kind}
-use Rattle.gixobj_codec.specs.CommitViews.{commit_lines}
-use Rattle.gixobj_codec.specs.ExtraHeaders.{hash_kind_of, searched, values_named}
-use Rattle.gixobj_codec.specs.HeadersLeft.{headers_left}
-use Rattle.gixobj_codec.specs.Mergetags.{IsTagOf, mergetag_kind, mergetag_values, mergetags_left}
-use Rattle.gixobj_codec.specs.tag.tag.TagRef.{TagRef}
+use Rattle.gix_object.specs.CommitViews.{commit_lines}
+use Rattle.gix_object.specs.ExtraHeaders.{hash_kind_of, searched, values_named}
+use Rattle.gix_object.specs.HeadersLeft.{headers_left}
+use Rattle.gix_object.specs.Mergetags.{IsTagOf, mergetag_kind, mergetag_values, mergetags_left}
+use Rattle.gix_object.specs.hash.decode.Error.{Error}
+use Rattle.gix_object.specs.hash.hash.kind.Kind.{Kind}
+use Rattle.gix_object.specs.tag.tag.TagRef.{TagRef}
 use Rattle.gixobj_callers.proofs.auditor.merged_tags_of.Goals as goal
 
 pub returns : goal.returns

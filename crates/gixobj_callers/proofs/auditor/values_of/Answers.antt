@@ -1,9 +1,9 @@
 use Rattle.std.proofs.Common.{◌≡◌, Ok, ap, ◌∙◌}
 use Rattle.std.proofs.lemmas.Iterator.Consumers.{map_from_collect}
 use Rattle.std.specs.declared.alloc.AllocError.{AllocError}
-use Rattle.gixobj_codec.specs.CommitViews.{commit_lines}
-use Rattle.gixobj_codec.specs.ExtraHeaders.{searched, sought, values_named}
-use Rattle.gixobj_codec.specs.HeadersLeft.{headers_left}
+use Rattle.gix_object.specs.CommitViews.{commit_lines}
+use Rattle.gix_object.specs.ExtraHeaders.{searched, sought, values_named}
+use Rattle.gix_object.specs.HeadersLeft.{headers_left}
 use Rattle.gixobj_callers.proofs.auditor.values_of.Goals as goal
 
 pub returns : goal.returns

@@ -1,11 +1,11 @@
 use Rattle.std.proofs.Common.{Some, map, subst}
 use Rattle.bstr.specs.Owned.{bstring_bytes}
-use Rattle.gixobj_base.specs.hash.hash.object_id.ObjectId.{ObjectId}
-use Rattle.gixobj_base.specs.hash.kind.Kind.TheVariants.{Tree}
-use Rattle.gixobj_codec.specs.CommitViews.{commit_lines}
-use Rattle.gixobj_codec.specs.Lookups.{IsAtPath, RefusesPath}
-use Rattle.gixobj_codec.specs.Stores.{Names, StoredObject}
-use Rattle.gixobj_find.specs.Existing.{RefusesReader}
+use Rattle.gix_object.specs.CommitViews.{commit_lines}
+use Rattle.gix_object.specs.Existing.{RefusesReader}
+use Rattle.gix_object.specs.Lookups.{IsAtPath, RefusesPath}
+use Rattle.gix_object.specs.Stores.{Names, StoredObject}
+use Rattle.gix_object.specs.hash.hash.object_id.ObjectId.{ObjectId}
+use Rattle.gix_object.specs.hash.kind.Kind.TheVariants.{Tree}
 use Rattle.gixobj_callers.proofs.Commits.{at_start, err_of}
 use Rattle.gixobj_callers.specs.Ancestors.{HasTree, NamesCommitText, NamesTreeId, RefusesEntryOfCommit}
 use Rattle.gixobj_callers.specs.declared.history.Error.TheVariants as history

@@ -1,7 +1,7 @@
 use Rattle.std.proofs.Common.{refl, subst}
-use Rattle.gixobj_base.specs.hash.hash.object_id.ObjectId.{ObjectId}
-use Rattle.gixobj_codec.specs.CommitViews.{commit_lines}
-use Rattle.gixobj_codec.specs.ParentsLeft.{parents_left}
+use Rattle.gix_object.specs.CommitViews.{commit_lines}
+use Rattle.gix_object.specs.ParentsLeft.{parents_left}
+use Rattle.gix_object.specs.hash.hash.object_id.ObjectId.{ObjectId}
 use Rattle.gixobj_callers.proofs.Commits.{first_spelled, none_spelled}
 use Rattle.gixobj_callers.specs.Ancestors.{NamesCommitText}
 use Rattle.gixobj_callers.proofs.history.first_parent.Goals as goal

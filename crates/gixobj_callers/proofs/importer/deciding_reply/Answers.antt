@@ -1,8 +1,9 @@
 -- The first reply that isn't that to an edit which came through.
 use Rattle.std.proofs.Common.{List, Result}
 use Rattle.std.specs.Fn.{FnReturnsAt}
-use Rattle.gixobj_base.specs.Entries.{EntryView}
-use Rattle.gixobj_base.specs.hash.hash.object_id.ObjectId.{ObjectId}
+use Rattle.gix_object.specs.Entries.{EntryView}
+use Rattle.gix_object.specs.Replies.{Meaning}
+use Rattle.gix_object.specs.hash.hash.object_id.ObjectId.{ObjectId}
 use Rattle.gixobj_callers.proofs.Importing.{decides, is_by_an_edit, is_found}
 use Rattle.gixobj_callers.proofs.importer.deciding_reply.Goals as goal
 use Rattle.gixobj_object.specs.Stores.{Meaning}

@@ -1,8 +1,8 @@
 use Rattle.std.proofs.Common.{ℕ, List, ◌++◌, ap, subst, ◌∙◌}
-use Rattle.gixobj_base.specs.Streams.{list_view}
-use Rattle.gixobj_codec.specs.Commit.{CommitLines}
-use Rattle.gixobj_codec.specs.CommitViews.{commit_lines, owned_commit_lines}
-use Rattle.gixobj_codec.specs.CommitWriting.{commit_text}
+use Rattle.gix_object.specs.Commit.{CommitLines}
+use Rattle.gix_object.specs.CommitViews.{commit_lines, owned_commit_lines}
+use Rattle.gix_object.specs.CommitWriting.{commit_text}
+use Rattle.gix_object.specs.Streams.{list_view}
 use Rattle.gixobj_callers.specs.Copies.{FailsForPart}
 use Rattle.gixobj_callers.specs.declared.store.CopyError.TheVariants.{Write}
 use Rattle.gixobj_callers.proofs.Refusals.{part_refused, unread_part}

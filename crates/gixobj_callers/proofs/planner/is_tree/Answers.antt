@@ -1,10 +1,10 @@
 use Rattle.std.proofs.Common.{◌++◌, ◌∷◌, Result, Some, [], subst}
-use Rattle.gixobj_base.specs.Runs.{broken, complete}
-use Rattle.gixobj_base.specs.hash.decode.Error.{Error}
+use Rattle.gix_object.specs.EntryGiving.{GivesEntry}
+use Rattle.gix_object.specs.Runs.{broken, complete}
+use Rattle.gix_object.specs.TreeViews.{entry_view}
+use Rattle.gix_object.specs.hash.decode.Error.{Error}
+use Rattle.gix_object.specs.tree.tree.borrowed.entry_ref.EntryRef.{EntryRef}
 use Rattle.gixobj_callers.proofs.planner.is_tree.Goals as goal
-use Rattle.gixobj_codec.specs.EntryGiving.{GivesEntry}
-use Rattle.gixobj_codec.specs.TreeViews.{entry_view}
-use Rattle.gixobj_codec.specs.tree.tree.borrowed.entry_ref.EntryRef.{EntryRef}
 
 pub returns-in-Err : goal.returns-in-Err
 returns-in-Err c = λ entries is.

@@ -1,7 +1,7 @@
 use Rattle.std.proofs.Common.{List}
-use Rattle.gixobj_base.specs.Entries.{EntryView}
+use Rattle.gix_object.specs.Entries.{EntryView}
+use Rattle.gix_object.specs.EntryGiving.{HasPassedEntries}
 use Rattle.gixobj_callers.proofs.planner.is_tree.Given as goal
-use Rattle.gixobj_codec.specs.EntryGiving.{HasPassedEntries}
 
 -- the reader has gone past entries of the text
 abbrev pub invariant-loop-item : goal.invariant-loop-item

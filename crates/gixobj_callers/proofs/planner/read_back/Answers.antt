@@ -1,10 +1,10 @@
 use Rattle.std.proofs.Common.{◌≡◌, ℕ, List, ◌++◌, ap, subst, ◌∙◌}
-use Rattle.gixobj_base.specs.Streams.{list_view}
-use Rattle.gixobj_base.specs.TreeText.{tree_text}
+use Rattle.gix_object.specs.Streams.{list_view}
+use Rattle.gix_object.specs.TreeReading.{IsTreeText, RefusesTreeText}
+use Rattle.gix_object.specs.TreeText.{tree_text}
+use Rattle.gix_object.specs.TreeViews.{tree_entries}
 use Rattle.gixobj_callers.proofs.Refusals.{tree_unread, unwritten}
 use Rattle.gixobj_callers.proofs.planner.read_back.Goals as goal
-use Rattle.gixobj_codec.specs.TreeReading.{IsTreeText, RefusesTreeText}
-use Rattle.gixobj_codec.specs.TreeViews.{tree_entries}
 
 pub returns-in-Err-clause-room : goal.returns-in-Err-clause-room
 returns-in-Err-clause-room c = λ all.

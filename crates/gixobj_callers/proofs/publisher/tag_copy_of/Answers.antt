@@ -1,9 +1,9 @@
 use Rattle.std.proofs.Common.{ℕ, List, ◌++◌, ap, subst, sym, ◌∙◌}
-use Rattle.gixobj_base.specs.Streams.{list_view}
-use Rattle.gixobj_base.specs.Writing.{RefusesNothing}
-use Rattle.gixobj_codec.specs.TagText.{TagLines}
-use Rattle.gixobj_codec.specs.TagViews.{tag_lines}
-use Rattle.gixobj_codec.specs.TagWriting.{RefusesTagLines, tag_text}
+use Rattle.gix_object.specs.Streams.{list_view}
+use Rattle.gix_object.specs.TagText.{TagLines}
+use Rattle.gix_object.specs.TagViews.{tag_lines}
+use Rattle.gix_object.specs.TagWriting.{RefusesTagLines, tag_text}
+use Rattle.gix_object.specs.Writing.{RefusesNothing}
 use Rattle.gixobj_callers.proofs.Refusals.{unwritten}
 use Rattle.gixobj_callers.proofs.publisher.tag_copy_of.Goals as goal
 

@@ -1,8 +1,8 @@
 use Rattle.std.proofs.Common.{◌≡◌, IfOk, List, ℕ, subst, true}
 use Rattle.bstr.specs.BStr.{bstr_bytes}
-use Rattle.gixobj_signature.specs.Outcomes.{outcome_view}
-use Rattle.gixobj_signature.specs.SignedBytes.{signed_bytes}
-use Rattle.gixobj_signature.specs.Verifiers.{options_view}
+use Rattle.gix_object.specs.Outcomes.{outcome_view}
+use Rattle.gix_object.specs.SignedBytes.{signed_bytes}
+use Rattle.gix_object.specs.Verifiers.{options_view}
 use Rattle.gixobj_callers.specs.Releases.{Vouches}
 use Rattle.gixobj_callers.proofs.Accepted.{outcome_accepted}
 use Rattle.gixobj_callers.proofs.releases.verified.Goals as goal

@@ -1,7 +1,7 @@
 use Rattle.std.proofs.Common.{◌≡◌, ◌∙◌, List, ap, map}
-use Rattle.gixobj_codec.specs.Blocks.{AreBlocksFrom, joined_parts}
-use Rattle.gixobj_codec.specs.GivingBlocks.{block_view, blocks_text, first_start}
-use Rattle.gixobj_codec.specs.text.commit.message.body.blocks.MessageBlock.{MessageBlock}
+use Rattle.gix_object.specs.Blocks.{AreBlocksFrom, joined_parts}
+use Rattle.gix_object.specs.GivingBlocks.{block_view, blocks_text, first_start}
+use Rattle.gix_object.specs.text.commit.message.body.blocks.MessageBlock.{MessageBlock}
 use Rattle.gixobj_callers.proofs.signers.parts_of.Goals as goal
 
 pub returns : goal.returns

@@ -1,12 +1,12 @@
 use Rattle.std.proofs.Common.{◌≡◌, ◌∙◌, List, None, Ok, Option, Result, ap, filter, map, subst}
 use Rattle.std.specs.Iterator.{Yields}
-use Rattle.gixobj_base.specs.hash.memory.OutOfMemory.{OutOfMemory}
-use Rattle.gixobj_codec.specs.Filters.{GivesKept, all_of, filter_of, is_kept, kept_left}
-use Rattle.gixobj_codec.specs.GivingTrailers.{trailer_view, trailers_left}
-use Rattle.gixobj_codec.specs.text.commit.message.body.filters.Filter.{Filter}
-use Rattle.gixobj_codec.specs.text.commit.message.body.filters.Filtered.{Filtered}
-use Rattle.gixobj_codec.specs.text.commit.message.body.trailers.TrailerRef.{TrailerRef}
-use Rattle.gixobj_codec.specs.Trailers.{TrailerView}
+use Rattle.gix_object.specs.Filters.{GivesKept, all_of, filter_of, is_kept, kept_left}
+use Rattle.gix_object.specs.GivingTrailers.{trailer_view, trailers_left}
+use Rattle.gix_object.specs.Trailers.{TrailerView}
+use Rattle.gix_object.specs.hash.memory.OutOfMemory.{OutOfMemory}
+use Rattle.gix_object.specs.text.commit.message.body.filters.Filter.{Filter}
+use Rattle.gix_object.specs.text.commit.message.body.filters.Filtered.{Filtered}
+use Rattle.gix_object.specs.text.commit.message.body.trailers.TrailerRef.{TrailerRef}
 use Rattle.gixobj_callers.proofs.signers.sign_offs_of.Goals as goal
 
 pub returns : goal.returns

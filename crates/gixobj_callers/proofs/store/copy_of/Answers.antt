@@ -1,9 +1,9 @@
 use Rattle.std.proofs.Common.{ℕ, List, ◌++◌, ap, subst, sym, ◌∙◌}
-use Rattle.gixobj_base.specs.Streams.{list_view}
-use Rattle.gixobj_base.specs.Writing.{RefusesNothing}
-use Rattle.gixobj_codec.specs.Commit.{CommitLines}
-use Rattle.gixobj_codec.specs.CommitViews.{commit_lines}
-use Rattle.gixobj_codec.specs.CommitWriting.{RefusesCommitLines, commit_text, in_lower_case}
+use Rattle.gix_object.specs.Commit.{CommitLines}
+use Rattle.gix_object.specs.CommitViews.{commit_lines}
+use Rattle.gix_object.specs.CommitWriting.{RefusesCommitLines, commit_text, in_lower_case}
+use Rattle.gix_object.specs.Streams.{list_view}
+use Rattle.gix_object.specs.Writing.{RefusesNothing}
 use Rattle.gixobj_callers.proofs.Refusals.{unread, unwritten}
 use Rattle.gixobj_callers.proofs.store.copy_of.Goals as goal
 

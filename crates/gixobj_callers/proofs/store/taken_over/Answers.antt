@@ -1,7 +1,7 @@
 use Rattle.std.proofs.Common.{Some, ap, subst}
-use Rattle.gixobj_base.specs.Streams.{list_view}
-use Rattle.gixobj_base.specs.hash.hash.kind.Kind.{Kind}
-use Rattle.gixobj_codec.specs.LooseObjects.{IsLooseObject}
+use Rattle.gix_object.specs.LooseObjects.{IsLooseObject}
+use Rattle.gix_object.specs.Streams.{list_view}
+use Rattle.gix_object.specs.hash.hash.kind.Kind.{Kind}
 use Rattle.gixobj_callers.proofs.store.taken_over.Goals as goal
 
 pub returns-in-Err-write_to_vec-clause-refusal : goal.returns-in-Err-write_to_vec-clause-refusal

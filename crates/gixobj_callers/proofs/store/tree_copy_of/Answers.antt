@@ -1,7 +1,7 @@
 use Rattle.std.proofs.Common.{ℕ, List, ◌++◌, ap, sym, ◌∙◌}
-use Rattle.gixobj_base.specs.Streams.{list_view}
-use Rattle.gixobj_base.specs.TreeText.{tree_text}
-use Rattle.gixobj_codec.specs.TreeViews.{tree_entries}
+use Rattle.gix_object.specs.Streams.{list_view}
+use Rattle.gix_object.specs.TreeText.{tree_text}
+use Rattle.gix_object.specs.TreeViews.{tree_entries}
 use Rattle.gixobj_callers.proofs.Refusals.{tree_unread, unwritten}
 use Rattle.gixobj_callers.proofs.store.tree_copy_of.Goals as goal
 

@@ -1,7 +1,7 @@
 -- What the write behind an upload tells of it.
 use Rattle.gixobj_callers.proofs.Uploaded.{divided}
 use Rattle.gixobj_callers.proofs.upload.upload_of.Goals as goal
-use Rattle.gixobj_files.specs.State.{open_bases, open_dirs}
+use Rattle.gix_object.specs.State.{open_bases, open_dirs}
 
 pub returns-clause-divided : goal.returns-clause-divided
 returns-clause-divided g c =

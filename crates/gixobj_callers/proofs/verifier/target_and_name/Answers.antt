@@ -1,7 +1,7 @@
 use Rattle.std.proofs.Common.{subst, sym}
-use Rattle.gixobj_base.specs.Hash.{Spells}
+use Rattle.gix_object.specs.Hash.{Spells}
+use Rattle.gix_object.specs.TagTokens.{tag_token_view}
 use Rattle.gixobj_callers.proofs.Told.{no_id, same_id, same_name, starts}
-use Rattle.gixobj_codec.specs.TagTokens.{tag_token_view}
 use Rattle.gixobj_callers.proofs.verifier.target_and_name.Goals as goal
 
 pub returns-in_err-first-clause-none : goal.returns-in_err-first-clause-none

@@ -1,6 +1,6 @@
 use Rattle.std.proofs.Common.{Some, subst}
 use Rattle.gixobj_callers.proofs.Told.{no_end_told, token_told}
-use Rattle.gixobj_codec.specs.TagTokenGiving.{GivesTagToken}
+use Rattle.gix_object.specs.TagTokenGiving.{GivesTagToken}
 use Rattle.gixobj_callers.proofs.verifier.told.Goals as goal
 
 pub returns-in_err-token-clause-none : goal.returns-in_err-token-clause-none

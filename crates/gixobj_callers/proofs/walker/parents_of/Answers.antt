@@ -2,8 +2,8 @@ use Rattle.std.proofs.Common.{Ok, subst, sym}
 use Rattle.std.proofs.lemmas.Iterator.{items_from_collect}
 use Rattle.std.specs.List.{AllZip}
 use Rattle.std.specs.declared.alloc.AllocError.{AllocError}
-use Rattle.gixobj_base.specs.Hash.{Spells}
-use Rattle.gixobj_codec.specs.TokenGiving.{IsAtStartOfCommit}
+use Rattle.gix_object.specs.Hash.{Spells}
+use Rattle.gix_object.specs.TokenGiving.{IsAtStartOfCommit}
 use Rattle.gixobj_callers.proofs.walker.parents_of.Goals as goal
 
 pub returns : goal.returns

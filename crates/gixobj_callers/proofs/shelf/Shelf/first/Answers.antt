@@ -1,5 +1,5 @@
 use Rattle.std.proofs.Common.{rules, ◌≡◌, ◌≢◌, ◌<◌, length, slice_index_or}
-use Rattle.gixobj_codec.specs.Stores.{named}
+use Rattle.gix_object.specs.Stores.{named}
 use Rattle.gixobj_callers.proofs.Listed.{named_here, named_past, no_pair}
 use Rattle.gixobj_callers.specs.Shelves.{shelf_objects}
 use Rattle.gixobj_callers.proofs.shelf.Shelf.first.Goals as goal

@@ -1,5 +1,5 @@
 use Rattle.std.proofs.Common.{◌≡◌, drop}
-use Rattle.gixobj_codec.specs.Stores.{named}
+use Rattle.gix_object.specs.Stores.{named}
 use Rattle.gixobj_callers.specs.Shelves.{listed_objects, shelf_objects}
 use Rattle.gixobj_callers.proofs.shelf.Shelf.first.Given as goal
 
