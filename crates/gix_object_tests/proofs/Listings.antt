@@ -2,12 +2,11 @@
 use Rattle.std.proofs.Common.{◌≡◌, ◌≢◌, ◌⊎◌, ◌↔◌, inl, inr, ⊎_elim, ℕ, zero, suc, ◌-◌, ◌+◌, ◌<◌, Bool, true, false, List, [], ◌∷◌, ◌++◌, drop, take, get_or, length, refl, sym, ap, subst, ◌∙◌, arith, map, Option, Some, None}
 use Rattle.std.specs.Prelude.{IsTrue, MatchOption}
 use Rattle.std.proofs.lemmas.List.{drop_more, take_more}
-use Rattle.gixobj_base.specs.Entries.{Pair}
-use Rattle.gix_object.specs.Entries.{EntryView}
+use Rattle.gix_object.specs.Entries.{Pair, EntryView}
 use Rattle.gix_object.specs.Files.{Below, FileSet, Files, Path, SameFiles, Table, is_null, stands_for}
 use Rattle.gix_object.specs.Hash.{IsNull, id_kind, id_of}
 use Rattle.gix_object.specs.Mode.{is_tree_mode}
-use Rattle.gix_object.specs.Tables.{IsFirst, IsTableOf, Pair}
+use Rattle.gix_object.specs.Tables.{IsFirst, IsTableOf}
 use Rattle.gix_object.specs.hash.hash.kind.Kind.{Kind}
 use Rattle.gix_object.specs.hash.hash.kind.Kind.TheVariants as hash
 use Rattle.gix_object.specs.hash.hash.object_id.ObjectId.{ObjectId}

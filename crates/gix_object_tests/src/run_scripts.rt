@@ -7,7 +7,7 @@ use bstr::BString;
 use gix_object::hash::{Kind as HashKind, ObjectId};
 use gix_object::tree::EntryKind;
 use gix_object::tree::editor::{Command, Edit, EditReply, Editor, Error, Reply, Written, run};
-use gix_object::{Keep, OutOfMemory, Tree, encode, Memory};
+use gix_object::{Keep, Memory, OutOfMemory, Tree, encode};
 use std::alloc::{AllocError, Global};
 use std::test::Fail;
 

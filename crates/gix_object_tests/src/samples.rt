@@ -2,9 +2,9 @@
 
 use bstr::BString;
 use gix_object::hash::{Kind as HashKind, ObjectId};
-use gix_object::{Tree, WriteTo, encode};
 use gix_object::tree::editor::Edit;
 use gix_object::tree::{Entry, EntryKind};
+use gix_object::{Tree, WriteTo, encode};
 use std::alloc::{AllocError, Global};
 
 /// The path of these names.

@@ -3,21 +3,20 @@ use Rattle.std.proofs.Common.{◌≡◌, ◌∙◌, ◌++◌, ℕ, List, [], ◌
 use Rattle.std.specs.FinMap as map
 use Rattle.std.specs.Prelude.{MatchOption}
 use Rattle.std.proofs.lemmas.List.Elements.{All-contains, Contains-push}
-use Rattle.gixobj_base.specs.Entries.{Pair}
+use Rattle.gix_object.specs.Entries.{Pair, EntryView}
 use Rattle.gix_object.specs.Bases.{HasBases}
 use Rattle.gix_object.specs.Commands.{at_root}
 use Rattle.gix_object.specs.Edited.{steps_if_done}
-use Rattle.gix_object.specs.Entries.{EntryView}
 use Rattle.gix_object.specs.Files.{Files, NamedFiles, SameFiles, Table, Trees}
 use Rattle.gix_object.specs.History.{History}
 use Rattle.gix_object.specs.Keeping.{with_trees}
 use Rattle.gix_object.specs.Opening.{OpenFiles}
 use Rattle.gix_object.specs.Openings.{AreTreesOf}
-use Rattle.gix_object.specs.Replies.{Answers, IsEditReply, Meaning}
+use Rattle.gix_object.specs.Replies.{Answers, IsEditReply}
 use Rattle.gix_object.specs.RunTables.{AgreesWithObjects}
 use Rattle.gix_object.specs.State.{DirMap, EditorFiles, State, open_bases, open_dirs}
-use Rattle.gix_object.specs.Stores.{Objects}
-use Rattle.gix_object.specs.Tables.{AgreesWithPairs, AgreesWithStore, Pair}
+use Rattle.gix_object.specs.Stores.{Objects, Meaning}
+use Rattle.gix_object.specs.Tables.{AgreesWithPairs, AgreesWithStore}
 use Rattle.gix_object.specs.directories.write.Written.{Written}
 use Rattle.gix_object.specs.editor.command.Edit.{Edit}
 use Rattle.gix_object.specs.editor.command.Edit.TheVariants as edit
@@ -26,7 +25,6 @@ use Rattle.gix_object.specs.editor.reply.EditReply.TheVariants as edit_reply
 use Rattle.gixobj_callers.specs.Imports.{AreDone, Decides, IsWriteBehind, import_steps}
 use Rattle.gixobj_callers.proofs.Alone.{root_files}
 use Rattle.gixobj_callers.proofs.Histories.{history_append, same_history, same_refl, same_sym, same_trans}
-use Rattle.gixobj_object.specs.Stores.{Meaning}
 
 -- what agrees with the objects agrees with their trees
 agrees_with_trees : (T : Table) (objects : Objects) (trees : Trees) → AreTreesOf objects trees → AgreesWithObjects T objects → AgreesWithStore T trees

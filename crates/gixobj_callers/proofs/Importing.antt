@@ -3,9 +3,9 @@ use Rattle.std.proofs.Common.{◌≡◌, ◌≢◌, ◌<◌, ℕ, suc, List, [],
 use Rattle.std.specs.Prelude.{Contains, position}
 use Rattle.std.specs.List.{position_or_len}
 use Rattle.gixobj_callers.specs.Imports.{Decides, IsWriteBehind, edits_and_write, is_done}
-use Rattle.gixobj_object.specs.Stores.{Meaning}
+use Rattle.gix_object.specs.Stores.{Meaning}
 use Rattle.gix_object.specs.Commands.{at_root}
-use Rattle.gix_object.specs.Replies.{Answers, IsEditReply, IsRun, Meaning}
+use Rattle.gix_object.specs.Replies.{Answers, IsEditReply, IsRun}
 use Rattle.gix_object.specs.State.{State}
 use Rattle.gix_object.specs.editor.command.Command.{Command}
 use Rattle.gix_object.specs.editor.command.Edit.{Edit}

@@ -1,18 +1,15 @@
 -- A stored root, an editor of it, and the files of what is named once an entry was put in.
 use Rattle.std.proofs.Common.{◌≡◌, ◌≢◌, ◌⊎◌, ◌∙◌, ℕ, true, false, List, [], Some, ⊎_elim, ap, inl, inr, refl, subst, sym}
 use Rattle.std.specs.Prelude.{IsFalse, MatchOption, Option}
-use Rattle.gixobj_base.specs.Entries.{Pair}
+use Rattle.gix_object.specs.Entries.{Pair, EntryView}
 use Rattle.gix_object.specs.Bases.{HasBases}
-use Rattle.gix_object.specs.Entries.{EntryView}
 use Rattle.gix_object.specs.Existing.{IsEmptyId}
 use Rattle.gix_object.specs.Files.{Files, NamedFiles, Path, SameFiles, Table, Trees, Upserted, is_null}
 use Rattle.gix_object.specs.Hash.{id_kind, id_of}
-use Rattle.gix_object.specs.Openings.{AreTreesOf}
-use Rattle.gix_object.specs.Replies.{Meaning}
-use Rattle.gix_object.specs.RunTables.{OfTrees}
+use Rattle.gix_object.specs.Openings.{AreTreesOf, OfTrees}
 use Rattle.gix_object.specs.State.{EditorFiles, State, open_bases, open_dirs, root_alone}
-use Rattle.gix_object.specs.Stores.{Objects}
-use Rattle.gix_object.specs.Tables.{AgreesWithPairs, AgreesWithStore, Pair}
+use Rattle.gix_object.specs.Stores.{Objects, Meaning}
+use Rattle.gix_object.specs.Tables.{AgreesWithPairs, AgreesWithStore}
 use Rattle.gix_object.specs.Upserts.{IsUpserted, RefusesUpsert}
 use Rattle.gix_object.specs.Writes.{IsWrittenEditor}
 use Rattle.gix_object.specs.directories.write.Written.{Written}
@@ -22,8 +19,6 @@ use Rattle.gix_object.specs.hash.hash.object_id.ObjectId.{ObjectId}
 use Rattle.gix_object.specs.hash.kind.Kind.TheVariants.{Tree}
 use Rattle.gixobj_callers.proofs.Histories.{same_trans, same_upserted}
 use Rattle.gixobj_callers.specs.Plans.{IsNotPutIn, IsPutIn, IsRoot, started}
-use Rattle.gixobj_codec.specs.Stores.{Meaning}
-use Rattle.gixobj_directories.specs.Openings.{OfTrees}
 
 -- an editor with these parts is a new one
 pub is_started : {S : Type 0} (state : State S) (store : S) (object_hash : Kind) (entries : List EntryView) → state.dirs ≡ root_alone entries → state.bases ≡ root_alone [] → state.store ≡ store → state.lookups ≡ 0

@@ -2,19 +2,16 @@
 use Rattle.std.proofs.Common.{◌≡◌, ◌∙◌, ◌≤◌, ◌<◌, ◌+◌, ℕ, List, [], ◌∷◌, ◌++◌, Err, Ok, Result, ap, drop, get_or, inl, inr, length, map, refl, subst, sym, take}
 use Rattle.std.specs.Prelude.{IfErr, OnOk}
 use Rattle.std.proofs.lemmas.List.{drop_more, take-append-drop, take_all, take_more}
-use Rattle.gixobj_base.specs.Entries.{Pair}
+use Rattle.gix_object.specs.Entries.{Pair, EntryView}
 use Rattle.gix_object.specs.Bases.{HasBases}
 use Rattle.gix_object.specs.Calls.{names_of}
 use Rattle.gix_object.specs.Cursors.{RefusesFromRoot, from_root}
-use Rattle.gix_object.specs.Entries.{EntryView}
 use Rattle.gix_object.specs.Files.{Assured, Files, NamedFiles, Path, SameFiles, Table, Trees, Upserted}
 use Rattle.gix_object.specs.History.{History}
 use Rattle.gix_object.specs.Mode.{mode_of_kind}
-use Rattle.gix_object.specs.Openings.{AreTreesOf}
-use Rattle.gix_object.specs.Replies.{Meaning}
-use Rattle.gix_object.specs.RunTables.{OfTrees}
+use Rattle.gix_object.specs.Openings.{AreTreesOf, OfTrees}
 use Rattle.gix_object.specs.State.{EditorFiles, State, open_bases, open_dirs}
-use Rattle.gix_object.specs.Tables.{AgreesWithPairs, AgreesWithStore, Pair}
+use Rattle.gix_object.specs.Tables.{AgreesWithPairs, AgreesWithStore}
 use Rattle.gix_object.specs.Upserts.{IsUpserted, RefusesUpsert}
 use Rattle.gix_object.specs.directories.write.Written.{Written}
 use Rattle.gix_object.specs.editor.editor.error.Error.{Error}
@@ -23,8 +20,7 @@ use Rattle.gixobj_callers.specs.Checkouts.{AreNotPutIn, ArePutIn, IsCheckedOut, 
 use Rattle.gixobj_callers.specs.Plans.{started}
 use Rattle.gixobj_callers.specs.declared.checkout.Planned.{Planned}
 use Rattle.gixobj_callers.proofs.Histories.{same_history, same_refl, same_trans}
-use Rattle.gixobj_directories.specs.Openings.{OfTrees}
-use Rattle.gixobj_object.specs.Stores.{Meaning}
+use Rattle.gix_object.specs.Stores.{Meaning}
 
 module _ {S : Type 0} (means : Meaning S) (prefix : Path) where
   one_more : (old mid new : State S) (entries : List Planned) (entry : Planned) → ArePutIn means prefix old entries mid → IsPutInAt means prefix mid entry new → ArePutIn means prefix old (entries ++ entry ∷ []) new

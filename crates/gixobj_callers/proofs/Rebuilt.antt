@@ -5,7 +5,7 @@ use Rattle.gix_object.specs.Files.{SameFiles, Table}
 use Rattle.gix_object.specs.History.{Step}
 use Rattle.gix_object.specs.OneId.{IdsTellFiles, IsPlainRun, files_before}
 use Rattle.gix_object.specs.PlainHistory.{NoFiles, PlainHistory}
-use Rattle.gix_object.specs.Replies.{Answers, IsRun, Meaning}
+use Rattle.gix_object.specs.Replies.{Answers, IsRun}
 use Rattle.gix_object.specs.State.{State}
 use Rattle.gix_object.specs.directories.write.Written.{Written}
 use Rattle.gix_object.specs.editor.command.Command.{Command}
@@ -16,7 +16,7 @@ use Rattle.gixobj_callers.specs.Plans.{started}
 use Rattle.gixobj_callers.specs.Rebuilds.{AreReplies, IsCompared, NamesWritten, RefusesComparison, id_named, up_to}
 use Rattle.gixobj_callers.specs.declared.rebuilder.CompareError.{CompareError}
 use Rattle.gixobj_callers.specs.declared.rebuilder.CompareError.TheVariants as compare
-use Rattle.gixobj_object.specs.Stores.{Meaning}
+use Rattle.gix_object.specs.Stores.{Meaning}
 
 -- what the first replies tell, all of them tell
 written_front : {E : Type 0} (m k : ℕ) (replies : List (Reply E)) → k < m → written_at (take m replies) k ≡ written_at replies k

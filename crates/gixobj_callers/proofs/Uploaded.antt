@@ -3,13 +3,11 @@ use Rattle.std.proofs.Common.{◌≡◌, ◌≢◌, ◌<◌, ◌+◌, ◌∙◌,
 use Rattle.std.proofs.lemmas.List.{append-nil, get_or-map, length-map, map-append}
 use Rattle.std.proofs.lemmas.List.Elements.{All-append, All-cons, All-map, All-nil, All-weaker, Contains-append_left, Contains-append_right}
 use Rattle.std.specs.List.{AllByRecursion}
-use Rattle.gixobj_base.specs.Entries.{Pair}
+use Rattle.gix_object.specs.Entries.{Pair, EachLater, EntryView, IsWellFormed}
 use Rattle.gix_object.specs.Edits.{raised}
-use Rattle.gix_object.specs.Entries.{EachLater, EntryView, IsWellFormed}
 use Rattle.gix_object.specs.Files.{Has, Path}
 use Rattle.gix_object.specs.HandingOut.{HandsOut, Leaves, Walks, emptied, end, leaves, shut, unchanged, written}
 use Rattle.gix_object.specs.Opening.{Dirs, HasAt, IsOpened, in_dir}
-use Rattle.gix_object.specs.Tables.{Pair}
 use Rattle.gix_object.specs.hash.hash.object_id.ObjectId.{ObjectId}
 use Rattle.gixobj_callers.proofs.Once.{IsOf, IsPerhaps, Starts, once_all, other_names, starts_all, starts_more, under}
 use Rattle.gixobj_callers.specs.Uploads.{IsChanged, IsDivided, IsOwnTree, IsSorted, IsUnchanged, Once, Sent, loose_pair_of, path_of}

@@ -1,18 +1,14 @@
 -- Checkouts: entries that are put into a directory of a root, and what goes out then.
 use Rattle.std.specs.Prelude.{◌≡◌, ◌⊎◌, List, [], ◌∷◌, map}
-use Rattle.gixobj_base.specs.Entries.{Pair}
+use Rattle.gix_object.specs.Entries.{Pair, EntryView}
 use Rattle.gix_object.specs.Calls.{names_of}
 use Rattle.gix_object.specs.Cursors.{IsAssured, RefusesCursor, RefusesFromRoot, from_root}
-use Rattle.gix_object.specs.Entries.{EntryView}
 use Rattle.gix_object.specs.Files.{Path}
 use Rattle.gix_object.specs.Handing.{Stopped}
 use Rattle.gix_object.specs.HandingOut.{HandsOutSome}
 use Rattle.gix_object.specs.History.{Step, assure, upsert}
 use Rattle.gix_object.specs.Mode.{mode_of_kind}
-use Rattle.gix_object.specs.Replies.{Meaning}
-use Rattle.gix_object.specs.RunTables.{OfTrees}
 use Rattle.gix_object.specs.State.{State, open_bases, open_dirs}
-use Rattle.gix_object.specs.Tables.{Pair}
 use Rattle.gix_object.specs.Upserts.{IsUpserted, RefusesUpsert}
 use Rattle.gix_object.specs.Writes.{IsWrittenEditor}
 use Rattle.gix_object.specs.directories.write.Written.{Written}
@@ -20,8 +16,8 @@ use Rattle.gix_object.specs.editor.editor.error.Error.{Error}
 use Rattle.gixobj_callers.specs.declared.checkout.CheckoutError.{CheckoutError}
 use Rattle.gixobj_callers.specs.declared.checkout.CheckoutError.TheVariants as checkout
 use Rattle.gixobj_callers.specs.declared.checkout.Planned.{Planned}
-use Rattle.gixobj_directories.specs.Openings.{OfTrees}
-use Rattle.gixobj_object.specs.Stores.{Meaning}
+use Rattle.gix_object.specs.Openings.{OfTrees}
+use Rattle.gix_object.specs.Stores.{Meaning}
 
 -- the path of an entry from the root
 abbrev pub path_from : Path → Planned → Path

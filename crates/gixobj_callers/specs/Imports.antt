@@ -2,11 +2,11 @@
 use Rattle.std.specs.Prelude.{◌≡◌, ◌++◌, ◌∷◌, ℕ, Bool, true, false, Contains, List, [], flat_map, length, map}
 use Rattle.gixobj_callers.specs.declared.importer.ImportError.{ImportError}
 use Rattle.gixobj_callers.specs.declared.importer.ImportError.TheVariants as import
-use Rattle.gixobj_object.specs.Stores.{Meaning}
+use Rattle.gix_object.specs.Stores.{Meaning}
 use Rattle.gix_object.specs.Commands.{at_root}
 use Rattle.gix_object.specs.Edited.{steps_if_done}
 use Rattle.gix_object.specs.History.{Step}
-use Rattle.gix_object.specs.Replies.{Answers, AreEditReplies, IsEditReply, IsRun, Meaning}
+use Rattle.gix_object.specs.Replies.{Answers, AreEditReplies, IsEditReply, IsRun}
 use Rattle.gix_object.specs.State.{State}
 use Rattle.gix_object.specs.editor.command.Command.{Command}
 use Rattle.gix_object.specs.editor.command.Command.TheVariants as command

@@ -1,20 +1,14 @@
 -- Plans: an entry that is put into a stored root, and what goes out then.
 use Rattle.std.specs.Prelude.{◌≡◌, ◌≢◌, ℕ, Bool, List, []}
-use Rattle.gixobj_base.specs.Entries.{Pair}
-use Rattle.gixobj_codec.specs.Stores.{Meaning}
-use Rattle.gixobj_directories.specs.Openings.{OfTrees}
-use Rattle.gix_object.specs.Entries.{EntryView, IsWellFormed}
+use Rattle.gix_object.specs.Entries.{Pair, EntryView, IsWellFormed}
+use Rattle.gix_object.specs.Stores.{Meaning, Objects}
+use Rattle.gix_object.specs.Openings.{OfTrees, NamesMalformed, NamesTree}
 use Rattle.gix_object.specs.Existing.{IsEmptyId, NamesSuch, RefusesObject}
 use Rattle.gix_object.specs.Files.{Path}
 use Rattle.gix_object.specs.Handing.{Stopped}
 use Rattle.gix_object.specs.HandingOut.{HandsOutSome}
 use Rattle.gix_object.specs.Hash.{id_kind}
-use Rattle.gix_object.specs.Openings.{NamesMalformed, NamesTree}
-use Rattle.gix_object.specs.Replies.{Meaning}
-use Rattle.gix_object.specs.RunTables.{OfTrees}
 use Rattle.gix_object.specs.State.{State, open_bases, open_dirs, root_alone}
-use Rattle.gix_object.specs.Stores.{Objects}
-use Rattle.gix_object.specs.Tables.{Pair}
 use Rattle.gix_object.specs.TreeReading.{IsTreeText}
 use Rattle.gix_object.specs.Upserts.{IsUpserted, RefusesUpsert}
 use Rattle.gix_object.specs.Writes.{IsWrittenEditor}

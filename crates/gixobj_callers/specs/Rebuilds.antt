@@ -3,9 +3,9 @@ use Rattle.std.specs.Prelude.{◌≡◌, ◌≢◌, ◌⊎◌, ◌↔◌, ℕ, s
 use Rattle.gix_object.specs.Commands.{written_at}
 use Rattle.gix_object.specs.Files.{SameFiles, Table}
 use Rattle.gix_object.specs.OneId.{IsPlainRun, files_before}
-use Rattle.gix_object.specs.Replies.{Answers, IsRun, Meaning}
+use Rattle.gix_object.specs.Replies.{Answers, IsRun}
 use Rattle.gix_object.specs.State.{State}
-use Rattle.gix_object.specs.Stores.{Objects}
+use Rattle.gix_object.specs.Stores.{Objects, Meaning}
 use Rattle.gix_object.specs.directories.write.Written.{Written}
 use Rattle.gix_object.specs.editor.command.Command.{Command}
 use Rattle.gix_object.specs.editor.reply.Reply.{Reply}
@@ -14,7 +14,6 @@ use Rattle.gix_object.specs.hash.hash.object_id.ObjectId.{ObjectId}
 use Rattle.gixobj_callers.specs.Plans.{started}
 use Rattle.gixobj_callers.specs.declared.rebuilder.CompareError.{CompareError}
 use Rattle.gixobj_callers.specs.declared.rebuilder.CompareError.TheVariants as compare
-use Rattle.gixobj_object.specs.Stores.{Meaning}
 
 -- the id that a write names
 abbrev pub id_named : Option Written → Option ObjectId

@@ -1,15 +1,14 @@
 -- Uploads: which open directories of an editor go out, and which are there already.
 use Rattle.std.specs.Prelude.{◌≡◌, ◌≢◌, ◌⊎◌, ◌++◌, ◌∷◌, ℕ, All, Contains, IsFalse, List, [], Some, length, map}
-use Rattle.gixobj_base.specs.Entries.{Pair}
+use Rattle.gix_object.specs.Entries.{Pair, EachLater, EntryView}
 use Rattle.gix_object.specs.Bases.{HasBases}
 use Rattle.gix_object.specs.Edits.{raised}
-use Rattle.gix_object.specs.Entries.{EachLater, EntryView}
 use Rattle.gix_object.specs.Files.{FileSet, NamedFiles, Path, SameFiles, Table}
 use Rattle.gix_object.specs.HandingOut.{Leaves}
 use Rattle.gix_object.specs.Mode.{is_tree_mode}
 use Rattle.gix_object.specs.Opening.{Dirs, IsOpened, in_path}
 use Rattle.gix_object.specs.State.{EditorFiles, State, open_bases, open_dirs}
-use Rattle.gix_object.specs.Tables.{AgreesWithPairs, Pair}
+use Rattle.gix_object.specs.Tables.{AgreesWithPairs}
 use Rattle.gix_object.specs.hash.hash.object_id.ObjectId.{ObjectId}
 use Rattle.gixobj_callers.specs.declared.upload.Upload.{Upload}
 

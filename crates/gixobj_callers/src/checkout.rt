@@ -1,17 +1,15 @@
 //! A planner of checkouts that works in one directory of a root.
 ghost use Rattle.std.specs.Prelude.{◌≡◌, ℕ, IfErr, IfOk, OnOk};
-ghost use Rattle.gixobj_directories.specs.Calls.{answered, denied};
-ghost use Rattle.gixobj_directories.specs.Openings.{OfTrees};
-ghost use Rattle.gix_object.specs.Calls.{IsCallableOnTrees, names_of};
+ghost use Rattle.gix_object.specs.Calls.{answered, denied, IsCallableOnTrees, names_of};
+ghost use Rattle.gix_object.specs.Openings.{OfTrees, AreTreesOf};
 ghost use Rattle.gix_object.specs.Cursors.{prefix_of};
 ghost use Rattle.gix_object.specs.Entries.{IsWellFormed};
 ghost use Rattle.gix_object.specs.Files.{Files, NamedFiles, SameFiles, Table, Trees};
 ghost use Rattle.gix_object.specs.History.{History};
-ghost use Rattle.gix_object.specs.Openings.{AreTreesOf};
 ghost use Rattle.gix_object.specs.Tables.{AgreesWithPairs, AgreesWithStore};
 ghost use Rattle.gixobj_callers.specs.Checkouts.{AreNotPutIn, ArePutIn, IsCheckedOut, IsFilled, IsNotFilled, RefusesCheckout, steps_of_checkout};
 ghost use Rattle.gixobj_callers.specs.Plans.{started};
-ghost use Rattle.gixobj_object.specs.Stores.{meaning};
+ghost use Rattle.gix_object.specs.Stores.{meaning};
 
 use bstr::BString;
 use gix_object::hash::{Kind, ObjectId};

@@ -14,7 +14,7 @@ ghost use Rattle.gix_object.specs.State.{EditorFiles, open_bases, open_dirs};
 ghost use Rattle.gix_object.specs.Tables.{AgreesWithPairs};
 ghost use Rattle.gixobj_callers.specs.Copies.{FailsForPart};
 ghost use Rattle.gixobj_callers.specs.Imports.{Decides, FailsImport, IsWriteBehind, edits_and_write, is_done, import_steps};
-ghost use Rattle.gixobj_object.specs.Stores.{meaning};
+ghost use Rattle.gix_object.specs.Stores.{meaning};
 
 use crate::store::CopyError;
 use gix_object::hash::{Kind, ObjectId};

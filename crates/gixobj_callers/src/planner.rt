@@ -1,18 +1,16 @@
 //! A planner of checkouts, which goes through the entries of trees, and makes a tree from a stored one.
 ghost use Rattle.std.specs.Prelude.{◌≡◌, ℕ, All, IfErr, IfOk, IsFalse, List, MatchBool};
-ghost use Rattle.gixobj_directories.specs.Calls.{answered, denied};
-ghost use Rattle.gixobj_directories.specs.Openings.{OfTrees};
-ghost use Rattle.gix_object.specs.Calls.{IsCallableOnTrees, names_of};
+ghost use Rattle.gix_object.specs.Calls.{answered, denied, IsCallableOnTrees, names_of};
+ghost use Rattle.gix_object.specs.Openings.{OfTrees, AreTreesOf};
 ghost use Rattle.gix_object.specs.Entries.{EntryView};
 ghost use Rattle.gix_object.specs.Files.{NamedFiles, SameFiles, Table, Trees, Upserted, is_null};
 ghost use Rattle.gix_object.specs.Mode.{mode_of_kind};
-ghost use Rattle.gix_object.specs.Openings.{AreTreesOf};
 ghost use Rattle.gix_object.specs.Tables.{AgreesWithPairs, AgreesWithStore};
 ghost use Rattle.gix_object.specs.TreeReading.{IsNoTreeText, IsTreeText};
 ghost use Rattle.gix_object.specs.TreeRewriting.{ReadsBack};
 ghost use Rattle.gixobj_callers.specs.Copies.{FailsForRoom};
 ghost use Rattle.gixobj_callers.specs.Plans.{IsPlanned, IsRoot, RefusesPlan, RefusesRoot};
-ghost use Rattle.gixobj_object.specs.Stores.{meaning};
+ghost use Rattle.gix_object.specs.Stores.{meaning};
 
 use crate::store::CopyError;
 use bstr::BString;

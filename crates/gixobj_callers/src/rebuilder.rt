@@ -4,7 +4,7 @@ ghost use Rattle.std.specs.Fn.{FnReturnsAt};
 ghost use Rattle.gix_object.specs.Commands.{written_at, written_by, written_by_edit};
 ghost use Rattle.gix_object.specs.Replies.{IsCallable};
 ghost use Rattle.gixobj_callers.specs.Rebuilds.{IsCompared, NamesWritten, RefusesComparison, id_named};
-ghost use Rattle.gixobj_object.specs.Stores.{meaning};
+ghost use Rattle.gix_object.specs.Stores.{meaning};
 
 use gix_object::hash::{Kind, ObjectId};
 use gix_object::tree::editor::{Command, EditReply, Editor, Reply, run};

@@ -1,7 +1,6 @@
 //! A planner of uploads, which tells what an editor's files need that isn't there yet.
 ghost use Rattle.std.specs.Prelude.{◌≡◌, IfErr, IfOk, OnErr};
-ghost use Rattle.gixobj_directories.specs.Calls.{answered, denied};
-ghost use Rattle.gix_object.specs.Calls.{IsCallableOnTrees};
+ghost use Rattle.gix_object.specs.Calls.{answered, denied, IsCallableOnTrees};
 ghost use Rattle.gix_object.specs.Handing.{Stopped};
 ghost use Rattle.gix_object.specs.HandingOut.{HandsOutSome};
 ghost use Rattle.gix_object.specs.State.{open_bases, open_dirs};

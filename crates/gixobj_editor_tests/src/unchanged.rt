@@ -1,7 +1,7 @@
 //! Writes over directories that are as they were when they were opened: these keep the ids of their entries and aren't
 //! handed out. Ids are those that `git mktree --missing` answers.
 
-use crate::samples::{FILE, editor_of, path_of, stored_file, tree_of, upserted, went_out, is_run};
+use crate::samples::{FILE, editor_of, is_run, path_of, stored_file, tree_of, upserted, went_out};
 use bstr::BString;
 use gixobj_base::Tree;
 use gixobj_base::hash::{Kind as HashKind, ObjectId};

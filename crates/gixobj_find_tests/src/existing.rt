@@ -4,7 +4,7 @@ use crate::failing::Failing;
 use crate::samples::{KINDS, id_of_bytes, text_of};
 use gix_object::find::{existing, existing_iter, existing_object};
 use gix_object::hash::{Kind as HashKind, ObjectId};
-use gix_object::{FindExt, HeaderExt, Kind, OutOfMemory, Store, decode, find, Memory};
+use gix_object::{FindExt, HeaderExt, Kind, Memory, OutOfMemory, Store, decode, find};
 use std::alloc::Global;
 use std::test::Fail;
 

@@ -5,7 +5,7 @@ use crate::existing::{Answer, found, found_reader, store_of};
 use crate::paths::entry_from;
 use crate::samples::{KINDS, ROOT_TEXT, VERSION_1, id, text_of, two_trees};
 use gix_object::hash::{Kind as HashKind, ObjectId};
-use gix_object::{Kind, find, Memory};
+use gix_object::{Kind, Memory, find};
 use std::alloc::Global;
 use std::test::Fail;
 

@@ -4,7 +4,7 @@ use crate::existing::{Answer, finds_the_empty_tree, found, found_reader};
 use crate::failing::Failing;
 use crate::samples::two_trees;
 use gix_object::hash::{Kind as HashKind, ObjectId};
-use gix_object::{FindExt, Kind, OutOfMemory, decode, Memory};
+use gix_object::{FindExt, Kind, Memory, OutOfMemory, decode};
 use std::alloc::Global;
 use std::test::Fail;
 

@@ -11,7 +11,7 @@ use Rattle.gixobj_editor.specs.declared.reply.Reply.{Reply}
 use Rattle.gixobj_editor.specs.declared.reply.Reply.TheVariants as reply
 use Rattle.gixobj_hash.specs.Hash.{hex_text}
 use Rattle.gixobj_script.specs.Lines.{word_and}
-use Rattle.gixobj_show.specs.Refusal.{line}
+use Rattle.gixobj_fields.specs.HeaderText.{line_text}
 
 -- what is told of a refused edit: the number of the refusal, and the path of a directory that was to be removed as a leaf
 abbrev pub refusal_text : Error → List ℕ
@@ -33,19 +33,19 @@ edit_reply_text (edit_reply.NotKept written count error) = word_and (codes "unke
 
 -- its line
 abbrev pub edit_reply_line : {E : Type 0} → EditReply E → List ℕ
-edit_reply_line its_reply = line (edit_reply_text its_reply)
+edit_reply_line its_reply = line_text (edit_reply_text its_reply)
 
 -- the lines that tell a reply: of edits in a directory one each; a root that isn't well-formed is told as a malformed tree
 abbrev pub reply_lines : {E : Type 0} → Reply E → List ℕ
 reply_lines (reply.Edit its_reply) = edit_reply_line its_reply
 reply_lines (reply.At replies) = flat_map edit_reply_line replies.items
-reply_lines (reply.AtRefused error) = line (refusal_text error)
-reply_lines reply.RootSet = line (codes "ok")
-reply_lines reply.RootRefused = line (refusal_text editing.MalformedTree)
+reply_lines (reply.AtRefused error) = line_text (refusal_text error)
+reply_lines reply.RootSet = line_text (codes "ok")
+reply_lines reply.RootRefused = line_text (refusal_text editing.MalformedTree)
 
 -- how many lookups there were, in a line
 abbrev pub lookups_line : ℕ → List ℕ
-lookups_line lookups = line (word_and (codes "lookups") (decimal lookups))
+lookups_line lookups = line_text (word_and (codes "lookups") (decimal lookups))
 
 -- the lines that tell the replies, in order, and last the lookups
 abbrev pub told_lines_of : {E : Type 0} → List (Reply E) → ℕ → List ℕ

@@ -2,7 +2,7 @@
 ghost use Rattle.std.specs.Prelude.{◌≡◌, ◌++◌, IfOk, OnOk};
 ghost use Rattle.std.specs.List.{flat_map};
 ghost use Rattle.gixobj_script.specs.Telling.{edit_reply_line, edit_reply_text, refusal_text, reply_lines, told_lines_of};
-ghost use Rattle.gixobj_show.specs.Refusal.{line};
+ghost use Rattle.gixobj_fields.specs.HeaderText.{line_text};
 
 use gixobj_editor::editor::{Error, WriteError};
 use gixobj_editor::{EditReply, Reply};
@@ -100,7 +100,7 @@ fn push_edit_text<E>(text: &mut Vec<u8>, reply: &EditReply<E>) -> Result<(), Out
 
 /// Appends the line that tells of a refused edit.
 fn push_refusal(text: &mut Vec<u8>, error: &Error) -> Result<(), OutOfMemory>
-    ensures { OnOk result (text.new.items ≡ text.old.items ++ line (refusal_text error.now)) }
+    ensures { OnOk result (text.new.items ≡ text.old.items ++ line_text (refusal_text error.now)) }
 {
     push_refusal_text(text, error)?;
     text.push(b'\n')?;

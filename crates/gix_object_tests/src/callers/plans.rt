@@ -6,7 +6,7 @@ use gix_object::find::Never;
 use gix_object::hash::{Kind as HashKind, ObjectId};
 use gix_object::tree::EntryKind;
 use gix_object::tree::editor::{Error, WriteError, Written};
-use gix_object::{Find, Kind, Tree, encode, Memory};
+use gix_object::{Find, Kind, Memory, Tree, encode};
 use gixobj_callers::planner::{PlanError, RootError, with_entry_in_stored};
 use std::alloc::{AllocError, Global};
 use std::test::Fail;

@@ -1,7 +1,9 @@
 //! The three steps, where a growth is refused on the way: the steps before it are imported as ever, and a new importer
 //! imports all of them.
 
-use crate::import::samples::{COMMITS, are_commits, imports, kept_commit, plain_steps, step, told_of};
+use crate::import::samples::{
+    COMMITS, are_commits, imports, kept_commit, plain_steps, step, told_of,
+};
 use gix_object::hash::Kind as HashKind;
 use gix_object::import::{ImportError, Importer, Step, Stopped, import_all};
 use gix_object::tree::editor::{Error, WriteError};

@@ -2,15 +2,13 @@
 
 use crate::samples::{id, upsert};
 use bstr::BString;
-use gixobj_find::{Keep, KeepCommit};
-use gixobj_import::{Importer, Stopped, import_all};
 use gix_object::actor::Signature;
 use gix_object::date::Time;
 use gix_object::hash::ObjectId;
-use gix_object::import::{ImportError, Imported, Step};
+use gix_object::import::{ImportError, Imported, Importer, Step, Stopped, import_all};
 use gix_object::tree::EntryKind;
 use gix_object::tree::editor::Edit;
-use gix_object::{Find, Kind, compute_hash};
+use gix_object::{Find, Keep, KeepCommit, Kind, compute_hash};
 use std::alloc::{AllocError, Global};
 
 /// An actor at the beginning of time.

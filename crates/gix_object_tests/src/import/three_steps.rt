@@ -5,11 +5,10 @@ use crate::import::samples::{
     Blobs, COMMITS, are_commits, kept_commit, plain_steps, step_by, three_steps, told_of,
 };
 use crate::samples::id;
-use gixobj_import::{Step};
-use std::alloc::Global;
 use gix_object::Memory;
 use gix_object::hash::Kind as HashKind;
-use gix_object::import::{Imported, Importer, import_all};
+use gix_object::import::{Imported, Importer, Step, import_all};
+use std::alloc::Global;
 use std::test::Fail;
 
 /// The trees, how many were handed out, and the size of the commit, of each step.

@@ -3,9 +3,8 @@ use Rattle.std.proofs.Common.{rules, ◌≡◌, ◌∙◌, Err, IfErr, ap, subst
 use Rattle.gixobj_callers.specs.Checkouts.{AreNotPutIn}
 use Rattle.gixobj_callers.proofs.PutIn.{all_put_in, next_put_in, next_refused}
 use Rattle.gixobj_callers.proofs.checkout.put_entries.Goals as goal
-use Rattle.gixobj_object.specs.Stores.{Meaning}
+use Rattle.gix_object.specs.Stores.{Meaning}
 use Rattle.gix_object.specs.Calls.{names_of}
-use Rattle.gix_object.specs.Replies.{Meaning}
 
 pub loop-entry-preserved : goal.loop-entry-preserved
 loop-entry-preserved g c =

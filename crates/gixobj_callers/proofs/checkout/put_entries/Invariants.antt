@@ -1,8 +1,7 @@
 use Rattle.std.proofs.Common.{◌≡◌, take}
 use Rattle.gixobj_callers.specs.Checkouts.{ArePutIn}
 use Rattle.gixobj_callers.proofs.checkout.put_entries.Given as goal
-use Rattle.gixobj_object.specs.Stores.{Meaning}
-use Rattle.gix_object.specs.Replies.{Meaning}
+use Rattle.gix_object.specs.Stores.{Meaning}
 
 -- the entries so far are put in, by the same cursor
 abbrev pub invariant-loop-entry : goal.invariant-loop-entry

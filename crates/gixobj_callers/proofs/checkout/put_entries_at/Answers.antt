@@ -2,10 +2,9 @@
 use Rattle.std.proofs.Common.{rules, ◌≡◌}
 use Rattle.gixobj_callers.proofs.PutIn.{filled_behind, refused_in}
 use Rattle.gixobj_callers.proofs.checkout.put_entries_at.Goals as goal
-use Rattle.gixobj_object.specs.Stores.{Meaning}
+use Rattle.gix_object.specs.Stores.{Meaning}
 use Rattle.gix_object.specs.Calls.{names_of}
 use Rattle.gix_object.specs.Cursors.{prefix_of}
-use Rattle.gix_object.specs.Replies.{Meaning}
 
 pub returns-clause-filled : goal.returns-clause-filled
 returns-clause-filled g c =

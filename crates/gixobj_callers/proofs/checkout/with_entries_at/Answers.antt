@@ -4,12 +4,11 @@ use Rattle.gixobj_callers.specs.Checkouts.{IsFilled, IsNotFilled}
 use Rattle.gixobj_callers.proofs.Planned.{is_started}
 use Rattle.gixobj_callers.proofs.PutIn.{checked_out_files}
 use Rattle.gixobj_callers.proofs.checkout.with_entries_at.Goals as goal
-use Rattle.gixobj_object.specs.Stores.{Meaning}
+use Rattle.gix_object.specs.Stores.{Meaning}
 use Rattle.gix_object.specs.Bases.{HasBases}
 use Rattle.gix_object.specs.Calls.{names_of}
 use Rattle.gix_object.specs.Cursors.{prefix_of}
 use Rattle.gix_object.specs.Files.{Files, SameFiles}
-use Rattle.gix_object.specs.Replies.{Meaning}
 use Rattle.gix_object.specs.State.{EditorFiles, State, open_bases, open_dirs}
 
 pub returns-in-Err-clause-refusal : goal.returns-in-Err-clause-refusal

@@ -2,11 +2,10 @@
 use Rattle.std.proofs.Common.{List, Result}
 use Rattle.std.specs.Fn.{FnReturnsAt}
 use Rattle.gix_object.specs.Entries.{EntryView}
-use Rattle.gix_object.specs.Replies.{Meaning}
 use Rattle.gix_object.specs.hash.hash.object_id.ObjectId.{ObjectId}
 use Rattle.gixobj_callers.proofs.Importing.{decides, is_by_an_edit, is_found}
 use Rattle.gixobj_callers.proofs.importer.deciding_reply.Goals as goal
-use Rattle.gixobj_object.specs.Stores.{Meaning}
+use Rattle.gix_object.specs.Stores.{Meaning}
 
 pub unreachable-requires : goal.unreachable-requires
 unreachable-requires g c =

@@ -2,11 +2,10 @@
 use Rattle.std.proofs.Common.{List, Result}
 use Rattle.std.specs.Fn.{FnReturnsAt}
 use Rattle.gix_object.specs.Entries.{EntryView}
-use Rattle.gix_object.specs.Replies.{Meaning}
 use Rattle.gix_object.specs.hash.hash.object_id.ObjectId.{ObjectId}
 use Rattle.gixobj_callers.proofs.Imported.{all_kept, bases_left, files_left, named_files, write_done}
 use Rattle.gixobj_callers.proofs.importer.import_files.Goals as goal
-use Rattle.gixobj_object.specs.Stores.{Meaning}
+use Rattle.gix_object.specs.Stores.{Meaning}
 
 pub returns-in-Written-clause-root : goal.returns-in-Written-clause-root
 returns-in-Written-clause-root g c =

@@ -3,10 +3,9 @@ use Rattle.std.proofs.Common.{◌∙◌}
 use Rattle.gix_object.specs.Calls.{names_of}
 use Rattle.gix_object.specs.Hash.{id_kind}
 use Rattle.gix_object.specs.Mode.{mode_of_kind}
-use Rattle.gix_object.specs.Replies.{Meaning}
 use Rattle.gixobj_callers.proofs.Planned.{is_started, not_put_in_root, planned_files, put_in_root}
 use Rattle.gixobj_callers.proofs.planner.with_entry_in_stored.Goals as goal
-use Rattle.gixobj_object.specs.Stores.{Meaning}
+use Rattle.gix_object.specs.Stores.{Meaning}
 
 pub returns-in-Err-try_upsert-clause-refusal : goal.returns-in-Err-try_upsert-clause-refusal
 returns-in-Err-try_upsert-clause-refusal g c =

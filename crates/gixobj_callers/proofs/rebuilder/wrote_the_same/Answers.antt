@@ -2,13 +2,12 @@
 use Rattle.std.proofs.Common.{◌∙◌, ◌≡◌, List, [], Result, ap, subst}
 use Rattle.std.specs.Fn.{FnReturnsAt}
 use Rattle.gix_object.specs.Entries.{EntryView}
-use Rattle.gix_object.specs.Replies.{Meaning}
 use Rattle.gix_object.specs.State.{root_alone}
 use Rattle.gix_object.specs.hash.hash.object_id.ObjectId.{ObjectId}
 use Rattle.gixobj_callers.proofs.Planned.{is_started}
 use Rattle.gixobj_callers.proofs.Rebuilt.{is_told, none_at_first, none_at_second}
 use Rattle.gixobj_callers.proofs.rebuilder.wrote_the_same.Goals as goal
-use Rattle.gixobj_object.specs.Stores.{Meaning}
+use Rattle.gix_object.specs.Stores.{Meaning}
 
 pub returns-in-Err-clause-refusal : goal.returns-in-Err-clause-refusal
 returns-in-Err-clause-refusal g c =
