@@ -56,10 +56,12 @@ fn edited_and_written<S: Find, E: Drop, F: FnMut(&Tree) -> Result<ObjectId, E> +
     out: F,
 ) -> Result<Option<Written>, Error>
     requires callable { IsCallableOnTrees F.pre (answered F.FnMut) out }
-    ensures { IfOk result (λ it. IfSome it (λ written.
-        OfTrees (S.objects editor.old.store) (λ trees. (T : Table) (n : ℕ) → AgreesWithStore T trees
-        → AgreesWithPairs T written.trees.items → HasBases T (open_dirs editor.old)
-        (open_bases editor.old) → SameFiles (NamedFiles T n written.id)
+    ensures { IfOk result (λ it. IfSome it
+        (λ written. OfTrees (S.objects editor.old.store)
+        (λ trees. (T : Table) (n : ℕ) → AgreesWithStore T trees
+        → AgreesWithPairs T written.trees.items
+        → HasBases T (open_dirs editor.old) (open_bases editor.old)
+        → SameFiles (NamedFiles T n written.id)
         (History T n (upsert (names_of first.now) (mode_of_kind Blob) id ∷ remove
         (names_of second.now) ∷ []) (EditorFiles T n editor.old))))) }
 {

@@ -88,9 +88,8 @@ fn files_below(
 
 /// The entry as a file, without its name.
 fn one_file(alloc: Global, entry: &Entry) -> Result<Vec<Listed>, AllocError>
-    ensures { IfOk result
-        (λ files.
-        files.items ≡ record { path = []; mode = entry.now.mode; id = entry.now.id } ∷ []) }
+    ensures { IfOk result (λ files. files.items
+        ≡ record { path = []; mode = entry.now.mode; id = entry.now.id } ∷ []) }
 {
     let file = Listed {
         path: Vec::new(alloc),
@@ -121,8 +120,8 @@ fn add_in_front(
     name: &BString,
     below: Vec<Listed>,
 ) -> Result<(), AllocError>
-    ensures { OnOk result (files.new.items ≡ files.old.items ++ map
-        (in_front (bstring_bytes name.now)) below.items) }
+    ensures { OnOk result (files.new.items
+        ≡ files.old.items ++ map (in_front (bstring_bytes name.now)) below.items) }
 {
     for file in below {
         files.push(with_name(alloc, name, file)?)?;

@@ -56,8 +56,8 @@ impl<'a> SignatureRef<'a> {
     /// `-`, spaces and tabs. `Malformed` where there is no `<` with a `>` after it, or where a newline
     /// stands in the line, which then stays as it was. It takes no memory.
     pub fn from_bytes_consuming(input: &mut &'a [u8]) -> Result<SignatureRef<'a>, decode::Error>
-        ensures found { IfOk result (λ it. IsActorLineOf input.old.now (actor_view it)
-            input.new.now) }
+        ensures found { IfOk result (λ it.
+            IsActorLineOf input.old.now (actor_view it) input.new.now) }
         ensures refusal { IfErr result (λ e. (e ≡ Malformed) × IsNoActorLine input.old.now) }
         ensures unchanged { OnErr result (input.new ≡ input.old) }
     {
@@ -91,8 +91,8 @@ impl<'a> SignatureRef<'a> {
 
     /// The time, or none where the text is that of no time.
     pub fn time(&self) -> Option<Time>
-        ensures found { IfSome result (λ it. IsTimeText (bstr_bytes self.now.time) it.seconds
-            it.offset) }
+        ensures found { IfSome result (λ it.
+            IsTimeText (bstr_bytes self.now.time) it.seconds it.offset) }
         ensures none { IfNone result (IsNoTimeText (bstr_bytes self.now.time)) }
     {
         parse_header(self.time.as_bytes())
@@ -131,8 +131,8 @@ impl Signature {
     pub fn to_ref<'a>(&'a self, time_buf: &'a mut TimeBuf) -> SignatureRef<'a>
         ensures name { bstr_bytes result.name ≡ bstring_bytes self.now.name }
         ensures email { bstr_bytes result.email ≡ bstring_bytes self.now.email }
-        ensures time { bstr_bytes result.time ≡ time_text self.now.time.seconds
-            self.now.time.offset }
+        ensures time { bstr_bytes result.time
+            ≡ time_text self.now.time.seconds self.now.time.offset }
     {
         SignatureRef {
             name: self.name.as_bstr(),
@@ -150,8 +150,8 @@ impl SignatureRef<'_> {
     /// newline; `Writer` where the writer failed. It takes no memory.
     pub fn write_to<W: Write>(&self, out: &mut W) -> Result<(), Error>
         ensures ok { OnOk result (IsLegalActor (bstr_bytes self.now.name)
-            (bstr_bytes self.now.email)
-            × Appends (W.contents out.old) (W.contents out.new) (borrowed_text self.now)) }
+            (bstr_bytes self.now.email) × Appends (W.contents out.old) (W.contents out.new)
+            (borrowed_text self.now)) }
         ensures refusal { IfErr result (RefusesActor (bstr_bytes self.now.name)
             (bstr_bytes self.now.email) (out.new ≡ out.old)
             (PutsFront (writer_view (W.contents out.old)) (writer_view (W.contents out.new))
@@ -163,8 +163,8 @@ impl SignatureRef<'_> {
     /// Puts what [`SignatureRef::write_to`] writes into a sink, and refuses it as that does.
     pub fn write_into<S: Sink>(&self, sink: &mut S) -> Result<(), Error>
         ensures ok { OnOk result (IsLegalActor (bstr_bytes self.now.name)
-            (bstr_bytes self.now.email)
-            × Puts (S.view sink.old) (S.view sink.new) (borrowed_text self.now)) }
+            (bstr_bytes self.now.email) × Puts (S.view sink.old) (S.view sink.new)
+            (borrowed_text self.now)) }
         ensures refusal { IfErr result (RefusesActor (bstr_bytes self.now.name)
             (bstr_bytes self.now.email) (sink.new ≡ sink.old)
             (PutsFront (S.view sink.old) (S.view sink.new) (borrowed_text self.now))) }

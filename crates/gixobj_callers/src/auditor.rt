@@ -41,8 +41,8 @@ pub fn values_of<'a>(
     name: &'a str,
 ) -> Result<Vec<BStr<'a>>, OutOfMemory>
     requires { IsHexOfAnId (commit_lines commit.now).tree }
-    ensures { IfOk result (λ it. map bstr_bytes it.items ≡ values_named name.now
-        (commit_lines commit.now).extra_headers) }
+    ensures { IfOk result (λ it. map bstr_bytes it.items
+        ≡ values_named name.now (commit_lines commit.now).extra_headers) }
 {
     borrowed_headers_are_found();
     let values = commit.extra_headers().find_all(name).collect(alloc)?;

@@ -54,9 +54,10 @@ pub fn with_entries_at<S: Find + Drop, E: Drop, F: FnMut(&Tree) -> Result<Object
 ) -> Result<Written, CheckoutError<E>>
     requires well_formed { IsWellFormed root }
     requires callable { IsCallableOnTrees F.pre (answered F.FnMut) out }
-    ensures files { IfOk result (λ written. OfTrees (S.objects store)
-        (λ trees. (T : Table) (n : ℕ) → AgreesWithStore T trees
-        → AgreesWithPairs T written.trees.items → SameFiles (NamedFiles T n written.id)
+    ensures files { IfOk result (λ written.
+        OfTrees (S.objects store) (λ trees. (T : Table) (n : ℕ) → AgreesWithStore T trees
+        → AgreesWithPairs T written.trees.items
+        → SameFiles (NamedFiles T n written.id)
         (History T n (steps_of_checkout (prefix_of (names_of prefix.now)) entries.now)
         (Files T n root)))) }
     // The directory was filled, and then the write came through; or else it is told which of them didn't, and why.

@@ -88,20 +88,22 @@ pub fn import_files<S: Keep, E: Drop, F: Fn(&Tree) -> Result<ObjectId, E> + Drop
     ensures root { IfOk result (λ written. (T : Table) (n : ℕ)
         → AgreesWithObjects T (S.objects editor.old.store) → AgreesWithPairs T written.trees.items
         → HasBases T (open_dirs editor.old) (open_bases editor.old)
-        → SameFiles (NamedFiles T n written.id) (History T n (import_steps edits.items)
-        (EditorFiles T n editor.old))) }
+        → SameFiles (NamedFiles T n written.id)
+        (History T n (import_steps edits.items) (EditorFiles T n editor.old))) }
     ensures goes_on { IfOk result (λ written. (T : Table) (n : ℕ)
-        → AgreesWithPairs T written.trees.items → SameFiles (EditorFiles T n editor.new)
-        (NamedFiles T n written.id)) }
+        → AgreesWithPairs T written.trees.items
+        → SameFiles (EditorFiles T n editor.new) (NamedFiles T n written.id)) }
     ensures has_bases { IfOk result (λ written. (T : Table)
         → HasBases T (open_dirs editor.new) (open_bases editor.new)) }
-    ensures kept { IfOk result (λ written. S.objects editor.new.store ≡ with_trees
-        written.trees.items (S.objects editor.old.store)) }
+    ensures kept { IfOk result (λ written. S.objects editor.new.store
+        ≡ with_trees written.trees.items (S.objects editor.old.store)) }
     // Each edit came through, and then the write; or else it is told which call didn't, and why.
-    ensures done { IfOk result (λ written. IsWriteBehind (meaning S.objects S.may_fail)
-        (FnReturnsAt F.Fn out) editor.old edits.items (EditReply.Written written) editor.new) }
-    ensures fails { IfErr result (λ error. FailsImport (meaning S.objects S.may_fail)
-        (FnReturnsAt F.Fn out) editor.old edits.items error editor.new) }
+    ensures done { IfOk result (λ written.
+        IsWriteBehind (meaning S.objects S.may_fail) (FnReturnsAt F.Fn out) editor.old edits.items
+        (EditReply.Written written) editor.new) }
+    ensures fails { IfErr result (λ error.
+        FailsImport (meaning S.objects S.may_fail) (FnReturnsAt F.Fn out) editor.old edits.items
+        error editor.new) }
     ensures holds_write { (result ≡ Err ImportError.HoldsWrite) ↔ Contains edits.items Edit.Write }
 {
     every_store_names_trees();
@@ -132,8 +134,9 @@ fn deciding_reply<S: Keep, E: Drop, F: Fn(&Tree) -> Result<ObjectId, E> + Drop>(
 ) -> Result<(usize, EditReply<E>), OutOfMemory>
     requires callable { IsCallable F.pre out }
     requires no_write { ¬ Contains edits.items Edit.Write }
-    ensures decides { IfOk result (λ it. Decides (meaning S.objects S.may_fail)
-        (FnReturnsAt F.Fn out) editor.old edits.items it.0 it.1 editor.new) }
+    ensures decides { IfOk result (λ it.
+        Decides (meaning S.objects S.may_fail) (FnReturnsAt F.Fn out) editor.old edits.items it.0
+        it.1 editor.new) }
     ensures nothing_done { OnErr result (editor.new ≡ editor.old) }
 {
     let commands = commands_of(alloc, edits)?;

@@ -133,7 +133,8 @@ pub fn with_entry_in_stored<S: Find + Drop, E: Drop, F: FnMut(&Tree) -> Result<O
     requires callable { IsCallableOnTrees F.pre (answered F.FnMut) out }
     ensures files { IfOk result (λ written. IsFalse (is_null root)
         → OfTrees (S.objects store) (λ trees. (T : Table) (n : ℕ) → AgreesWithStore T trees
-        → AgreesWithPairs T written.trees.items → SameFiles (NamedFiles T n written.id)
+        → AgreesWithPairs T written.trees.items
+        → SameFiles (NamedFiles T n written.id)
         (Upserted T n (names_of path.now) (mode_of_kind kind) id (NamedFiles T n root)))) }
     // The root was found, the edit came through, and then the write; or else it is told which of them didn't, and why.
     ensures done { IfOk result (IsPlanned (meaning S.objects S.may_fail) store root

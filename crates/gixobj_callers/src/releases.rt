@@ -25,8 +25,9 @@ pub fn signed_text<R: Runner>(
     options: sign::Options,
     runner: &mut R,
 ) -> Result<Vec<u8>, sign::Error>
-    ensures signed { IfOk result (λ text. IsSignedText R.runs (signing.options_view options) commit
-        runner.old text.items runner.new) }
+    ensures signed { IfOk result (λ text.
+        IsSignedText R.runs (signing.options_view options) commit runner.old text.items
+        runner.new) }
     ensures refusal { IfErr result (RefusesSignedText R.runs options commit runner.old runner.new) }
 {
     match commit.sign(alloc, options, runner) {
@@ -79,8 +80,8 @@ pub fn audit<R: Runner>(
 ) -> Result<Option<Outcome>, AuditError>
     ensures audited { IfOk result (IsAudit R.runs (options_view options) kind hash_kind bytes.now
         runner.old runner.new) }
-    ensures accepted { IfOk result (λ it. IfSome it
-        (λ outcome. (outcome_view outcome).valid ≡ true
+    ensures accepted { IfOk result (λ it.
+        IfSome it (λ outcome. (outcome_view outcome).valid ≡ true
         → IsAccepted R.runs (options_view options) kind hash_kind bytes.now runner.old
         (outcome_view outcome) runner.new)) }
     ensures refusal { IfErr result (RefusesAudit R.runs (options_view options) kind hash_kind

@@ -36,9 +36,9 @@ pub enum CopyError {
 /// Reads a commit and writes it: a text whose ids are in lower case comes back as it was. Of the text of a
 /// commit whose encoding isn't empty it is refused only for want of memory or room.
 pub fn copy_of(alloc: Global, text: &[u8], kind: Kind) -> Result<Vec<u8>, CopyError>
-    ensures same { IfOk result (λ copy. (commit : CommitLines) → IsCommitText kind text.now commit →
-        AllPass is_lower_hex_digit commit.tree → All (λ hex. AllPass is_lower_hex_digit hex)
-        commit.parents → copy.items ≡ text.now) }
+    ensures same { IfOk result (λ copy. (commit : CommitLines) → IsCommitText kind text.now commit
+        → AllPass is_lower_hex_digit commit.tree
+        → All (λ hex. AllPass is_lower_hex_digit hex) commit.parents → copy.items ≡ text.now) }
     ensures room { IfErr result (λ error. (commit : CommitLines) → IsCommitText kind text.now commit
         → commit.encoding ≢ Some [] → FailsForRoom error) }
 {
@@ -99,8 +99,8 @@ pub fn taken_over(alloc: Global, loose: &[u8], id: oid<'_>) -> Result<Vec<u8>, T
     ensures object { IfOk result (λ copy. (object : ObjectRef)
         × IsLooseObject (id_kind (borrowed_id id.entry)) loose.now object
         × (copy.items ≡ borrowed_object_text object)
-        × (id_of (id_kind (borrowed_id id.entry)) (borrowed_kind object) copy.items ≡ borrowed_id
-        id.entry)) }
+        × (id_of (id_kind (borrowed_id id.entry)) (borrowed_kind object) copy.items
+        ≡ borrowed_id id.entry)) }
     ensures refusal { IfErr result (RefusesTaking loose.now (borrowed_id id.entry)) }
 {
     let object = match ObjectRef::from_loose(alloc, loose, id.kind()) {

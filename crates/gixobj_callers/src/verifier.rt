@@ -72,8 +72,8 @@ fn told<'a>(reader: &mut TagRefIter<'a>) -> Option<Token<'a>>
 
 /// The name that the token tells.
 fn name_of(token: Token<'_>) -> Option<BStr<'_>>
-    ensures found { IfSome result (λ name. tag_token_view token.entry ≡ name_token
-        (bstr_bytes name)) }
+    ensures found { IfSome result (λ name. tag_token_view token.entry
+        ≡ name_token (bstr_bytes name)) }
     ensures none { IfNone result ((name : List ℕ) → tag_token_view token.entry ≢ name_token name) }
 {
     match token {

@@ -95,8 +95,8 @@ impl<'a> CommitRef<'a> {
     /// The headers behind the author, the committer and the encoding. It takes no memory.
     pub fn extra_headers(&self) -> ExtraHeaders<BorrowedHeaders<'_, 'a>>
         requires { IsHexOfAnId (commit_lines self.now).tree }
-        ensures headers { headers_left (iterator_of result) ≡ (commit_lines
-            self.now).extra_headers }
+        ensures headers { headers_left (iterator_of result)
+            ≡ (commit_lines self.now).extra_headers }
         ensures hash_kind { IsHexOf (hash_kind_of result) (commit_lines self.now).tree }
     {
         let hash_kind = self.tree().kind();
@@ -171,8 +171,8 @@ impl CommitRef<'_> {
 impl Commit {
     /// The headers behind the author, the committer and the encoding. It takes no memory.
     pub fn extra_headers(&self) -> ExtraHeaders<OwnedHeaders<'_>>
-        ensures headers { owned_headers_left (iterator_of result) ≡ map owned_header_of
-            self.now.extra_headers.items }
+        ensures headers { owned_headers_left (iterator_of result)
+            ≡ map owned_header_of self.now.extra_headers.items }
         ensures hash_kind { hash_kind_of result ≡ id_kind self.now.tree }
     {
         ExtraHeaders::new(OwnedHeaders::new(&self.extra_headers), self.tree.kind())

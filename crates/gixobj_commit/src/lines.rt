@@ -116,8 +116,8 @@ fn read_parent_or_author(kind: Kind, input: &[u8]) -> Result<(Line<'_>, State, &
 #[inline(always)]
 #[tactic(auto, using(crate::specs::Lines::committer_comes))]
 fn read_committer(input: &[u8]) -> Result<(Line<'_>, State, &[u8]), Error>
-    ensures found { (kind : Kind) → IfOk result (λ it.
-        HasLine kind state.Committer input.now (line_view it.0) it.1 it.2.now) }
+    ensures found { (kind : Kind) → IfOk result
+        (λ it. HasLine kind state.Committer input.now (line_view it.0) it.1 it.2.now) }
     ensures parsed { IfOk result (λ it. IsParsedLine it.0) }
     ensures refusal { (kind : Kind) → IfErr result (RefusesLine kind state.Committer input.now) }
 {
@@ -131,8 +131,8 @@ fn read_committer(input: &[u8]) -> Result<(Line<'_>, State, &[u8]), Error>
 #[inline(always)]
 #[tactic(auto, using(crate::specs::Lines::encoding_comes))]
 fn read_encoding_or_header(alloc: Global, input: &[u8]) -> Result<(Line<'_>, State, &[u8]), Error>
-    ensures found { (kind : Kind) → IfOk result (λ it.
-        HasLine kind state.Encoding input.now (line_view it.0) it.1 it.2.now) }
+    ensures found { (kind : Kind) → IfOk result
+        (λ it. HasLine kind state.Encoding input.now (line_view it.0) it.1 it.2.now) }
     ensures parsed { IfOk result (λ it. IsParsedLine it.0) }
     ensures refusal { (kind : Kind) → IfErr result (RefusesLine kind state.Encoding input.now) }
 {
@@ -153,8 +153,8 @@ fn read_encoding_or_header(alloc: Global, input: &[u8]) -> Result<(Line<'_>, Sta
 #[inline(always)]
 #[tactic(auto, using(crate::specs::Lines::header_comes, crate::specs::Lines::message_comes, crate::proofs::LineRefusals::refuses_header))]
 fn read_header_or_message(alloc: Global, input: &[u8]) -> Result<(Line<'_>, State, &[u8]), Error>
-    ensures found { (kind : Kind) → IfOk result (λ it.
-        HasLine kind state.ExtraHeaders input.now (line_view it.0) it.1 it.2.now) }
+    ensures found { (kind : Kind) → IfOk result
+        (λ it. HasLine kind state.ExtraHeaders input.now (line_view it.0) it.1 it.2.now) }
     ensures parsed { IfOk result (λ it. IsParsedLine it.0) }
     ensures refusal { (kind : Kind) → IfErr result (RefusesLine kind state.ExtraHeaders input.now) }
 {

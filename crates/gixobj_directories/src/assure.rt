@@ -28,10 +28,11 @@ impl Open {
         null: ObjectId,
     ) -> Result<(), AllocError>
         requires { AllByRecursion IsEntryName (names_of path.now) }
-        ensures ok { OnOk result ((at : Path) → dirs_of self.new at ≡ assured_dirs
-            (names_of path.now) null (dirs_of self.old) at) }
-        ensures bases { OnOk result ((at : Path) → bases_of self.new at ≡ edited_bases
-            (dirs_of self.old) (dirs_of self.new) (bases_of self.old) at) }
+        ensures ok { OnOk result ((at : Path)
+            → dirs_of self.new at ≡ assured_dirs (names_of path.now) null (dirs_of self.old) at) }
+        ensures bases { OnOk result ((at : Path)
+            → bases_of self.new at ≡ edited_bases (dirs_of self.old) (dirs_of self.new)
+            (bases_of self.old) at) }
         ensures unchanged { OnErr result (self.new ≡ self.old) }
         ensures shut { OnErr result (dirs_of self.old (names_of path.now) ≡ None) }
     {

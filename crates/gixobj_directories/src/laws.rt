@@ -20,9 +20,8 @@ pub fn every_store_names_trees()
 /// began with, at that path.
 pub fn a_file_looked_up_is_there()
     ensures { (objects : Objects) (trees : Trees) → AreTreesOf objects trees → (T : Table)
-        → AgreesWithStore T trees
-        → (kind : Kind) (text : List ℕ) (root : List EntryView) (names : List Name) (e : EntryView)
-        → IsTreeText kind text root
+        → AgreesWithStore T trees → (kind : Kind) (text : List ℕ) (root : List EntryView)
+        (names : List Name) (e : EntryView) → IsTreeText kind text root
         → IsLookedUp objects kind text names e → IsFileIn T e
         → Files T (length names) root names e.mode e.id }
 {}

@@ -82,10 +82,10 @@ pub(crate) fn child_at(children: &[Child], name: &BString) -> Option<usize>
 /// The place of the directory of a name, or else that where it would stand: sought by halves.
 fn child_place(children: &[Child], name: &BString) -> Result<usize, usize>
     requires { AreOrdered (parts children.now) }
-    ensures found { result_ok result ≡ position (λ c.
-        same_name (bstring_bytes c.name) (bstring_bytes name.now)) children.now }
-    ensures place { MatchResult result
-        (λ i. i ≡ prefix_len (is_child_before (bstring_bytes name.now)) children.now)
+    ensures found { result_ok result ≡ position
+        (λ c. same_name (bstring_bytes c.name) (bstring_bytes name.now)) children.now }
+    ensures place { MatchResult result (λ i. i
+        ≡ prefix_len (is_child_before (bstring_bytes name.now)) children.now)
         (λ i. i ≡ prefix_len (is_child_before (bstring_bytes name.now)) children.now) }
 {
     let mut low = 0;
@@ -170,8 +170,8 @@ impl Open {
     pub fn directory(&self, path: &[BString]) -> Option<&Open>
         ensures found { IfSome result (λ it. (at : Path)
             → dirs_of it.now at ≡ dirs_of self.now (names_of path.now ++ at)) }
-        ensures none { IfNone result ((at : Path) → dirs_of self.now
-            (names_of path.now ++ at) ≡ None) }
+        ensures none { IfNone result ((at : Path)
+            → dirs_of self.now (names_of path.now ++ at) ≡ None) }
         ensures root { IfSome result (λ it. (entries : List EntryView)
             × (dirs_of it.now [] ≡ Some entries)) }
     {
@@ -222,10 +222,12 @@ impl Open {
         null: ObjectId,
     ) -> Result<(), AllocError>
         requires { AllByRecursion IsEntryName (names_of path.now) }
-        ensures ok { OnOk result ((at : Path) → dirs_of self.new at ≡ upserted_dirs
-            (names_of path.now) (mode_bits mode) id null (dirs_of self.old) at) }
-        ensures bases { OnOk result ((at : Path) → bases_of self.new at ≡ edited_bases
-            (dirs_of self.old) (dirs_of self.new) (bases_of self.old) at) }
+        ensures ok { OnOk result ((at : Path)
+            → dirs_of self.new at ≡ upserted_dirs (names_of path.now) (mode_bits mode) id null
+            (dirs_of self.old) at) }
+        ensures bases { OnOk result ((at : Path)
+            → bases_of self.new at ≡ edited_bases (dirs_of self.old) (dirs_of self.new)
+            (bases_of self.old) at) }
         ensures unchanged { OnErr result (self.new ≡ self.old) }
     {
         let Some((name, rest)) = path.split_first() else {
@@ -251,10 +253,10 @@ impl Open {
     ///
     /// It takes no memory.
     pub fn take(&mut self, path: &[BString])
-        ensures dirs { (at : Path) → dirs_of self.new at ≡ removed_dirs (names_of path.now)
-            (dirs_of self.old) at }
-        ensures bases { (at : Path) → bases_of self.new at ≡ edited_bases (dirs_of self.old)
-            (dirs_of self.new) (bases_of self.old) at }
+        ensures dirs { (at : Path) → dirs_of self.new at
+            ≡ removed_dirs (names_of path.now) (dirs_of self.old) at }
+        ensures bases { (at : Path) → bases_of self.new at
+            ≡ edited_bases (dirs_of self.old) (dirs_of self.new) (bases_of self.old) at }
     {
         let Some((name, rest)) = path.split_first() else {
             return;

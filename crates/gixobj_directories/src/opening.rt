@@ -193,17 +193,18 @@ impl Open {
         lookups: &mut u64,
     ) -> Result<(), Error>
         ensures opened { OnOk result (OfTrees (S.objects store.now)
-            (λ trees. (asked : List ObjectId) × Opens (EndsBefore unasked) trees (names_of path.now)
-            (dirs_of self.old) (dirs_of self.new) asked
-            × (lookups.new ≡ counted lookups.old asked))) }
-        ensures halted { IfErr result (λ error. OfTrees (S.objects store.now)
+            (λ trees. (asked : List ObjectId)
+            × Opens (EndsBefore unasked) trees (names_of path.now) (dirs_of self.old)
+            (dirs_of self.new) asked × (lookups.new ≡ counted lookups.old asked))) }
+        ensures halted { IfErr result (λ error.
+            OfTrees (S.objects store.now)
             (λ trees. (asked : List ObjectId) × (vain : Option ObjectId)
             × Halts (EndsBefore unasked) trees (names_of path.now) (dirs_of self.old)
             (dirs_of self.new) asked vain × (lookups.new ≡ counted lookups.old asked)
             × RefusesAt (S.objects store.now) (S.may_fail store.now) vain error)) }
         ensures still_opened { IsOpened (dirs_of self.old) → IsOpened (dirs_of self.new) }
-        ensures bases { (at : Path) → bases_of self.new at ≡ opened_bases (dirs_of self.old)
-            (dirs_of self.new) (bases_of self.old) at }
+        ensures bases { (at : Path) → bases_of self.new at
+            ≡ opened_bases (dirs_of self.old) (dirs_of self.new) (bases_of self.old) at }
         ensures same_root { dirs_of self.new [] ≡ dirs_of self.old [] }
         ensures root { (entries : List EntryView) × (dirs_of self.old [] ≡ Some entries) }
     {

@@ -73,12 +73,12 @@ pub(crate) fn file_in_front(entries: &[Entry], name: &[u8], place: usize) -> Opt
 pub(crate) fn place_by_key(entries: &[Entry], name: &[u8], is_tree: bool) -> Result<usize, usize>
     requires well_formed { IsWellFormed entries.now }
     requires name { IsFree slash name.now }
-    ensures found { IfOk result (λ i. position (λ e. same_name e.name name.now) entries.now ≡ Some
-        i) }
+    ensures found { IfOk result (λ i. position (λ e. same_name e.name name.now) entries.now
+        ≡ Some i) }
     ensures kind { IfOk result (HoldsAt (λ e. is_tree_mode e.mode ≡ is_tree) entries.now) }
     ensures none { IfErr result (λ _. ¬ HasKey entries.now (key_of name.now is_tree)) }
-    ensures place { MatchResult result
-        (λ i. i ≡ prefix_len (has_key_before (key_of name.now is_tree)) entries.now)
+    ensures place { MatchResult result (λ i. i
+        ≡ prefix_len (has_key_before (key_of name.now is_tree)) entries.now)
         (λ i. i ≡ prefix_len (has_key_before (key_of name.now is_tree)) entries.now) }
 {
     let mut low = 0;

@@ -273,8 +273,9 @@ pub fn write_all<E, F: FnMut(&Tree) -> Result<ObjectId, E>>(
         × (it.trees.items ≡ below ++ (it.id, own) ∷ [])
         × FoldsTo (answered F.FnMut) out.old (below ++ (it.id, own) ∷ []) out.new × IsStorable own
         × ((base : List EntryView) × (node.new ≡ opened own base []))) }
-    ensures bases { OnOk result ((at : Path) → bases_of node.new at ≡ edited_bases
-        (dirs_of node.old) (dirs_of node.new) (bases_of node.old) at) }
+    ensures bases { OnOk result ((at : Path)
+        → bases_of node.new at ≡ edited_bases (dirs_of node.old) (dirs_of node.new)
+        (bases_of node.old) at) }
     ensures stopped { IfErr result (Stopped (answered F.FnMut) (denied F.FnMut)
         (HandsOutSome (dirs_of node.old) (bases_of node.old)) out.old out.new) }
     ensures unchanged { OnErr result (node.new ≡ node.old) }
@@ -304,10 +305,11 @@ pub fn write_at<E, F: FnMut(&Tree) -> Result<ObjectId, E>>(
         (in_path (names_of path.now) (bases_of node.old)) below own it.saved
         × (it.trees.items ≡ below ++ (it.id, own) ∷ [])
         × FoldsTo (answered F.FnMut) out.old (below ++ (it.id, own) ∷ []) out.new × IsStorable own
-        × ((at : Path) → dirs_of node.new at ≡ with_path (names_of path.now) (only own)
-        (dirs_of node.old) at)) }
-    ensures bases { OnOk result ((at : Path) → bases_of node.new at ≡ edited_bases
-        (dirs_of node.old) (dirs_of node.new) (bases_of node.old) at) }
+        × ((at : Path) → dirs_of node.new at
+        ≡ with_path (names_of path.now) (only own) (dirs_of node.old) at)) }
+    ensures bases { OnOk result ((at : Path)
+        → bases_of node.new at ≡ edited_bases (dirs_of node.old) (dirs_of node.new)
+        (bases_of node.old) at) }
     ensures stopped { IfErr result (Stopped (answered F.FnMut) (denied F.FnMut)
         (HandsOutSome (in_path (names_of path.now) (dirs_of node.old))
         (in_path (names_of path.now) (bases_of node.old))) out.old out.new) }

@@ -108,12 +108,13 @@ impl<S> Editor<S> {
     pub fn set_root(&mut self, root: Tree) -> &mut Editor<S>
         requires { IsWellFormed root }
         ensures same_reference { result.ghost_name ≡ self.entry.ghost_name }
-        ensures state { result.now ≡ record self.old { dirs = root_alone root; bases = root_alone [] } }
+        ensures state { result.now
+            ≡ record self.old { dirs = root_alone root; bases = root_alone [] } }
         ensures has_bases { (T : Table) → HasBases T (open_dirs result.now)
             (open_bases result.now) }
         ensures is_opened { IsOpened (open_dirs result.now) }
-        ensures files { (T : Table) (n : ℕ) → SameFiles (EditorFiles T n result.now)
-            (Files T n root) }
+        ensures files { (T : Table) (n : ℕ)
+            → SameFiles (EditorFiles T n result.now) (Files T n root) }
     {
         let alloc = *root.entries.allocator();
         self.root = Open::new(alloc, root);
@@ -152,7 +153,8 @@ impl<S: Find> Editor<S> {
         id: ObjectId,
     ) -> Result<&mut Editor<S>, Error>
         ensures same_reference { IfOk result (λ it. it.ghost_name ≡ self.entry.ghost_name) }
-        ensures upserted { IfOk result (λ it. OfTrees (S.objects self.old.store)
+        ensures upserted { IfOk result (λ it.
+            OfTrees (S.objects self.old.store)
             (λ trees. IsUpserted trees self.old (names_of path.now) (mode_of_kind kind) id
             it.now)) }
         ensures refusal { IfErr result (RefusedIn (meaning S.objects S.may_fail) self.old
@@ -167,7 +169,8 @@ impl<S: Find> Editor<S> {
     /// that one.
     pub fn remove(&mut self, path: &[BString]) -> Result<&mut Editor<S>, Error>
         ensures same_reference { IfOk result (λ it. it.ghost_name ≡ self.entry.ghost_name) }
-        ensures removed { IfOk result (λ it. OfTrees (S.objects self.old.store)
+        ensures removed { IfOk result (λ it.
+            OfTrees (S.objects self.old.store)
             (λ trees. IsRemoved IsNoTree trees self.old (names_of path.now) it.now)) }
         ensures refusal { IfErr result (RefusedIn (meaning S.objects S.may_fail) self.old
             (RefusesRemoval IsNoTree) (names_of path.now)) }
@@ -181,7 +184,8 @@ impl<S: Find> Editor<S> {
     /// something calls that one.
     pub fn remove_leaf(&mut self, path: &[BString]) -> Result<&mut Editor<S>, Error>
         ensures same_reference { IfOk result (λ it. it.ghost_name ≡ self.entry.ghost_name) }
-        ensures removed { IfOk result (λ it. OfTrees (S.objects self.old.store)
+        ensures removed { IfOk result (λ it.
+            OfTrees (S.objects self.old.store)
             (λ trees. IsLeafRemoved trees self.old (names_of path.now) it.now)) }
         ensures refusal { IfErr result (RefusedIn (meaning S.objects S.may_fail) self.old
             RefusesLeafRemoval (names_of path.now)) }
@@ -294,8 +298,8 @@ impl<S> Editor<S> {
     /// be out of date. It looks nothing up, takes no memory, and always succeeds.
     pub fn get(&self, path: &[BString]) -> Result<Option<&Entry>, OutOfMemory>
         ensures succeeds { IsOk result }
-        ensures found { IfOk result (λ entry. option_copied entry ≡ entry_at (names_of path.now)
-            (open_dirs self.now)) }
+        ensures found { IfOk result (λ entry. option_copied entry
+            ≡ entry_at (names_of path.now) (open_dirs self.now)) }
     {
         Ok(self.root.get(path))
     }
@@ -366,8 +370,8 @@ impl<S> Editor<S> {
         out: &mut F,
     ) -> Result<Written, WriteError<E>>
         requires { IsCallableOnTrees F.pre (answered F.FnMut) out.old }
-        ensures written { IfOk result (λ it. IsWrittenEditor (answered F.FnMut) out.old self.old it
-            self.new out.new) }
+        ensures written { IfOk result (λ it.
+            IsWrittenEditor (answered F.FnMut) out.old self.old it self.new out.new) }
         ensures stopped { IfErr result (Stopped (answered F.FnMut) (denied F.FnMut)
             (HandsOutSome (open_dirs self.old) (open_bases self.old)) out.old out.new) }
         ensures unchanged { OnErr result (self.new ≡ self.old) }

@@ -18,8 +18,8 @@ use gixobj_tree::laws::{tree_has_one_reading, tree_reads_back};
 pub fn fitting_runs_have_a_table<E>(replies: &[Reply<E>])
     ensures { (objects : Objects) (trees : Trees) → AreTreesOf objects trees
         → FitsBeside (pairs_handed_out replies.now) trees
-        → All ReadsAsItself (pairs_kept replies.now)
-        → (T : Table) × AgreesWithRun T objects replies.now }
+        → All ReadsAsItself (pairs_kept replies.now) → (T : Table)
+        × AgreesWithRun T objects replies.now }
 {}
 
 /// The written text of a tree reads as no other tree, where no name has a zero byte, all ids are

@@ -44,20 +44,20 @@ pub fn run<S: Keep, E: Drop, F: Fn(&Tree) -> Result<ObjectId, E> + Drop>(
     out: F,
 ) -> Result<Vec<Reply<E>>, OutOfMemory>
     requires callable { IsCallable F.pre out }
-    ensures replies { IfOk result (λ replies. IsRun (meaning S.objects S.may_fail)
-        (FnReturnsAt F.Fn out) editor.old commands.items replies.items editor.new) }
+    ensures replies { IfOk result (λ replies.
+        IsRun (meaning S.objects S.may_fail) (FnReturnsAt F.Fn out) editor.old commands.items
+        replies.items editor.new) }
     ensures headline { IfOk result (λ replies. (T : Table) (n k : ℕ) (written : Written)
         → written_at replies.items k ≡ Some written
         → AgreesWithRun T (S.objects editor.old.store) (take k replies.items)
-        → AgreesWithPairs T written.trees.items → HasBases T (open_dirs editor.old)
-        (open_bases editor.old)
-        → SameFiles (NamedFiles T n written.id) (History T n
-        (accepted_steps (take k commands.items) (take k replies.items))
+        → AgreesWithPairs T written.trees.items
+        → HasBases T (open_dirs editor.old) (open_bases editor.old)
+        → SameFiles (NamedFiles T n written.id)
+        (History T n (accepted_steps (take k commands.items) (take k replies.items))
         (EditorFiles T n editor.old))) }
     ensures one_id { IfOk result (λ replies. (T : Table) (m : ℕ)
         → IsPlainRun T (S.objects editor.old.store) editor.old (take m commands.items)
-        (take m replies.items)
-        → IdsTellFiles (take m commands.items) (take m replies.items)) }
+        (take m replies.items) → IdsTellFiles (take m commands.items) (take m replies.items)) }
     ensures nothing_done { OnErr result (editor.new ≡ editor.old) }
 {
     let mut replies = Vec::with_capacity(alloc, commands.len())?;

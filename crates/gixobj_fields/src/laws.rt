@@ -10,11 +10,11 @@ use crate::WriteTo;
 
 /// A text begins with one field of a name at most, and with one header at most.
 pub fn header_fields_have_one_reading()
-    ensures one_field { (name input value rest value' rest' : List ℕ) →
-        HasField name input value rest → HasField name input value' rest' → (value ≡ value')
+    ensures one_field { (name input value rest value' rest' : List ℕ)
+        → HasField name input value rest → HasField name input value' rest' → (value ≡ value')
         × (rest ≡ rest') }
-    ensures one_header { (input : List ℕ) (header header' : Header) (rest rest' : List ℕ) →
-        HasHeader input header rest → HasHeader input header' rest' → (header ≡ header')
+    ensures one_header { (input : List ℕ) (header header' : Header) (rest rest' : List ℕ)
+        → HasHeader input header rest → HasHeader input header' rest' → (header ≡ header')
         × (rest ≡ rest') }
 {}
 
@@ -27,7 +27,7 @@ pub fn header_reads_back()
 /// An object of which nothing is refused is not written only where the sink has no room for it, and
 /// then a front of its text, but not all, has been put.
 pub fn writers_fail_as_their_sinks<T: WriteTo>(object: &T)
-    ensures { (before after : SinkView) (error : Error) → RefusesNothing (T.refuses object.now) →
-        RefusesWriting (T.refuses object.now) before after (T.text object.now) error
+    ensures { (before after : SinkView) (error : Error) → RefusesNothing (T.refuses object.now)
+        → RefusesWriting (T.refuses object.now) before after (T.text object.now) error
         → FailsAsSink before after (T.text object.now) error }
 {}

@@ -159,8 +159,8 @@ fn read_piece<S: Source>(source: &mut S, buffer: &mut [u8], most: u64) -> Result
     requires room { 0 < length buffer.old }
     ensures count { IfOk result (λ count. (0 < count) × (count ≤ most)) }
     ensures bound { ReadsAtMost result buffer.new }
-    ensures taken { IfOk result (λ count. Consumes (S.rest source.old) (S.rest source.new)
-        (take count buffer.new)) }
+    ensures taken { IfOk result (λ count.
+        Consumes (S.rest source.old) (S.rest source.new) (take count buffer.new)) }
     ensures refusal { IfErr result (RefusesStream (S.may_fail source.old) (S.rest source.old)
         (S.rest source.new) most) }
     ensures lasting { S.may_fail source.new → S.may_fail source.old }

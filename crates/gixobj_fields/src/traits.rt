@@ -93,8 +93,8 @@ pub trait WriteTo {
         requires { can_write self.now }
         ensures found { IsSome result ↔ (length (text self.now) < 2 ^ 64) }
         ensures inline { IfSome result (λ it. it.capacity ≡ 28) }
-        ensures header { IfSome result (λ it. it.items ≡ loose_header_text (object_kind self.now)
-            (length (text self.now))) }
+        ensures header { IfSome result (λ it. it.items
+            ≡ loose_header_text (object_kind self.now) (length (text self.now))) }
     {
         Some(loose_header(alloc, self.kind(), self.size()?))
     }

@@ -38,6 +38,6 @@ pub fn a_root_alone_is_opened()
 pub fn a_plain_history_needs_no_table()
     ensures { (steps : List Step) → All HasNoTree steps
         → (T : Table) (n : ℕ) (path : Path) (mode : ℕ) (id : ObjectId)
-        → History T n steps NoFiles path mode id ↔ ((length path ≤ n)
-        × PlainHistory steps NoFiles path mode id) }
+        → History T n steps NoFiles path mode id
+        ↔ ((length path ≤ n) × PlainHistory steps NoFiles path mode id) }
 {}

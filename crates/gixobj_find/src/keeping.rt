@@ -65,13 +65,13 @@ pub trait Keep: Find {
     /// message, and `OutOfMemory` where memory was wanting; the store means what it did. For which ids a lookup may
     /// fail never changes.
     fn keep(&mut self, id: ObjectId, tree: &Tree) -> Result<(), KeepError>
-        ensures kept { OnOk result (Self.objects self.new ≡ with_tree (id, tree.now)
-            (Self.objects self.old)) }
+        ensures kept { OnOk result (Self.objects self.new
+            ≡ with_tree (id, tree.now) (Self.objects self.old)) }
         ensures has_text { OnOk result (HasText tree.now) }
         ensures unchanged { OnErr result (Self.objects self.new ≡ Self.objects self.old) }
         ensures refusal { IfErr result (RefusesKeep (Self.may_fail self.old) id tree.now) }
-        ensures may_fail { (other : ObjectId) → Self.may_fail self.new other ≡ Self.may_fail
-            self.old other };
+        ensures may_fail { (other : ObjectId)
+            → Self.may_fail self.new other ≡ Self.may_fail self.old other };
 }
 
 /// A store that keeps commits, and in which they are found.
@@ -83,12 +83,12 @@ pub trait KeepCommit: Find {
     /// `OutOfMemory` where memory was wanting; the store means what it did. For which ids a lookup
     /// may fail never changes.
     fn keep_commit(&mut self, id: ObjectId, bytes: &[u8]) -> Result<(), KeepError>
-        ensures kept { OnOk result (Self.objects self.new ≡ with_commit id bytes.now
-            (Self.objects self.old)) }
+        ensures kept { OnOk result (Self.objects self.new
+            ≡ with_commit id bytes.now (Self.objects self.old)) }
         ensures unchanged { OnErr result (Self.objects self.new ≡ Self.objects self.old) }
         ensures refusal { IfErr result (RefusesKeepCommit (Self.may_fail self.old) id) }
-        ensures may_fail { (other : ObjectId) → Self.may_fail self.new other ≡ Self.may_fail
-            self.old other };
+        ensures may_fail { (other : ObjectId)
+            → Self.may_fail self.new other ≡ Self.may_fail self.old other };
 }
 
 /// Keeps trees in order, each under its id.
@@ -100,8 +100,9 @@ pub fn keep_all<S: Keep>(
 ) -> Result<(), (usize, KeepError)>
     ensures kept { OnOk result (S.objects store.new ≡ with_trees trees.now (S.objects store.old)) }
     ensures have_texts { OnOk result (All (λ kept. HasText kept.1) trees.now) }
-    ensures stopped { IfErr result (λ it. StopsKeeping (S.may_fail store.old) trees.now
-        (S.objects store.old) (S.objects store.new) it.0 it.1) }
+    ensures stopped { IfErr result (λ it.
+        StopsKeeping (S.may_fail store.old) trees.now (S.objects store.old) (S.objects store.new)
+        it.0 it.1) }
     ensures may_fail { (id : ObjectId) → S.may_fail store.new id ≡ S.may_fail store.old id }
 {
     for (number, (id, tree)) in trees.iter().enumerate() {

@@ -11,8 +11,8 @@ ghost use Rattle.gixobj_hash.specs.declared.kind.Kind.{Kind};
 
 /// The loose header that is written is the one that is read, whatever follows it.
 pub fn loose_header_reads_back()
-    ensures { (kind : Kind) (size : ℕ) (rest : List ℕ) → size < 2 ^ 64 →
-        HasLooseHeader (loose_header_text kind size ++ rest) kind size
+    ensures { (kind : Kind) (size : ℕ) (rest : List ℕ) → size < 2 ^ 64
+        → HasLooseHeader (loose_header_text kind size ++ rest) kind size
         (length (loose_header_text kind size)) }
 {}
 

@@ -30,10 +30,12 @@ pub(crate) fn keep_commit_of<S: KeepCommit>(
     tree: ObjectId,
     parent: Option<ObjectId>,
 ) -> Result<ObjectId, ImportError>
-    ensures kept { IfOk result (λ commit. IsCommitKept (meaning S.objects S.may_fail)
-        hash step.now tree parent editor.old commit editor.new) }
-    ensures refusal { IfErr result (λ error. RefusesCommit (meaning S.objects S.may_fail)
-        hash step.now tree parent editor.old error editor.new) }
+    ensures kept { IfOk result (λ commit.
+        IsCommitKept (meaning S.objects S.may_fail) hash step.now tree parent editor.old commit
+        editor.new) }
+    ensures refusal { IfErr result (λ error.
+        RefusesCommit (meaning S.objects S.may_fail) hash step.now tree parent editor.old error
+        editor.new) }
 {
     hex_reads_back();
     let text = match text_of(alloc, step, tree, parent) {

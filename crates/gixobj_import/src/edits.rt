@@ -22,10 +22,10 @@ pub(crate) fn do_edits<S: Find>(
     edits: &[Edit],
 ) -> Result<(), (usize, Error)>
     requires no_write { ¬ Contains edits.now Edit.Write }
-    ensures done { OnOk result (AreDone (meaning S.objects S.may_fail)
-        editor.old edits.now editor.new) }
-    ensures refused { IfErr result (λ it. IsRefusedAt (meaning S.objects S.may_fail)
-        editor.old edits.now it.0 it.1 editor.new) }
+    ensures done { OnOk result (AreDone (meaning S.objects S.may_fail) editor.old edits.now
+        editor.new) }
+    ensures refused { IfErr result (λ it.
+        IsRefusedAt (meaning S.objects S.may_fail) editor.old edits.now it.0 it.1 editor.new) }
 {
     for (index, edit) in edits.iter().enumerate() {
         match do_edit(editor, edit) {
@@ -39,8 +39,8 @@ pub(crate) fn do_edits<S: Find>(
 /// Does an edit, which may not be a write.
 fn do_edit<S: Find>(editor: &mut Editor<S>, edit: &Edit) -> Result<(), Error>
     requires { edit.now ≢ Edit.Write }
-    ensures { IsReplied (meaning S.objects S.may_fail)
-        editor.old edit.now (reply_to result) editor.new }
+    ensures { IsReplied (meaning S.objects S.may_fail) editor.old edit.now (reply_to result)
+        editor.new }
 {
     match edit {
         Edit::Upsert { path, kind, id } => editor.try_upsert(path, *kind, *id),

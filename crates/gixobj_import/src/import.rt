@@ -118,8 +118,8 @@ impl<S> Importer<S> {
         ensures new { IsNewImporter result }
         ensures store { result.editor.store ≡ store }
         ensures hash { result.hash ≡ hash }
-        ensures bases { (T : Table)
-            → HasBases T (open_dirs result.editor) (open_bases result.editor) }
+        ensures bases { (T : Table) → HasBases T (open_dirs result.editor)
+            (open_bases result.editor) }
     {
         Importer {
             alloc,
@@ -158,10 +158,10 @@ impl<S: Keep + KeepCommit> Importer<S> {
     /// It takes memory for the directories that the edits open and the trees that go out, for each
     /// tree's bytes, for a copy of the step's actors and message, and for the commit's bytes.
     pub fn step(&mut self, step: &Step) -> Result<Imported, ImportError>
-        ensures imported { IfOk result (λ it. IsImported (meaning S.objects S.may_fail)
-            self.old step.now it self.new) }
-        ensures refused { IfErr result (λ error. RefusesStep (meaning S.objects S.may_fail)
-            self.old step.now error self.new) }
+        ensures imported { IfOk result (λ it.
+            IsImported (meaning S.objects S.may_fail) self.old step.now it self.new) }
+        ensures refused { IfErr result (λ error.
+            RefusesStep (meaning S.objects S.may_fail) self.old step.now error self.new) }
         ensures adds { AddsByDigest (S.objects self.old.editor.store)
             (S.objects self.new.editor.store) }
         // The files, in each table that agrees with the store and with what was handed out.
@@ -211,10 +211,11 @@ pub fn import_all<S: Keep + KeepCommit>(
     importer: &mut Importer<S>,
     steps: &[Step],
 ) -> Result<Vec<Imported>, Stopped>
-    ensures imported { IfOk result (λ all. AreImported (meaning S.objects S.may_fail)
-        importer.old steps.now all.items importer.new) }
-    ensures stopped { IfErr result (λ it. Stops (meaning S.objects S.may_fail)
-        importer.old steps.now it.done.items it.error importer.new) }
+    ensures imported { IfOk result (λ all.
+        AreImported (meaning S.objects S.may_fail) importer.old steps.now all.items importer.new) }
+    ensures stopped { IfErr result (λ it.
+        Stops (meaning S.objects S.may_fail) importer.old steps.now it.done.items it.error
+        importer.new) }
     ensures adds { AddsByDigest (S.objects importer.old.editor.store)
         (S.objects importer.new.editor.store) }
     // A new importer's commits and files, where all steps are imported.
@@ -228,8 +229,8 @@ pub fn import_all<S: Keep + KeepCommit>(
         → AreCommitsOf importer.old.hash None (before it.done.items steps.now) it.done.items
         (S.objects importer.new.editor.store)) }
     ensures files_done { IfErr result (λ it. IsNewImporter importer.old
-        → HaveFilesOfNothing (S.objects importer.old.editor.store)
-        (before it.done.items steps.now) it.done.items) }
+        → HaveFilesOfNothing (S.objects importer.old.editor.store) (before it.done.items steps.now)
+        it.done.items) }
 {
     every_store_names_trees();
     an_object_is_put_in();

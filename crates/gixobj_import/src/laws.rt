@@ -18,8 +18,8 @@ use gixobj_object::laws::{an_object_is_put_in, ids_are_the_same_or_not};
 pub fn fitting_imports_have_a_table(steps: &[Step], imported: &[Imported])
     ensures { (objects : Objects) (trees : Trees) → AreTreesOf objects trees
         → FitsBeside (pairs_of_imports imported.now) trees
-        → All ReadsAsItself (pairs_of_imports imported.now)
-        → (T : Table) × AgreesWithImports T objects None steps.now imported.now }
+        → All ReadsAsItself (pairs_of_imports imported.now) → (T : Table)
+        × AgreesWithImports T objects None steps.now imported.now }
 {
     an_object_is_put_in();
     ids_are_the_same_or_not();

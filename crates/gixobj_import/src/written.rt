@@ -32,11 +32,12 @@ pub(crate) fn write_edits<S: Keep>(
     edits: &[Edit],
 ) -> Result<Written, ImportError>
     requires no_write { ¬ Contains edits.now Edit.Write }
-    ensures written { IfOk result (λ it. IsWriteBehind (meaning S.objects S.may_fail)
-        hash editor.old edits.now (EditReply.Written it) editor.new) }
+    ensures written { IfOk result (λ it.
+        IsWriteBehind (meaning S.objects S.may_fail) hash editor.old edits.now
+        (EditReply.Written it) editor.new) }
     ensures root { IfOk result (λ it. HaveHex hash (it.id ∷ [])) }
-    ensures refusal { IfErr result (λ error. RefusesEdits (meaning S.objects S.may_fail)
-        hash edits.now editor.old error editor.new) }
+    ensures refusal { IfErr result (λ error.
+        RefusesEdits (meaning S.objects S.may_fail) hash edits.now editor.old error editor.new) }
 {
     if let Err((index, error)) = do_edits(editor, edits) {
         return Err(ImportError::Edit { index, error });
@@ -50,11 +51,12 @@ fn write_and_keep<S: Keep>(
     editor: &mut Editor<S>,
     hash: hash::Kind,
 ) -> Result<Written, ImportError>
-    ensures written { IfOk result (λ it. IsWriteReplied (meaning S.objects S.may_fail)
-        hash editor.old (EditReply.Written it) editor.new) }
+    ensures written { IfOk result (λ it.
+        IsWriteReplied (meaning S.objects S.may_fail) hash editor.old (EditReply.Written it)
+        editor.new) }
     ensures root { IfOk result (λ it. HaveHex hash (it.id ∷ [])) }
-    ensures refusal { IfErr result (λ error. RefusesWrite (meaning S.objects S.may_fail)
-        hash editor.old error editor.new) }
+    ensures refusal { IfErr result (λ error.
+        RefusesWrite (meaning S.objects S.may_fail) hash editor.old error editor.new) }
 {
     hex_reads_back();
     let written = match write_by_digests(alloc, editor, hash) {
@@ -90,9 +92,9 @@ fn write_by_digests<S>(
 ) -> Result<Written, WriteError<encode::Error>>
     ensures written { IfOk result (λ it.
         IsWrittenEditor (Gives (IsAnsweredDigest hash)) tt editor.old it editor.new tt) }
-    ensures stopped { IfErr result (λ error. Stopped (Gives (IsAnsweredDigest hash))
-        (Denies (IsAnsweredDigest hash)) (HandsOutSome (open_dirs editor.old)
-        (open_bases editor.old)) tt tt error) }
+    ensures stopped { IfErr result (λ error.
+        Stopped (Gives (IsAnsweredDigest hash)) (Denies (IsAnsweredDigest hash))
+        (HandsOutSome (open_dirs editor.old) (open_bases editor.old)) tt tt error) }
     ensures unchanged { OnErr result (editor.new ≡ editor.old) }
 {
     let digest = |tree: &Tree|

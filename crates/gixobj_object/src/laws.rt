@@ -25,9 +25,8 @@ pub fn tree_readers_read_one_language()
     ensures before_an_error { (kind : Kind) (text : List ℕ) (entries : List EntryView)
         → TellsEntries kind text entries broken → IsLongestFront kind text entries }
     ensures one_run { (kind : Kind) (text : List ℕ) (entries entries' : List EntryView)
-        (ending ending' : Ending) →
-        TellsEntries kind text entries ending → TellsEntries kind text entries' ending'
-        → (entries ≡ entries') × (ending ≡ ending') }
+        (ending ending' : Ending) → TellsEntries kind text entries ending
+        → TellsEntries kind text entries' ending' → (entries ≡ entries') × (ending ≡ ending') }
 {}
 
 /// What a walk through the entries of a text comes to, call by call: a reader at its start has passed
@@ -37,17 +36,15 @@ pub fn entries_are_passed()
     ensures starts { (kind : Kind) (text : List ℕ) (reader : TreeRefIter)
         → IsAtEntry kind text reader → HasPassedEntries kind text [] reader }
     ensures goes_on { (kind : Kind) (text : List ℕ) (entries : List EntryView)
-        (at after : TreeRefIter) (entry : EntryRef) →
-        HasPassedEntries kind text entries at → GivesEntry at (Some (Ok entry)) after
+        (at after : TreeRefIter) (entry : EntryRef) → HasPassedEntries kind text entries at
+        → GivesEntry at (Some (Ok entry)) after
         → HasPassedEntries kind text (entries ++ entry_view entry ∷ []) after }
     ensures ends { (kind : Kind) (text : List ℕ) (entries : List EntryView) (at after : TreeRefIter)
-        →
-        HasPassedEntries kind text entries at → GivesEntry at None after
+        → HasPassedEntries kind text entries at → GivesEntry at None after
         → TellsEntries kind text entries complete }
     ensures stops { (kind : Kind) (text : List ℕ) (entries : List EntryView)
-        (at after : TreeRefIter) (error : Error) →
-        HasPassedEntries kind text entries at → GivesEntry at (Some (Err error)) after
-        → TellsEntries kind text entries broken }
+        (at after : TreeRefIter) (error : Error) → HasPassedEntries kind text entries at
+        → GivesEntry at (Some (Err error)) after → TellsEntries kind text entries broken }
 {}
 
 /// What a reader of a text has left is the end of that text: at its start, and behind each call. So
@@ -56,8 +53,8 @@ pub fn bytes_left_end_the_text()
     ensures starts { (kind : Kind) (text : List ℕ) (reader : TreeRefIter)
         → IsAtEntry kind text reader → IsTail text (bytes_left reader) }
     ensures goes_on { (text : List ℕ) (at after : TreeRefIter)
-        (item : Option (Result EntryRef Error)) →
-        IsTail text (bytes_left at) → GivesEntry at item after → IsTail text (bytes_left after) }
+        (item : Option (Result EntryRef Error)) → IsTail text (bytes_left at)
+        → GivesEntry at item after → IsTail text (bytes_left after) }
 {}
 
 /// What ids name in a store into which an object was put: its id that object, each other id what it named before;

@@ -50,8 +50,9 @@ impl<'a> TreeRefIter<'a> {
     /// `Malformed` where the bytes that are left are no tree's text. The list takes memory, and
     /// `OutOfMemory` comes only where an entry was read.
     pub fn entries(self, alloc: Global) -> Result<Vec<EntryRef<'a>>, Error>
-        ensures found { IfOk result (λ entries. IsTreeText self.entry.hash_kind
-            (bytes_left self.entry) (map entry_view entries.items)) }
+        ensures found { IfOk result (λ entries.
+            IsTreeText self.entry.hash_kind (bytes_left self.entry)
+            (map entry_view entries.items)) }
         ensures refusal { IfErr result (RefusesTreeText self.entry.hash_kind
             (bytes_left self.entry)) }
     {

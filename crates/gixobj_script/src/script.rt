@@ -48,8 +48,8 @@ impl<T: Drop> From<AllocFailed<T>> for ScriptError {
 /// `BadLine` says which line is the first that is neither empty nor a command's. `OutOfMemory` comes only
 /// where a line before any such one is a command's.
 pub fn read_script(alloc: Global, text: &[u8], hash: Kind) -> Result<Vec<Command>, ScriptError>
-    ensures read { IfOk result (λ commands. IsScript hash text.now
-        (map command_view commands.items)) }
+    ensures read { IfOk result (λ commands.
+        IsScript hash text.now (map command_view commands.items)) }
     ensures refusal { IfErr result (RefusesScript hash text.now) }
 {
     let mut commands = Vec::new(alloc);

@@ -53,8 +53,8 @@ fn push_reply<E>(text: &mut Vec<u8>, reply: &Reply<E>) -> Result<(), OutOfMemory
 
 /// Appends the lines that tell the replies to edits.
 fn push_edit_replies<E>(text: &mut Vec<u8>, replies: &[EditReply<E>]) -> Result<(), OutOfMemory>
-    ensures { OnOk result (text.new.items ≡ text.old.items ++ flat_map edit_reply_line
-        replies.now) }
+    ensures { OnOk result (text.new.items
+        ≡ text.old.items ++ flat_map edit_reply_line replies.now) }
 {
     for reply in replies {
         push_edit_reply(text, reply)?;

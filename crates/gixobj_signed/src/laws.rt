@@ -36,15 +36,15 @@ use std::alloc::Global;
 /// no more than names of headers that may be, and fields without a newline. No fault is met before where the text is
 /// a commit's.
 pub fn commits_give_their_payloads()
-    ensures payload { (kind : Kind) (commit : CommitLines) (bytes value signed : List ℕ) →
-        HasHeaderNames commit → HasLineFields commit →
-        HasCommitSignature kind (commit_text (with_signature kind bytes commit)) value signed →
-        signed ≡ payload_of_commit kind commit }
-    ensures found { (kind : Kind) (commit : CommitLines) (bytes : List ℕ) →
-        HasHeaderNames commit → HasLineFields commit →
-        ¬ HasNoSignature kind (commit_text (with_signature kind bytes commit)) }
-    ensures no_fault { (kind : Kind) (text : List ℕ) (read : CommitLines) →
-        IsCommitText kind text read → ¬ RefusesCommitSignature kind text Malformed }
+    ensures payload { (kind : Kind) (commit : CommitLines) (bytes value signed : List ℕ)
+        → HasHeaderNames commit → HasLineFields commit
+        → HasCommitSignature kind (commit_text (with_signature kind bytes commit)) value signed
+        → signed ≡ payload_of_commit kind commit }
+    ensures found { (kind : Kind) (commit : CommitLines) (bytes : List ℕ) → HasHeaderNames commit
+        → HasLineFields commit → ¬ HasNoSignature kind
+        (commit_text (with_signature kind bytes commit)) }
+    ensures no_fault { (kind : Kind) (text : List ℕ) (read : CommitLines)
+        → IsCommitText kind text read → ¬ RefusesCommitSignature kind text Malformed }
 {}
 
 /// An owned commit of which its writer refuses nothing, as of each that is signed, has no newline in a field of one
@@ -67,12 +67,11 @@ pub fn signed_commit_gives_its_payload<R: Runner>(
     options: Options,
     runner: &mut R,
 ) -> Result<Commit, Error>
-    ensures found { IfOk result (λ signed. HasHeaderNames (owned_commit_lines commit) →
-        ¬ HasNoSignature (id_kind commit.tree) (commit_text (owned_commit_lines signed))) }
-    ensures payload { IfOk result (λ signed. HasHeaderNames (owned_commit_lines commit) →
-        CommitGivesPayload R.runs options (id_kind commit.tree)
-        (commit_text (owned_commit_lines signed))
-        runner.old runner.new) }
+    ensures found { IfOk result (λ signed. HasHeaderNames (owned_commit_lines commit)
+        → ¬ HasNoSignature (id_kind commit.tree) (commit_text (owned_commit_lines signed))) }
+    ensures payload { IfOk result (λ signed. HasHeaderNames (owned_commit_lines commit)
+        → CommitGivesPayload R.runs options (id_kind commit.tree)
+        (commit_text (owned_commit_lines signed)) runner.old runner.new) }
 {
     owned_commits_have_line_fields(&commit);
     commit.sign(alloc, options, runner)
@@ -82,9 +81,8 @@ pub fn signed_commit_gives_its_payload<R: Runner>(
 /// a marker and has no other at the start of a line.
 pub fn tags_give_their_payloads()
     ensures { (lines : TagLines) (bytes signature signed : List ℕ) (format : Format)
-        → HasOneMarker bytes →
-        tags.HasTagSignature (tag_text (tag.signed_as (Some bytes) lines)) signature signed format →
-        (signed ≡ tag.payload_of_tag lines) × (signature ≡ bytes) }
+        → HasOneMarker bytes → tags.HasTagSignature (tag_text (tag.signed_as (Some bytes) lines))
+        signature signed format → (signed ≡ tag.payload_of_tag lines) × (signature ≡ bytes) }
 {}
 
 /// Signs a tag, as [`Tag::sign`] does. Where the signer's text begins with its one marker, what the text of the
@@ -95,9 +93,8 @@ pub fn signed_tag_gives_its_payload<R: Runner>(
     options: Options,
     runner: &mut R,
 ) -> Result<Tag, Error>
-    ensures { IfOk result (λ signed.
-        TagGivesPayload R.runs options (tag_text (tag_views.owned_tag_lines signed)) runner.old
-        runner.new) }
+    ensures { IfOk result (λ signed. TagGivesPayload R.runs options
+        (tag_text (tag_views.owned_tag_lines signed)) runner.old runner.new) }
 {
     tag.sign(alloc, options, runner)
 }
@@ -105,9 +102,8 @@ pub fn signed_tag_gives_its_payload<R: Runner>(
 /// Of a tag that is read, the signature that `TagRef::signature` gives and the one that `TagRefIter::signature` finds
 /// in its text are the same.
 pub fn tag_signatures_agree()
-    ensures { (kind : Kind) (text : List ℕ) (lines : TagLines)
-        (own : Option SignatureRef) (found : Option (SignatureRef × SignedData)) →
-        IsTagText kind text lines → IsSignature lines.signature own →
-        IfSome found (tags.GivesSignatureOfTag text) → IfNone found (HasNoMarker text)
-        → AreTheSame own found }
+    ensures { (kind : Kind) (text : List ℕ) (lines : TagLines) (own : Option SignatureRef)
+        (found : Option (SignatureRef × SignedData)) → IsTagText kind text lines
+        → IsSignature lines.signature own → IfSome found (tags.GivesSignatureOfTag text)
+        → IfNone found (HasNoMarker text) → AreTheSame own found }
 {}

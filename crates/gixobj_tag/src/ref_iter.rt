@@ -135,8 +135,8 @@ fn read_token(
     hash_kind: hash::Kind,
 ) -> Option<(Token<'_>, State, &[u8])>
     requires { input.now ≢ [] }
-    ensures found { IfSome result (λ it. HasTagToken hash_kind before input.now
-        (tag_token_view it.0) it.1 it.2.now) }
+    ensures found { IfSome result (λ it.
+        HasTagToken hash_kind before input.now (tag_token_view it.0) it.1 it.2.now) }
     ensures none { IfNone result (HasNoPiece (HasTagToken hash_kind) before input.now) }
 {
     match before {

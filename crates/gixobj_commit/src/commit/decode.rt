@@ -26,8 +26,8 @@ impl<'a> CommitRef<'a> {
         bytes: &'a [u8],
         hash_kind: Kind,
     ) -> Result<CommitRef<'a>, Error>
-        ensures found { IfOk result (λ commit. IsCommitText hash_kind bytes.now
-            (commit_lines commit)) }
+        ensures found { IfOk result (λ commit.
+            IsCommitText hash_kind bytes.now (commit_lines commit)) }
         ensures has_ids { IfOk result (λ commit. HasIds (commit_lines commit)) }
         ensures borrowed { IfOk result BorrowsLines }
         ensures refusal { IfErr result (RefusesCommit hash_kind bytes.now) }
@@ -65,8 +65,8 @@ impl<'a> CommitRef<'a> {
     /// Puts a line that was read where it belongs. A second parent and a header take memory.
     fn put(&mut self, line: Line<'a>) -> Result<(), Error>
         requires { 1 ≤ self.now.parents.capacity }
-        ensures put { OnOk result (commit_lines self.new ≡ gather (commit_lines self.old)
-            (line_view line.entry)) }
+        ensures put { OnOk result (commit_lines self.new
+            ≡ gather (commit_lines self.old) (line_view line.entry)) }
         ensures room { OnOk result (1 ≤ self.new.parents.capacity) }
         ensures borrowed { OnOk result (BorrowsLines self.old → IsParsedLine line.entry
             → BorrowsLines self.new) }

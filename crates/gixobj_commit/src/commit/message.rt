@@ -25,8 +25,8 @@ use std::borrow::CowSlice;
 impl<'a> CommitRef<'a> {
     /// The message, cut into its title and its body (git-commit, "DISCUSSION"). It takes no memory.
     pub fn message(&self) -> MessageRef<'a>
-        ensures { SplitsTitle (commit_lines self.now).message
-            (bstr_bytes result.title) (bytes_if_some result.body) }
+        ensures { SplitsTitle (commit_lines self.now).message (bstr_bytes result.title)
+            (bytes_if_some result.body) }
     {
         MessageRef::from_bytes(self.message.as_bytes())
     }
@@ -36,10 +36,10 @@ impl<'a> CommitRef<'a> {
     ///
     /// `OutOfMemory` where memory is wanting, which a message of one line takes none of.
     pub fn message_summary(&self, alloc: Global) -> Result<CowSlice<'a, u8>, OutOfMemory>
-        ensures value { IfOk result (λ it. cow_slice_items it ≡ summary_of
-            (commit_lines self.now).message) }
-        ensures owned { IfOk result (λ it. is_owned it ≡ is_of_lines
-            (commit_lines self.now).message) }
+        ensures value { IfOk result (λ it. cow_slice_items it
+            ≡ summary_of (commit_lines self.now).message) }
+        ensures owned { IfOk result (λ it. is_owned it
+            ≡ is_of_lines (commit_lines self.now).message) }
         ensures refusal { IfErr result (λ _. is_of_lines (commit_lines self.now).message ≡ true) }
     {
         summary(alloc, self.message.as_bytes())

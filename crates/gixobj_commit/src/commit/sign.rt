@@ -92,8 +92,8 @@ fn sign_written<R: Runner>(
 ) -> Result<Commit, Error>
     ensures signed { IfOk result (GetsCommitSignature R.runs options payload.now field.now unsigned
         runner.old runner.new) }
-    ensures refusal { IfErr result (λ error. Goes R.runs
-        (sign_plan (options_view options) payload.now) runner.old (signer_refusal error)
+    ensures refusal { IfErr result (λ error.
+        Goes R.runs (sign_plan (options_view options) payload.now) runner.old (signer_refusal error)
         runner.new) }
 {
     match sign_payload(alloc, payload, options, runner) {
@@ -107,8 +107,8 @@ fn sign_written<R: Runner>(
 
 /// The commit without the headers of this name.
 fn without_headers_of(commit: Commit, name: &[u8]) -> Commit
-    ensures lines { owned_commit_lines result ≡ without_headers name.now
-        (owned_commit_lines commit) }
+    ensures lines { owned_commit_lines result
+        ≡ without_headers name.now (owned_commit_lines commit) }
     ensures others { result ≡ record commit { extra_headers = result.extra_headers } }
 {
     let mut commit = commit;
@@ -132,8 +132,8 @@ fn with_header(
     name: &[u8],
     value: BString,
 ) -> Result<Commit, OutOfMemory>
-    ensures { IfOk result (λ it. owned_commit_lines it ≡ with_last_header name.now
-        (bstring_bytes value) (owned_commit_lines commit)) }
+    ensures { IfOk result (λ it. owned_commit_lines it
+        ≡ with_last_header name.now (bstring_bytes value) (owned_commit_lines commit)) }
 {
     let mut commit = commit;
     let name = BString::from_slice(alloc, name)?;

@@ -256,8 +256,8 @@ fn put_rest<T: Field, S: Sink>(
     ensures written { OnOk result (Puts (S.view sink.old) (S.view sink.new)
         (encoding_text (bytes_if_some encoding.entry) ++ flat_map T.written
         headers.now ++ newline ∷ message.now)) }
-    ensures nothing_refused { OnOk result (RefusesNothing
-        (RefusesEncodingLine (bytes_if_some encoding.entry))) }
+    ensures nothing_refused { OnOk result
+        (RefusesNothing (RefusesEncodingLine (bytes_if_some encoding.entry))) }
     ensures refusal { IfErr result (RefusesWriting
         (RefusesEncodingLine (bytes_if_some encoding.entry)) (S.view sink.old) (S.view sink.new)
         (encoding_text (bytes_if_some encoding.entry) ++ flat_map T.written
@@ -278,8 +278,8 @@ fn put_encoding<S: Sink>(
 ) -> Result<(), Error>
     ensures written { OnOk result (Puts (S.view sink.old) (S.view sink.new)
         (encoding_text (bytes_if_some encoding.entry))) }
-    ensures nothing_refused { OnOk result (RefusesNothing
-        (RefusesEncodingLine (bytes_if_some encoding.entry))) }
+    ensures nothing_refused { OnOk result
+        (RefusesNothing (RefusesEncodingLine (bytes_if_some encoding.entry))) }
     ensures refusal { IfErr result (RefusesWriting
         (RefusesEncodingLine (bytes_if_some encoding.entry)) (S.view sink.old) (S.view sink.new)
         (encoding_text (bytes_if_some encoding.entry))) }

@@ -30,12 +30,12 @@ pub fn commit_has_one_reading()
 /// nothing is refused but an empty encoding.
 pub fn commit_writes_back()
     ensures same_text { (kind : Kind) (text : List ℕ) (commit : CommitLines)
-        → IsCommitText kind text commit →
-        AllPass is_lower_hex_digit commit.tree → All (λ hex. AllPass is_lower_hex_digit hex)
-        commit.parents → commit_text (in_lower_case commit) ≡ text }
+        → IsCommitText kind text commit → AllPass is_lower_hex_digit commit.tree
+        → All (λ hex. AllPass is_lower_hex_digit hex) commit.parents
+        → commit_text (in_lower_case commit) ≡ text }
     ensures not_refused { (kind : Kind) (text : List ℕ) (commit : CommitLines)
-        → IsCommitText kind text commit →
-        commit.encoding ≢ Some [] → RefusesNothing (RefusesCommitLines (in_lower_case commit)) }
+        → IsCommitText kind text commit → commit.encoding ≢ Some []
+        → RefusesNothing (RefusesCommitLines (in_lower_case commit)) }
 {}
 
 /// The owned form of a commit has its parts: ids in lower case, actors by their parts, their times as
@@ -48,9 +48,9 @@ pub fn owned_forms_have_the_parts()
     ensures owned { (kind : Kind) (text : List ℕ) (lines : CommitLines)
         → IsCommitText kind text lines → ¬ RefusesOwningCommit lines Malformed }
     ensures refusal { (kind : Kind) (text : List ℕ) (lines : CommitLines) (commit : Commit)
-        (before after : SinkView) (error : Error) →
-        IsCommitText kind text lines → IsOwnedFormOfCommit lines commit →
-        RefusesWriting (RefusesOwnedCommit commit) before after
+        (before after : SinkView) (error : Error) → IsCommitText kind text lines
+        → IsOwnedFormOfCommit lines commit
+        → RefusesWriting (RefusesOwnedCommit commit) before after
         (commit_text (owned_commit_lines commit)) error
         → RefusesOwnFormOfCommit lines before after (commit_text (owned_commit_lines commit))
         error }
@@ -66,14 +66,14 @@ pub fn commit_reads_and_writes(
 ) -> Result<(), Error>
     requires { HasIds (commit_lines commit.now) }
     ensures same_text { OnOk result ((kind : Kind) (text : List ℕ)
-        → IsCommitText kind text (commit_lines commit.now) →
-        AllPass is_lower_hex_digit (commit_lines commit.now).tree
-        → All (λ hex. AllPass is_lower_hex_digit hex) (commit_lines commit.now).parents →
-        out.new.items ≡ out.old.items ++ text) }
+        → IsCommitText kind text (commit_lines commit.now)
+        → AllPass is_lower_hex_digit (commit_lines commit.now).tree
+        → All (λ hex. AllPass is_lower_hex_digit hex) (commit_lines commit.now).parents
+        → out.new.items ≡ out.old.items ++ text) }
     ensures refusal { IfErr result (λ error. (kind : Kind) (text : List ℕ)
         → IsCommitText kind text (commit_lines commit.now)
-        → (commit_lines commit.now).encoding ≢ Some [] →
-        FailsAsSink (list_view out.old) (list_view out.new)
+        → (commit_lines commit.now).encoding ≢ Some []
+        → FailsAsSink (list_view out.old) (list_view out.new)
         (commit_text (in_lower_case (commit_lines commit.now))) error) }
 {
     match commit.write_to_vec(alloc, out) {

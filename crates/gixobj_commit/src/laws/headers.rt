@@ -19,27 +19,27 @@ ghost use Rattle.gixobj_tag.specs.declared.tag.TagRef.{TagRef};
 /// Of the headers of a borrowed commit `find` answers the value of the first of the name, `find_pos` its
 /// place, and `find_all` the values of all of the name, in order.
 pub fn borrowed_headers_are_found()
-    ensures value { (name : List ℕ) (headers : BorrowedHeaders) (result : Option BStr) →
-        FindsValue (YieldsFirstBy pair_of headers_left) name headers result
+    ensures value { (name : List ℕ) (headers : BorrowedHeaders) (result : Option BStr)
+        → FindsValue (YieldsFirstBy pair_of headers_left) name headers result
         → IsFirstValue name (headers_left headers) result }
-    ensures place { (name : List ℕ) (headers : BorrowedHeaders) (result : Option ℕ) →
-        FindsPlace (YieldsFirstBy pair_of headers_left) name headers result
+    ensures place { (name : List ℕ) (headers : BorrowedHeaders) (result : Option ℕ)
+        → FindsPlace (YieldsFirstBy pair_of headers_left) name headers result
         → IsFirstPlace name (headers_left headers) result }
-    ensures values { (values : FindAll BorrowedHeaders) →
-        YieldsList (GivesAll (YieldsFirstBy pair_of headers_left)) bstr_bytes values
+    ensures values { (values : FindAll BorrowedHeaders)
+        → YieldsList (GivesAll (YieldsFirstBy pair_of headers_left)) bstr_bytes values
         (values_named (sought values) (headers_left (searched values))) }
 {}
 
 /// The same of the headers of an owned commit.
 pub fn owned_headers_are_found()
-    ensures value { (name : List ℕ) (headers : OwnedHeaders) (result : Option BStr) →
-        FindsValue (YieldsFirstBy pair_of owned_headers_left) name headers result
+    ensures value { (name : List ℕ) (headers : OwnedHeaders) (result : Option BStr)
+        → FindsValue (YieldsFirstBy pair_of owned_headers_left) name headers result
         → IsFirstValue name (owned_headers_left headers) result }
-    ensures place { (name : List ℕ) (headers : OwnedHeaders) (result : Option ℕ) →
-        FindsPlace (YieldsFirstBy pair_of owned_headers_left) name headers result
+    ensures place { (name : List ℕ) (headers : OwnedHeaders) (result : Option ℕ)
+        → FindsPlace (YieldsFirstBy pair_of owned_headers_left) name headers result
         → IsFirstPlace name (owned_headers_left headers) result }
-    ensures values { (values : FindAll OwnedHeaders) →
-        YieldsList (GivesAll (YieldsFirstBy pair_of owned_headers_left)) bstr_bytes values
+    ensures values { (values : FindAll OwnedHeaders)
+        → YieldsList (GivesAll (YieldsFirstBy pair_of owned_headers_left)) bstr_bytes values
         (values_named (sought values) (owned_headers_left (searched values))) }
 {}
 
@@ -47,21 +47,22 @@ pub fn owned_headers_are_found()
 /// `mergetag` is, or that it is none: so it is for all that a whole run gave, and where it is known of each
 /// value which tag it is, or that it is none, each run gives these.
 pub fn borrowed_mergetags_are_found()
-    ensures given { (tags after : Mergetags BorrowedHeaders) (given : List (Result TagRef Error)) →
-        YieldsThen (GivesMergetag (YieldsFirstBy pair_of headers_left)) tags given None after
+    ensures given { (tags after : Mergetags BorrowedHeaders) (given : List (Result TagRef Error))
+        → YieldsThen (GivesMergetag (YieldsFirstBy pair_of headers_left)) tags given None after
         → AllZip (IsTagOf (mergetag_kind tags)) (mergetags_left headers_left tags) given }
-    ensures listed { (tags : Mergetags BorrowedHeaders) (read : List (Option TagLines)) →
-        AllZip (IsTagOrNone (mergetag_kind tags)) (mergetags_left headers_left tags) read
+    ensures listed { (tags : Mergetags BorrowedHeaders) (read : List (Option TagLines))
+        → AllZip (IsTagOrNone (mergetag_kind tags)) (mergetags_left headers_left tags) read
         → YieldsList (GivesMergetag (YieldsFirstBy pair_of headers_left)) tag_if_ok tags read }
 {}
 
 /// The same of the headers of an owned commit.
 pub fn owned_mergetags_are_found()
-    ensures given { (tags after : Mergetags OwnedHeaders) (given : List (Result TagRef Error)) →
-        YieldsThen (GivesMergetag (YieldsFirstBy pair_of owned_headers_left)) tags given None after
-        → AllZip (IsTagOf (mergetag_kind tags)) (mergetags_left owned_headers_left tags) given }
-    ensures listed { (tags : Mergetags OwnedHeaders) (read : List (Option TagLines)) →
-        AllZip (IsTagOrNone (mergetag_kind tags)) (mergetags_left owned_headers_left tags) read
+    ensures given { (tags after : Mergetags OwnedHeaders) (given : List (Result TagRef Error))
+        → YieldsThen (GivesMergetag (YieldsFirstBy pair_of owned_headers_left)) tags given None
+        after → AllZip (IsTagOf (mergetag_kind tags)) (mergetags_left owned_headers_left tags)
+        given }
+    ensures listed { (tags : Mergetags OwnedHeaders) (read : List (Option TagLines))
+        → AllZip (IsTagOrNone (mergetag_kind tags)) (mergetags_left owned_headers_left tags) read
         → YieldsList (GivesMergetag (YieldsFirstBy pair_of owned_headers_left)) tag_if_ok tags
         read }
 {}

@@ -26,12 +26,12 @@ ghost use Rattle.gixobj_commit.specs.declared.ref_iter.filters.ParentIds.{Parent
 /// tokens these are.
 pub fn readers_read_one_language()
     ensures told { (kind : Kind) (text : List ℕ) (commit : CommitLines)
-        → IsCommitText kind text commit →
-        (tokens : List CommitTokenView) × TellsCommit kind state.Tree text tokens complete
-        × AreTokensOfCommit commit tokens × EndsInMessage tokens }
+        → IsCommitText kind text commit → (tokens : List CommitTokenView)
+        × TellsCommit kind state.Tree text tokens complete × AreTokensOfCommit commit tokens
+        × EndsInMessage tokens }
     ensures read { (kind : Kind) (text : List ℕ) (tokens : List CommitTokenView)
-        → TellsCommit kind state.Tree text tokens complete → EndsInMessage tokens →
-        (commit : CommitLines) × IsCommitText kind text commit × AreTokensOfCommit commit tokens }
+        → TellsCommit kind state.Tree text tokens complete → EndsInMessage tokens
+        → (commit : CommitLines) × IsCommitText kind text commit × AreTokensOfCommit commit tokens }
 {}
 
 /// What a walk through the tokens of a text comes to, call by call: a reader at its start has passed none;
@@ -41,29 +41,28 @@ pub fn tokens_are_passed()
     ensures starts { (kind : Kind) (text : List ℕ) (reader : CommitRefIter)
         → IsAtStartOfCommit kind text reader → HasPassedCommitTokens kind text [] reader }
     ensures goes_on { (kind : Kind) (text : List ℕ) (tokens : List CommitTokenView)
-        (at after : CommitRefIter) (token : Token) →
-        HasPassedCommitTokens kind text tokens at → GivesCommitToken at (Some (Ok token)) after
+        (at after : CommitRefIter) (token : Token) → HasPassedCommitTokens kind text tokens at
+        → GivesCommitToken at (Some (Ok token)) after
         → HasPassedCommitTokens kind text (tokens ++ commit_token_view token ∷ []) after }
     ensures ends { (kind : Kind) (text : List ℕ) (tokens : List CommitTokenView)
-        (at after : CommitRefIter) →
-        HasPassedCommitTokens kind text tokens at → GivesCommitToken at None after
-        → TellsCommit kind state.Tree text tokens complete }
+        (at after : CommitRefIter) → HasPassedCommitTokens kind text tokens at
+        → GivesCommitToken at None after → TellsCommit kind state.Tree text tokens complete }
     ensures stops { (kind : Kind) (text : List ℕ) (tokens : List CommitTokenView)
-        (at after : CommitRefIter) →
-        HasPassedCommitTokens kind text tokens at → GivesCommitToken at (Some (Err Malformed)) after
+        (at after : CommitRefIter) → HasPassedCommitTokens kind text tokens at
+        → GivesCommitToken at (Some (Err Malformed)) after
         → TellsCommit kind state.Tree text tokens broken }
 {}
 
 /// Of the text of a commit a reader at its start finds the commit's tree and parents.
 pub fn ids_are_found()
     ensures tree { (kind : Kind) (text : List ℕ) (commit : CommitLines)
-        (reader after : CommitRefIter) (result : Result ObjectId Error) →
-        IsCommitText kind text commit → IsAtStartOfCommit kind text reader
-        → GivesIdOfCommit reader result after →
-        (id : ObjectId) × (result ≡ Ok id) × Spells commit.tree id }
-    ensures parents { (kind : Kind) (text : List ℕ) (commit : CommitLines) (parents : ParentIds) →
-        IsCommitText kind text commit → IsAtStartOfCommit kind text (parents_reader parents) →
-        (ids : List ObjectId) × AllZip Spells commit.parents ids
+        (reader after : CommitRefIter) (result : Result ObjectId Error)
+        → IsCommitText kind text commit → IsAtStartOfCommit kind text reader
+        → GivesIdOfCommit reader result after → (id : ObjectId) × (result ≡ Ok id)
+        × Spells commit.tree id }
+    ensures parents { (kind : Kind) (text : List ℕ) (commit : CommitLines) (parents : ParentIds)
+        → IsCommitText kind text commit → IsAtStartOfCommit kind text (parents_reader parents)
+        → (ids : List ObjectId) × AllZip Spells commit.parents ids
         × YieldsList GivesParent (λ id. id) parents ids }
 {}
 
@@ -74,28 +73,24 @@ pub fn actors_are_found()
         (actor : ActorView) → IsCommitText kind text commit → IsAtStartOfCommit kind text reader
         → FindsAuthor reader actor → IsActorOf commit.author actor }
     ensures has_author { (kind : Kind) (text : List ℕ) (commit : CommitLines)
-        (reader : CommitRefIter) →
-        IsCommitText kind text commit → IsAtStartOfCommit kind text reader
-        → ¬ FindsNone IsAuthorToken reader Malformed }
+        (reader : CommitRefIter) → IsCommitText kind text commit
+        → IsAtStartOfCommit kind text reader → ¬ FindsNone IsAuthorToken reader Malformed }
     ensures committer { (kind : Kind) (text : List ℕ) (commit : CommitLines)
         (reader : CommitRefIter) (actor : ActorView) → IsCommitText kind text commit
         → IsAtStartOfCommit kind text reader → FindsCommitter reader actor
         → IsActorOf commit.committer actor }
     ensures has_committer { (kind : Kind) (text : List ℕ) (commit : CommitLines)
-        (reader : CommitRefIter) →
-        IsCommitText kind text commit → IsAtStartOfCommit kind text reader
-        → ¬ FindsNone IsCommitterToken reader Malformed }
+        (reader : CommitRefIter) → IsCommitText kind text commit
+        → IsAtStartOfCommit kind text reader → ¬ FindsNone IsCommitterToken reader Malformed }
 {}
 
 /// Of the text of a commit a reader at its start finds the commit's message, and refuses it but for
 /// want of memory.
 pub fn message_is_found()
     ensures message { (kind : Kind) (text : List ℕ) (commit : CommitLines) (reader : CommitRefIter)
-        (message : List ℕ) →
-        IsCommitText kind text commit → IsAtStartOfCommit kind text reader
+        (message : List ℕ) → IsCommitText kind text commit → IsAtStartOfCommit kind text reader
         → FindsMessage reader message → message ≡ commit.message }
     ensures has_message { (kind : Kind) (text : List ℕ) (commit : CommitLines)
-        (reader : CommitRefIter) →
-        IsCommitText kind text commit → IsAtStartOfCommit kind text reader
-        → ¬ FindsFault IsMessageToken reader Malformed }
+        (reader : CommitRefIter) → IsCommitText kind text commit
+        → IsAtStartOfCommit kind text reader → ¬ FindsFault IsMessageToken reader Malformed }
 {}

@@ -10,20 +10,19 @@ ghost use Rattle.gixobj_commit.specs.declared.lines.State.{State};
 /// A text begins with one token at most in each state of the reader.
 pub fn tokens_have_one_reading()
     ensures { (kind : Kind) (before : State) (input : List ℕ) (token token' : CommitTokenView)
-        (behind behind' : State) (rest rest' : List ℕ) →
-        HasCommitToken kind before input token behind rest
-        → HasCommitToken kind before input token' behind' rest' →
-        (token ≡ token') × (behind ≡ behind') × (rest ≡ rest') }
+        (behind behind' : State) (rest rest' : List ℕ)
+        → HasCommitToken kind before input token behind rest
+        → HasCommitToken kind before input token' behind' rest' → (token ≡ token')
+        × (behind ≡ behind') × (rest ≡ rest') }
 {}
 
 /// A text has one run of tokens at most, and one end of it. Where the run is complete, the text is
 /// the join of the texts of its tokens.
 pub fn runs_are_their_tokens()
     ensures one_run { (kind : Kind) (before : State) (input : List ℕ)
-        (tokens tokens' : List CommitTokenView) (ending ending' : Ending) →
-        TellsCommit kind before input tokens ending → TellsCommit kind before input tokens' ending'
-        → (tokens ≡ tokens') × (ending ≡ ending') }
+        (tokens tokens' : List CommitTokenView) (ending ending' : Ending)
+        → TellsCommit kind before input tokens ending
+        → TellsCommit kind before input tokens' ending' → (tokens ≡ tokens') × (ending ≡ ending') }
     ensures joined { (kind : Kind) (before : State) (input : List ℕ) (tokens : List CommitTokenView)
-        →
-        TellsCommit kind before input tokens complete → AreCommitTokenTexts kind input tokens }
+        → TellsCommit kind before input tokens complete → AreCommitTokenTexts kind input tokens }
 {}

@@ -100,7 +100,8 @@ impl<S: Find> Editor<S> {
             × IfErr result (λ error. IsForAName error → left ≡ self.old))) }
         ensures same_reference { IfOk result (λ c. c.editor.ghost_name ≡ self.entry.ghost_name) }
         ensures prefix { IfOk result (λ c. c.editor.now.prefix ≡ prefix_of (names_of path.now)) }
-        ensures assured { IfOk result (λ c. OfTrees (S.objects self.old.store)
+        ensures assured { IfOk result (λ c.
+            OfTrees (S.objects self.old.store)
             (λ trees. IsAssured trees self.old (prefix_of (names_of path.now)) c.editor.now)) }
         ensures refusal { IfErr result (RefusedIn (meaning S.objects S.may_fail) self.old
             RefusesCursor (prefix_of (names_of path.now))) }
@@ -153,12 +154,12 @@ impl<S: Find> Editor<S> {
 impl<S> Editor<S> {
     /// The path from the root of a path from the prefix; one without names stays without.
     fn path_from_root(&self, path: &[BString]) -> Result<Vec<BString>, AllocError>
-        ensures joined { IfOk result (λ it. names_of it.items ≡ from_root self.now.prefix
-            (names_of path.now)) }
+        ensures joined { IfOk result (λ it. names_of it.items
+            ≡ from_root self.now.prefix (names_of path.now)) }
         ensures taken { OnErr result (names_of path.now ≢ []) }
         ensures is_opened { IsOpened (open_dirs self.now) }
-        ensures idle { (at : Path) → open_bases self.now at ≡ opened_bases (open_dirs self.now)
-            (open_dirs self.now) (open_bases self.now) at }
+        ensures idle { (at : Path) → open_bases self.now at
+            ≡ opened_bases (open_dirs self.now) (open_dirs self.now) (open_bases self.now) at }
     {
         join_paths(self.root.alloc(), &self.prefix, path)
     }
@@ -181,8 +182,9 @@ impl<S> Editor<S> {
     ) -> Result<Written, WriteError<E>>
         requires callable { IsCallableOnTrees F.pre (answered F.FnMut) out.old }
         requires is_open { open_dirs self.old self.old.prefix ≢ None }
-        ensures written { IfOk result (λ it. IsWrittenBelow (answered F.FnMut) out.old self.old
-            self.old.prefix it self.new out.new) }
+        ensures written { IfOk result (λ it.
+            IsWrittenBelow (answered F.FnMut) out.old self.old self.old.prefix it self.new
+            out.new) }
         ensures stopped { IfErr result (Stopped (answered F.FnMut) (denied F.FnMut)
             (HandsOutSome (in_path self.old.prefix (open_dirs self.old))
             (in_path self.old.prefix (open_bases self.old))) out.old out.new) }
@@ -218,7 +220,8 @@ impl<S: Find> Cursor<'_, S> {
         ensures same_editor { IfOk result
             (λ it. it.now.editor.ghost_name ≡ self.old.editor.ghost_name) }
         ensures prefix { IfOk result (λ it. it.now.editor.now.prefix ≡ self.old.editor.now.prefix) }
-        ensures upserted { IfOk result (λ it. OfTrees (S.objects self.old.editor.now.store)
+        ensures upserted { IfOk result (λ it.
+            OfTrees (S.objects self.old.editor.now.store)
             (λ trees. IsUpserted trees self.old.editor.now
             (from_root self.old.editor.now.prefix (names_of path.now)) (mode_of_kind kind) id
             it.now.editor.now)) }
@@ -265,7 +268,8 @@ impl<S: Find> Cursor<'_, S> {
         ensures same_editor { IfOk result
             (λ it. it.now.editor.ghost_name ≡ self.old.editor.ghost_name) }
         ensures prefix { IfOk result (λ it. it.now.editor.now.prefix ≡ self.old.editor.now.prefix) }
-        ensures removed { IfOk result (λ it. OfTrees (S.objects self.old.editor.now.store)
+        ensures removed { IfOk result (λ it.
+            OfTrees (S.objects self.old.editor.now.store)
             (λ trees. IsRemoved IsNoTree trees self.old.editor.now
             (from_root self.old.editor.now.prefix (names_of path.now)) it.now.editor.now)) }
         ensures refusal { IfErr result (RefusedBelow (meaning S.objects S.may_fail)
@@ -303,7 +307,8 @@ impl<S: Find> Cursor<'_, S> {
         ensures same_editor { IfOk result
             (λ it. it.now.editor.ghost_name ≡ self.old.editor.ghost_name) }
         ensures prefix { IfOk result (λ it. it.now.editor.now.prefix ≡ self.old.editor.now.prefix) }
-        ensures removed { IfOk result (λ it. OfTrees (S.objects self.old.editor.now.store)
+        ensures removed { IfOk result (λ it.
+            OfTrees (S.objects self.old.editor.now.store)
             (λ trees. IsLeafRemoved trees self.old.editor.now
             (from_root self.old.editor.now.prefix (names_of path.now)) it.now.editor.now)) }
         ensures refusal { IfErr result (RefusedBelow (meaning S.objects S.may_fail)
@@ -354,8 +359,8 @@ impl<S> Cursor<'_, S> {
     /// As [`Editor::get`], at a path that goes on from the prefix; without names there is none.
     pub fn get(&self, path: &[BString]) -> Result<Option<&Entry>, OutOfMemory>
         ensures succeeds { IsOk result }
-        ensures found { IfOk result (λ entry. option_copied entry ≡ entry_at
-            (from_root self.now.editor.now.prefix (names_of path.now))
+        ensures found { IfOk result (λ entry. option_copied entry
+            ≡ entry_at (from_root self.now.editor.now.prefix (names_of path.now))
             (open_dirs self.now.editor.now)) }
     {
         Ok(self.editor.get_below(path))
@@ -404,8 +409,9 @@ impl<S> Cursor<'_, S> {
         requires { IsCallableOnTrees F.pre (answered F.FnMut) out.old }
         ensures same_reference { self.new.editor.ghost_name ≡ self.old.editor.ghost_name }
         ensures prefix { self.new.editor.now.prefix ≡ self.old.editor.now.prefix }
-        ensures written { IfOk result (λ it. IsWrittenBelow (answered F.FnMut) out.old
-            self.old.editor.now self.old.editor.now.prefix it self.new.editor.now out.new) }
+        ensures written { IfOk result (λ it.
+            IsWrittenBelow (answered F.FnMut) out.old self.old.editor.now self.old.editor.now.prefix
+            it self.new.editor.now out.new) }
         ensures stopped { IfErr result (Stopped (answered F.FnMut) (denied F.FnMut)
             (HandsOutSome (in_path self.old.editor.now.prefix (open_dirs self.old.editor.now))
             (in_path self.old.editor.now.prefix (open_bases self.old.editor.now))) out.old

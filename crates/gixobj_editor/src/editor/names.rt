@@ -54,8 +54,8 @@ pub(crate) fn join_paths(
     prefix: &[BString],
     path: &[BString],
 ) -> Result<Vec<BString>, AllocError>
-    ensures joined { IfOk result (λ it. names_of it.items ≡ from_root (names_of prefix.now)
-        (names_of path.now)) }
+    ensures joined { IfOk result (λ it. names_of it.items
+        ≡ from_root (names_of prefix.now) (names_of path.now)) }
     ensures taken { OnErr result (names_of path.now ≢ []) }
 {
     let mut names = Vec::new(alloc);
@@ -77,8 +77,8 @@ pub(crate) fn copy_names(alloc: Global, names: &[BString]) -> Result<Vec<BString
 
 /// Copies of the names of a path, behind others.
 fn push_names(alloc: Global, names: &mut Vec<BString>, path: &[BString]) -> Result<(), AllocError>
-    ensures { OnOk result (names_of names.new.items ≡ names_of names.old.items ++ names_of
-        path.now) }
+    ensures { OnOk result (names_of names.new.items
+        ≡ names_of names.old.items ++ names_of path.now) }
 {
     for name in path {
         names.push(BString::from_slice(alloc, name.as_bytes())?)?;

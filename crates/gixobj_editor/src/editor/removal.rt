@@ -32,19 +32,20 @@ pub(crate) fn open_for_removal<S: Find>(
     lookups: &mut u64,
 ) -> Result<(), Error>
     ensures opened { OnOk result (OfTrees (S.objects store.now)
-        (λ trees. (asked : List ObjectId) × Opens (EndsBefore unasked) trees
-        (directory_of (names_of path.now)) (dirs_of root.old) (dirs_of root.new) asked
-        × (lookups.new ≡ counted lookups.old asked)
+        (λ trees. (asked : List ObjectId)
+        × Opens (EndsBefore unasked) trees (directory_of (names_of path.now)) (dirs_of root.old)
+        (dirs_of root.new) asked × (lookups.new ≡ counted lookups.old asked)
         × ((name : List _) → Judges (EndsBefore unasked) trees (dirs_of root.old)
         (names_of path.now) name → IsEntryName name))) }
-    ensures refused { IfErr result (λ error. OfTrees (S.objects store.now)
-        (λ trees. IsOpenedInPart (EndsBefore unasked) trees (names_of path.now) (dirs_of root.old)
+    ensures refused { IfErr result (λ error.
+        OfTrees (S.objects store.now) (λ trees.
+        IsOpenedInPart (EndsBefore unasked) trees (names_of path.now) (dirs_of root.old)
         (dirs_of root.new) lookups.old lookups.new
         × RefusesRemoval (EndsBefore unasked) (S.objects store.now) (S.may_fail store.now) trees
         (dirs_of root.old) (names_of path.now) error)) }
     ensures still_opened { IsOpened (dirs_of root.old) → IsOpened (dirs_of root.new) }
-    ensures bases { (at : Path) → bases_of root.new at ≡ opened_bases (dirs_of root.old)
-        (dirs_of root.new) (bases_of root.old) at }
+    ensures bases { (at : Path) → bases_of root.new at
+        ≡ opened_bases (dirs_of root.old) (dirs_of root.new) (bases_of root.old) at }
 {
     let alloc = root.alloc();
     let (directory, refused) = judged(path);

@@ -40,8 +40,8 @@ impl Find for Never {
 impl Exists for Never {
     #[tactic(auto, using(crate::proofs::Nothing::not_there))]
     fn exists(&self, id: oid<'_>) -> bool
-        ensures meaning { IsFalse false → result ≡ is_some
-            (named map.empty (borrowed_id id.entry)) }
+        ensures meaning { IsFalse false → result
+            ≡ is_some (named map.empty (borrowed_id id.entry)) }
         ensures none { result ≡ false }
     {
         false

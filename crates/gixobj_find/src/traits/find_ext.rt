@@ -40,8 +40,8 @@ pub trait FindExt: Find {
         id: oid<'_>,
         buffer: &'a mut Vec<u8>,
     ) -> Result<Data<'a>, existing::Error>
-        ensures found { IfOk result (λ it. Names (Self.objects self.now) (borrowed_id id.entry)
-            (stored it)) }
+        ensures found { IfOk result (λ it.
+            Names (Self.objects self.now) (borrowed_id id.entry) (stored it)) }
         ensures refusal { IfErr result (RefusesExisting (Self.objects self.now)
             (Self.may_fail self.now) (borrowed_id id.entry)) }
     {
@@ -113,9 +113,9 @@ pub trait FindExt: Find {
         id: oid<'_>,
         buffer: &'a mut Vec<u8>,
     ) -> Result<CommitRef<'a>, existing_object::Error>
-        ensures found { IfOk result (λ commit. NamesSuch (Self.objects self.now)
-            (borrowed_id id.entry) object.Commit (λ hash text.
-            IsCommitText hash text (commit_lines commit))) }
+        ensures found { IfOk result (λ commit.
+            NamesSuch (Self.objects self.now) (borrowed_id id.entry) object.Commit
+            (λ hash text. IsCommitText hash text (commit_lines commit))) }
         ensures has_ids { IfOk result (λ commit. HasIds (commit_lines commit)) }
         ensures refusal { IfErr result (RefusesObject (Self.objects self.now)
             (Self.may_fail self.now) object.Commit (borrowed_id id.entry)) }
@@ -134,8 +134,9 @@ pub trait FindExt: Find {
         id: oid<'_>,
         buffer: &'a mut Vec<u8>,
     ) -> Result<TagRef<'a>, existing_object::Error>
-        ensures found { IfOk result (λ tag. NamesSuch (Self.objects self.now) (borrowed_id id.entry)
-            object.Tag (λ hash text. IsTagText hash text (tag_lines tag))) }
+        ensures found { IfOk result (λ tag.
+            NamesSuch (Self.objects self.now) (borrowed_id id.entry) object.Tag
+            (λ hash text. IsTagText hash text (tag_lines tag))) }
         ensures has_id { IfOk result (λ tag. IsHexOfAnId (tag_lines tag).target) }
         ensures refusal { IfErr result (RefusesObject (Self.objects self.now)
             (Self.may_fail self.now) object.Tag (borrowed_id id.entry)) }
@@ -153,9 +154,9 @@ pub trait FindExt: Find {
         id: oid<'_>,
         buffer: &'a mut Vec<u8>,
     ) -> Result<CommitRefIter<'a>, existing_iter::Error>
-        ensures found { IfOk result (λ reader. NamesSuch (Self.objects self.now)
-            (borrowed_id id.entry) object.Commit (λ hash text.
-            IsAtStartOfCommit hash text reader)) }
+        ensures found { IfOk result (λ reader.
+            NamesSuch (Self.objects self.now) (borrowed_id id.entry) object.Commit
+            (λ hash text. IsAtStartOfCommit hash text reader)) }
         ensures refusal { IfErr result (RefusesReader (Self.objects self.now)
             (Self.may_fail self.now) object.Commit (borrowed_id id.entry)) }
     {
@@ -172,8 +173,9 @@ pub trait FindExt: Find {
         id: oid<'_>,
         buffer: &'a mut Vec<u8>,
     ) -> Result<TreeRefIter<'a>, existing_iter::Error>
-        ensures found { IfOk result (λ reader. NamesSuch (Self.objects self.now)
-            (borrowed_id id.entry) object.Tree (λ hash text. IsAtEntry hash text reader)) }
+        ensures found { IfOk result (λ reader.
+            NamesSuch (Self.objects self.now) (borrowed_id id.entry) object.Tree
+            (λ hash text. IsAtEntry hash text reader)) }
         ensures refusal { IfErr result (RefusesReader (Self.objects self.now)
             (Self.may_fail self.now) object.Tree (borrowed_id id.entry)) }
     {
@@ -190,8 +192,9 @@ pub trait FindExt: Find {
         id: oid<'_>,
         buffer: &'a mut Vec<u8>,
     ) -> Result<TagRefIter<'a>, existing_iter::Error>
-        ensures found { IfOk result (λ reader. NamesSuch (Self.objects self.now)
-            (borrowed_id id.entry) object.Tag (λ hash text. IsAtStartOfTag hash text reader)) }
+        ensures found { IfOk result (λ reader.
+            NamesSuch (Self.objects self.now) (borrowed_id id.entry) object.Tag
+            (λ hash text. IsAtStartOfTag hash text reader)) }
         ensures refusal { IfErr result (RefusesReader (Self.objects self.now)
             (Self.may_fail self.now) object.Tag (borrowed_id id.entry)) }
     {

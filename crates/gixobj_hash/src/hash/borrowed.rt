@@ -77,8 +77,8 @@ impl<'a> oid<'a> {
 
     /// Whether this is the id of the tree without entries.
     pub fn is_empty_tree(self) -> bool
-        ensures { IsTrue result ↔ (borrowed_id self.entry ≡ id_of (id_kind (borrowed_id self.entry))
-            Tree []) }
+        ensures { IsTrue result ↔ (borrowed_id self.entry
+            ≡ id_of (id_kind (borrowed_id self.entry)) Tree []) }
     {
         self.to_owned().is_empty_tree()
     }

@@ -32,8 +32,8 @@ impl Data<'_> {
     ///
     /// `Verify` where it is another, with both ids.
     pub fn verify_checksum(&self, expected: oid<'_>) -> Result<ObjectId, Error>
-        ensures accepts { IsOk result ↔ (checksum (id_kind (borrowed_id expected.entry))
-            self.now ≡ borrowed_id expected.entry) }
+        ensures accepts { IsOk result ↔ (checksum (id_kind (borrowed_id expected.entry)) self.now
+            ≡ borrowed_id expected.entry) }
         ensures verified { IfOk result (λ id. id ≡ borrowed_id expected.entry) }
         ensures refusal { IfErr result (HasBothIds
             (checksum (id_kind (borrowed_id expected.entry)) self.now)

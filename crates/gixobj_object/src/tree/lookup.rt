@@ -35,8 +35,8 @@ pub fn next_entry<'a>(
         × (components.new.now ≡ components.old.now) }
     ensures one_name { tree.entry.kind ≡ object.Tree
         → components.new.now ≡ drop 1 components.old.now }
-    ensures step { tree.entry.kind ≡ object.Tree → IsStep (stored tree.entry)
-        (map bstring_bytes components.old.now) result }
+    ensures step { tree.entry.kind ≡ object.Tree
+        → IsStep (stored tree.entry) (map bstring_bytes components.old.now) result }
 {
     let Some(reader) = tree.try_into_tree_iter() else {
         return ControlFlow::Break(None);
@@ -59,8 +59,9 @@ pub fn next_entry<'a>(
 impl<'a> TreeRefIter<'a> {
     /// The first entry of this name that is left, before any damaged one. It takes no memory.
     fn first_named(self, name: &[u8]) -> Option<EntryRef<'a>>
-        ensures found { IfSome result (λ entry. HasFirstNamed self.entry.hash_kind
-            (bytes_left self.entry) name.now (entry_view entry)) }
+        ensures found { IfSome result (λ entry.
+            HasFirstNamed self.entry.hash_kind (bytes_left self.entry) name.now
+            (entry_view entry)) }
         ensures none { IfNone result (HasNoEntryNamed self.entry.hash_kind (bytes_left self.entry)
             name.now) }
     {
@@ -163,8 +164,8 @@ fn names_of(alloc: Global, path: &[u8]) -> Result<Vec<BString>, OutOfMemory>
 
 /// Puts a part of a path at the end, if it has a byte. Where it fails the names are as before.
 fn put_name(names: &mut Vec<BString>, alloc: Global, part: &[u8]) -> Result<(), OutOfMemory>
-    ensures put { OnOk result (map bstring_bytes names.new.items ≡ map bstring_bytes
-        names.old.items ++ named_parts (part.now ∷ [])) }
+    ensures put { OnOk result (map bstring_bytes names.new.items
+        ≡ map bstring_bytes names.old.items ++ named_parts (part.now ∷ [])) }
     ensures refusal { OnErr result (part.now ≢ []) }
 {
     if !part.is_empty() {

@@ -26,8 +26,8 @@ pub fn runs_by_digests_have_a_table(replies: &[Reply<encode::Error>])
         → memory_objects before.store ≡ finite.empty
         → IsRun memory_means (IsAnsweredDigest hash) before commands replies.now after
         → HaveOwnIds hash (pairs_handed_out replies.now)
-        → All (λ pair. All (ReadsBack hash) pair.1) (pairs_kept replies.now)
-        → (T : Table) × AgreesWithRun T (memory_objects before.store) replies.now }
+        → All (λ pair. All (ReadsBack hash) pair.1) (pairs_kept replies.now) → (T : Table)
+        × AgreesWithRun T (memory_objects before.store) replies.now }
 {
     fitting_runs_have_a_table(replies);
     trees_read_as_themselves();

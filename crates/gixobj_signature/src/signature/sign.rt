@@ -170,8 +170,8 @@ fn sign_ssh<R: Runner>(
 
 /// The signature in the file that a program of SSH left.
 fn left_signature_of(alloc: Global, left: Option<Vec<u8>>) -> Result<BString, Error>
-    ensures { MatchOption (sign_view result) ⊤ (λ it.
-        it ≡ left_signature (option_map (λ v. v.items) left)) }
+    ensures { MatchOption (sign_view result) ⊤
+        (λ it. it ≡ left_signature (option_map (λ v. v.items) left)) }
 {
     match left {
         Some(bytes) => Ok(without_returns_of(alloc, &bytes)?),

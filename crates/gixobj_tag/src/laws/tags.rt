@@ -40,8 +40,8 @@ pub fn owned_tags_have_the_parts()
     ensures parts { (lines : TagLines) (tag : Tag) → IsOwnedFormOfTag lines tag
         → AreOwnPartsOfTag lines (owned_tag_lines tag) }
     ensures refusal { (lines : TagLines) (tag : Tag) (before after : SinkView)
-        (error : encode.Error) → IsOwnedFormOfTag lines tag →
-        RefusesWriting (RefusesOwnedTag tag) before after (tag_text (owned_tag_lines tag)) error
+        (error : encode.Error) → IsOwnedFormOfTag lines tag
+        → RefusesWriting (RefusesOwnedTag tag) before after (tag_text (owned_tag_lines tag)) error
         → RefusesOwnFormOfTag lines before after (tag_text (owned_tag_lines tag)) error }
 {}
 

@@ -20,16 +20,16 @@ ghost use Rattle.gixobj_tag.specs.TagText.{IsTagText, TagLines};
 /// and one end of it. Where the run is complete, the text is the join of the texts of its tokens.
 pub fn tag_tokens_have_one_reading()
     ensures one_token { (kind : Kind) (before : State) (input : List ℕ)
-        (token token' : TagTokenView) (behind behind' : State) (rest rest' : List ℕ) →
-        HasTagToken kind before input token behind rest
-        → HasTagToken kind before input token' behind' rest' →
-        (token ≡ token') × (behind ≡ behind') × (rest ≡ rest') }
+        (token token' : TagTokenView) (behind behind' : State) (rest rest' : List ℕ)
+        → HasTagToken kind before input token behind rest
+        → HasTagToken kind before input token' behind' rest' → (token ≡ token') × (behind ≡ behind')
+        × (rest ≡ rest') }
     ensures one_run { (kind : Kind) (before : State) (input : List ℕ)
-        (tokens tokens' : List TagTokenView) (ending ending' : Ending) →
-        TellsTag kind before input tokens ending → TellsTag kind before input tokens' ending'
+        (tokens tokens' : List TagTokenView) (ending ending' : Ending)
+        → TellsTag kind before input tokens ending → TellsTag kind before input tokens' ending'
         → (tokens ≡ tokens') × (ending ≡ ending') }
-    ensures joined { (kind : Kind) (before : State) (input : List ℕ) (tokens : List TagTokenView) →
-        TellsTag kind before input tokens complete → AreTagTokenTexts kind input tokens }
+    ensures joined { (kind : Kind) (before : State) (input : List ℕ) (tokens : List TagTokenView)
+        → TellsTag kind before input tokens complete → AreTagTokenTexts kind input tokens }
 {}
 
 /// What a walk through the tokens of a text comes to, call by call: a reader at its start has passed none;
@@ -39,16 +39,15 @@ pub fn tag_tokens_are_passed()
     ensures starts { (kind : Kind) (text : List ℕ) (reader : TagRefIter)
         → IsAtStartOfTag kind text reader → HasPassedTagTokens kind text [] reader }
     ensures goes_on { (kind : Kind) (text : List ℕ) (tokens : List TagTokenView)
-        (at after : TagRefIter) (token : Token) →
-        HasPassedTagTokens kind text tokens at → GivesTagToken at (Some (Ok token)) after
+        (at after : TagRefIter) (token : Token) → HasPassedTagTokens kind text tokens at
+        → GivesTagToken at (Some (Ok token)) after
         → HasPassedTagTokens kind text (tokens ++ tag_token_view token ∷ []) after }
     ensures ends { (kind : Kind) (text : List ℕ) (tokens : List TagTokenView)
-        (at after : TagRefIter) →
-        HasPassedTagTokens kind text tokens at → GivesTagToken at None after
-        → TellsTag kind state.Target text tokens complete }
+        (at after : TagRefIter) → HasPassedTagTokens kind text tokens at
+        → GivesTagToken at None after → TellsTag kind state.Target text tokens complete }
     ensures stops { (kind : Kind) (text : List ℕ) (tokens : List TagTokenView)
-        (at after : TagRefIter) (error : decode.Error) →
-        HasPassedTagTokens kind text tokens at → GivesTagToken at (Some (Err error)) after
+        (at after : TagRefIter) (error : decode.Error) → HasPassedTagTokens kind text tokens at
+        → GivesTagToken at (Some (Err error)) after
         → TellsTag kind state.Target text tokens broken }
 {}
 
@@ -56,27 +55,25 @@ pub fn tag_tokens_are_passed()
 /// name among them; and a text that is told to its end, and in which a name came, is that of a tag, whose
 /// tokens these are.
 pub fn tag_readers_read_one_language()
-    ensures told { (kind : Kind) (text : List ℕ) (tag : TagLines) → IsTagText kind text tag →
-        (tokens : List TagTokenView) × TellsTag kind state.Target text tokens complete
+    ensures told { (kind : Kind) (text : List ℕ) (tag : TagLines) → IsTagText kind text tag
+        → (tokens : List TagTokenView) × TellsTag kind state.Target text tokens complete
         × AreTokensOfTag tag tokens × NameCame tokens }
     ensures read { (kind : Kind) (text : List ℕ) (tokens : List TagTokenView)
-        → TellsTag kind state.Target text tokens complete → NameCame tokens →
-        (tag : TagLines) × IsTagText kind text tag × AreTokensOfTag tag tokens }
+        → TellsTag kind state.Target text tokens complete → NameCame tokens → (tag : TagLines)
+        × IsTagText kind text tag × AreTokensOfTag tag tokens }
 {}
 
 /// Of the text of a tag a reader at its start finds the tag's target and its tagger, or that there is
 /// none; it finds no token that says so only where the text ends behind the name.
 pub fn parts_of_tags_are_found()
     ensures target { (kind : Kind) (text : List ℕ) (tag : TagLines) (reader : TagRefIter)
-        (result : Result ObjectId decode.Error) →
-        IsTagText kind text tag → IsAtStartOfTag kind text reader → GivesIdOfTag reader result
-        → (id : ObjectId) × (result ≡ Ok id) × Spells tag.target id }
+        (result : Result ObjectId decode.Error) → IsTagText kind text tag
+        → IsAtStartOfTag kind text reader → GivesIdOfTag reader result → (id : ObjectId)
+        × (result ≡ Ok id) × Spells tag.target id }
     ensures tagger { (kind : Kind) (text : List ℕ) (tag : TagLines) (reader : TagRefIter)
-        (tagger : Option SignatureRef) →
-        IsTagText kind text tag → IsAtStartOfTag kind text reader → FindsTagger reader tagger
-        → TellsTagger tag.tagger (told_tagger tagger) }
+        (tagger : Option SignatureRef) → IsTagText kind text tag → IsAtStartOfTag kind text reader
+        → FindsTagger reader tagger → TellsTagger tag.tagger (told_tagger tagger) }
     ensures no_token { (kind : Kind) (text : List ℕ) (tag : TagLines) (reader : TagRefIter)
-        (ending : Ending) →
-        IsTagText kind text tag → IsAtStartOfTag kind text reader → LacksTagger reader ending
-        → EndsBehindItsName tag }
+        (ending : Ending) → IsTagText kind text tag → IsAtStartOfTag kind text reader
+        → LacksTagger reader ending → EndsBehindItsName tag }
 {}

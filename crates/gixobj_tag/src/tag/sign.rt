@@ -89,8 +89,8 @@ fn with_signature(tag: Tag, signature: BString) -> Tag
 
 /// What is signed of a tag that has no signature.
 fn payload_of(alloc: Global, tag: &Tag) -> Result<Vec<u8>, Error>
-    ensures text { IfOk result (λ text. text.items ≡ tag_text
-        (owned_tag_lines tag.now) ++ newline ∷ []) }
+    ensures text { IfOk result (λ text. text.items
+        ≡ tag_text (owned_tag_lines tag.now) ++ newline ∷ []) }
     ensures writable { OnOk result (RefusesNothing (RefusesOwnedTag tag.now)) }
     ensures refusal { IfErr result (HasNoPayload tag.now) }
 {
@@ -130,8 +130,8 @@ fn sign_written<R: Runner>(
 ) -> Result<Tag, Error>
     ensures signed { IfOk result (GetsTagSignature R.runs options payload.now unsigned runner.old
         runner.new) }
-    ensures refusal { IfErr result (λ error. Goes R.runs
-        (sign_plan (options_view options) payload.now) runner.old (signer_refusal error)
+    ensures refusal { IfErr result (λ error.
+        Goes R.runs (sign_plan (options_view options) payload.now) runner.old (signer_refusal error)
         runner.new) }
 {
     match sign_payload(alloc, payload, options, runner) {

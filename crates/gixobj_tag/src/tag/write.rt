@@ -88,9 +88,9 @@ fn put_tag<'a, T: Target, A: Tagger, S: Sink>(
         (parts_text (T.target_line target.now) target_kind (bstr_bytes name.entry)
         (A.tagger_line tagger.now) (body_text (bstr_bytes message.entry)
         (bytes_if_some signature.entry)))) }
-    ensures nothing_refused { OnOk result (RefusesNothing
-        (RefusesParts (front_text (T.target_line target.now) target_kind) (bstr_bytes name.entry)
-        (A.refuses tagger.now))) }
+    ensures nothing_refused { OnOk result
+        (RefusesNothing (RefusesParts (front_text (T.target_line target.now) target_kind)
+        (bstr_bytes name.entry) (A.refuses tagger.now))) }
     ensures refusal { IfErr result (RefusesWriting
         (RefusesParts (front_text (T.target_line target.now) target_kind) (bstr_bytes name.entry)
         (A.refuses tagger.now)) (S.view sink.old) (S.view sink.new)

@@ -65,8 +65,8 @@ impl<'a> MessageRef<'a> {
     ///
     /// `OutOfMemory` where memory is wanting, which a title of one line takes none of.
     pub fn summary(&self, alloc: Global) -> Result<CowSlice<'a, u8>, OutOfMemory>
-        ensures value { IfOk result (λ it.
-            cow_slice_items it ≡ summary_of (bstr_bytes self.now.title)) }
+        ensures value { IfOk result (λ it. cow_slice_items it
+            ≡ summary_of (bstr_bytes self.now.title)) }
         ensures owned { IfOk result (λ it. is_owned it ≡ is_of_lines (bstr_bytes self.now.title)) }
         ensures refusal { IfErr result (λ _. is_of_lines (bstr_bytes self.now.title) ≡ true) }
     {
@@ -117,8 +117,8 @@ impl<'a> BodyRef<'a> {
 
     /// The trailers of the block, in order. Making the reader takes no memory.
     pub fn trailers(&self, alloc: Global) -> Trailers<'a>
-        ensures { trailers_left result ≡
-            trailers_of_text (drop (start_of_block self.now) (bytes_of_body self.now)) }
+        ensures { trailers_left result ≡ trailers_of_text
+            (drop (start_of_block self.now) (bytes_of_body self.now)) }
     {
         Trailers::new(alloc, &self.body.as_bytes()[self.trailer_start..])
     }

@@ -9,8 +9,8 @@ ghost use Rattle.gixobj_tree.specs.Rewriting.{HasOwnModes, ReadsBack};
 
 /// A text begins with the text of one entry at most, and is that of one tree at most.
 pub fn tree_has_one_reading()
-    ensures one_entry { (kind : Kind) (input : List ℕ) (e e' : EntryView) (rest rest' : List ℕ) →
-        BeginsWithEntry kind input e rest → BeginsWithEntry kind input e' rest' → (e ≡ e')
+    ensures one_entry { (kind : Kind) (input : List ℕ) (e e' : EntryView) (rest rest' : List ℕ)
+        → BeginsWithEntry kind input e rest → BeginsWithEntry kind input e' rest' → (e ≡ e')
         × (rest ≡ rest') }
     ensures one_tree { (kind : Kind) (text : List ℕ) (entries entries' : List EntryView)
         → IsTreeText kind text entries → IsTreeText kind text entries' → entries ≡ entries' }

@@ -159,8 +159,8 @@ impl EntryMode {
     /// The mode in front of the bytes, as [`EntryMode::from_bytes`] reads it, and what stands behind
     /// its digits.
     pub fn extract_from_bytes(i: &[u8]) -> Option<(EntryMode, &[u8])>
-        ensures found { IfSome result (λ parts. BeginsWithMode i.now (mode_bits parts.0)
-            parts.1.now) }
+        ensures found { IfSome result (λ parts.
+            BeginsWithMode i.now (mode_bits parts.0) parts.1.now) }
         ensures none { IfNone result ((mode : ℕ) (rest : List ℕ)
             → ¬ BeginsWithMode i.now mode rest) }
     {

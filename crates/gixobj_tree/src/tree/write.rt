@@ -120,8 +120,8 @@ fn size_with_owned(size: u64, entry: &Entry) -> Option<u64>
 
 /// The size and that of the entry of this mode, name and id, or none past 64 bits.
 pub fn size_with(size: u64, mode: EntryMode, name: &[u8], id: oid<'_>) -> Option<u64>
-    ensures { AddsSize result size (entry_text (entry_of (mode_bits mode) name.now
-        (borrowed_id id.entry))) }
+    ensures { AddsSize result size (entry_text
+        (entry_of (mode_bits mode) name.now (borrowed_id id.entry))) }
 {
     let mut backing = [0; 6];
     let digits = mode.as_bytes(&mut backing).as_bytes().len() as u64;

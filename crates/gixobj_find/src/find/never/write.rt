@@ -27,10 +27,10 @@ impl Write for Never {
         requires { T.can_write object.now }
         ensures written { IsWrittenObject AnswersId (T.object_kind object.now)
             (T.refuses object.now) (T.text object.now) result }
-        ensures id { IfOk result (λ id. id ≡ id_of Sha1 (T.object_kind object.now)
-            (T.text object.now)) }
-        ensures refusal { IfErr result (λ _. CannotEncode (T.refuses object.now) (T.text object.now)
-            result) }
+        ensures id { IfOk result (λ id. id
+            ≡ id_of Sha1 (T.object_kind object.now) (T.text object.now)) }
+        ensures refusal { IfErr result (λ _.
+            CannotEncode (T.refuses object.now) (T.text object.now) result) }
     {
         let mut text = Vec::new(alloc);
         object.write_to_vec(alloc, &mut text)?;
@@ -89,8 +89,8 @@ impl Write for Never {
     ) -> Result<ObjectId, Error>
         ensures answer { AnswersKnownId known kind size (R.remaining from.old) result }
         ensures id { IfOk result (λ it. it ≡ known) }
-        ensures read { IfOk result (λ _. SkipsExactly (R.remaining from.old) (R.remaining from.new)
-            size) }
+        ensures read { IfOk result (λ _.
+            SkipsExactly (R.remaining from.old) (R.remaining from.new) size) }
         ensures refusal { IfErr result (RefusesRead (R.remaining from.old) (R.remaining from.new)
             size) }
     {

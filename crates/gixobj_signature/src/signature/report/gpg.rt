@@ -31,8 +31,8 @@ pub fn parse_gpg_output(
     output: BString,
     raw_output: BString,
 ) -> Result<Outcome, OutOfMemory>
-    ensures { IfOk result (λ it. outcome_view it ≡ gpg_report format (bstring_bytes output)
-        (bstring_bytes raw_output)) }
+    ensures { IfOk result (λ it. outcome_view it
+        ≡ gpg_report format (bstring_bytes output) (bstring_bytes raw_output)) }
 {
     let said = said_in(alloc, raw_output.as_bytes())?;
     let trust_level = trust_level_in(raw_output.as_bytes());
@@ -68,8 +68,8 @@ pub(crate) struct Said {
 /// What all lines that say a status say together. No line behind the second one is read.
 #[tactic(auto, using(crate::proofs::Told::statuses_so))]
 fn said_in(alloc: Global, raw: &[u8]) -> Result<Said, OutOfMemory>
-    ensures { IfOk result (λ it. said_view it ≡ verdict
-        (filter_map status_of (told_lines raw.now))) }
+    ensures { IfOk result (λ it. said_view it
+        ≡ verdict (filter_map status_of (told_lines raw.now))) }
 {
     let mut lines = raw.lines();
     match next_status(&mut lines) {
@@ -146,8 +146,8 @@ fn late_status_of_line<'a>(line: &'a [u8]) -> Option<(Status, &'a [u8])>
 
 /// This status, where the line begins with this text, with what stands behind the text.
 fn status_if<'a>(line: &'a [u8], text: &[u8], status: Status) -> Option<(Status, &'a [u8])>
-    ensures { option_map status_view result ≡ option_map (with_status status)
-        (behind text.now line.now) }
+    ensures { option_map status_view result
+        ≡ option_map (with_status status) (behind text.now line.now) }
 {
     match line.strip_prefix(text) {
         Some(rest) => Some((status, rest)),
@@ -162,8 +162,8 @@ fn status_or<'a>(
     status: Status,
     other: Option<(Status, &'a [u8])>,
 ) -> Option<(Status, &'a [u8])>
-    ensures { option_map status_view result ≡ either
-        (option_map (with_status status) (behind text.now line.now))
+    ensures { option_map status_view result
+        ≡ either (option_map (with_status status) (behind text.now line.now))
         (option_map status_view other.entry) }
 {
     match line.strip_prefix(text) {
@@ -196,8 +196,8 @@ fn trust_level_of(name: &[u8]) -> TrustLevel
 /// The field of this number of the last line that says whose key it is.
 #[tactic(auto, using(crate::proofs::Told::valid_so))]
 fn valid_field_of(alloc: Global, raw: &[u8], number: usize) -> Result<Option<BString>, OutOfMemory>
-    ensures { IfOk result (λ it. option_map bstring_bytes it ≡ field_at number
-        (valid_fields (told_lines raw.now))) }
+    ensures { IfOk result (λ it. option_map bstring_bytes it
+        ≡ field_at number (valid_fields (told_lines raw.now))) }
 {
     match last_told(raw, b"VALIDSIG ") {
         Some(rest) => field_of(alloc, rest, number),
@@ -208,8 +208,8 @@ fn valid_field_of(alloc: Global, raw: &[u8], number: usize) -> Result<Option<BSt
 /// The field of this number, unless it is missing or empty.
 #[tactic(auto, using(crate::proofs::FieldPlaces::field_so))]
 fn field_of(alloc: Global, line: &[u8], number: usize) -> Result<Option<BString>, OutOfMemory>
-    ensures { IfOk result (λ it. option_map bstring_bytes it ≡ field_at number
-        (fields_of line.now)) }
+    ensures { IfOk result (λ it. option_map bstring_bytes it
+        ≡ field_at number (fields_of line.now)) }
 {
     match fields_behind(line, number) {
         Some(rest) => copy_unless_empty(alloc, first_word_of(rest)),
@@ -283,8 +283,8 @@ fn copy_unless_empty(alloc: Global, text: &[u8]) -> Result<Option<BString>, OutO
 /// What stands behind this beginning in the last line that has it and is told to programs.
 #[tactic(auto, using(crate::proofs::Told::one_line_more))]
 fn last_told<'a>(raw: &'a [u8], text: &[u8]) -> Option<&'a [u8]>
-    ensures { option_map (λ it. it.now) result ≡ last_of
-        (said_behind text.now (map without_terminator (lines_of raw.now))) }
+    ensures { option_map (λ it. it.now) result
+        ≡ last_of (said_behind text.now (map without_terminator (lines_of raw.now))) }
 {
     let mut found = None;
     let mut lines = raw.lines();
@@ -296,8 +296,8 @@ fn last_told<'a>(raw: &'a [u8], text: &[u8]) -> Option<&'a [u8]>
 
 /// What stands behind the beginning in this line, or what was found before where the line has it not.
 fn told_here<'a>(line: &'a [u8], text: &[u8], before: Option<&'a [u8]>) -> Option<&'a [u8]>
-    ensures { option_map (λ it. it.now) result ≡ either (told_behind text.now line.now)
-        (option_map (λ it. it.now) before.entry) }
+    ensures { option_map (λ it. it.now) result
+        ≡ either (told_behind text.now line.now) (option_map (λ it. it.now) before.entry) }
 {
     match line.strip_prefix(b"[GNUPG:] ") {
         Some(told) => behind_here(told, text, before),
@@ -311,8 +311,8 @@ pub(crate) fn behind_here<'a>(
     text: &[u8],
     before: Option<&'a [u8]>,
 ) -> Option<&'a [u8]>
-    ensures { option_map (λ it. it.now) result ≡ either (behind text.now bytes.now)
-        (option_map (λ it. it.now) before.entry) }
+    ensures { option_map (λ it. it.now) result
+        ≡ either (behind text.now bytes.now) (option_map (λ it. it.now) before.entry) }
 {
     match bytes.strip_prefix(text) {
         Some(rest) => Some(rest),

@@ -25,8 +25,8 @@ pub fn parse_ssh_output(
     signer: Option<BString>,
     trust_level: TrustLevel,
 ) -> Result<Outcome, OutOfMemory>
-    ensures { IfOk result (λ it. outcome_view it ≡ ssh_report (bstring_bytes output)
-        (option_map bstring_bytes signer) trust_level) }
+    ensures { IfOk result (λ it. outcome_view it
+        ≡ ssh_report (bstring_bytes output) (option_map bstring_bytes signer) trust_level) }
 {
     let status = status_of(output.as_bytes());
     let raw_output = BString::from_slice(alloc, output.as_bytes())?;

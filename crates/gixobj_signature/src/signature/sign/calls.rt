@@ -63,8 +63,8 @@ fn literal_call_of(
     payload: &[u8],
     options: &Options,
 ) -> Result<Call, OutOfMemory>
-    ensures { IfOk result (λ it. call_view it ≡ literal_call (options_view options.now) key.now
-        payload.now) }
+    ensures { IfOk result (λ it. call_view it
+        ≡ literal_call (options_view options.now) key.now payload.now) }
 {
     let mut words = signing_words_of(alloc, &options.program_arguments)?;
     words.push(Word::File(0))?;
@@ -85,8 +85,8 @@ fn literal_call_of(
 
 /// The words of a program of SSH up to the key.
 fn signing_words_of(alloc: Global, arguments: &[BString]) -> Result<Vec<Word>, OutOfMemory>
-    ensures { IfOk result (λ it. map word_view it.items ≡ signing_words
-        (map bstring_bytes arguments.now)) }
+    ensures { IfOk result (λ it. map word_view it.items
+        ≡ signing_words (map bstring_bytes arguments.now)) }
 {
     let mut words = words_of(alloc, arguments)?;
     words.push(text(alloc, b"-Y")?)?;

@@ -102,8 +102,8 @@ fn outcome_of(
     by: &Program,
     output: Output,
 ) -> Result<Outcome, OutOfMemory>
-    ensures { IfOk result (λ it. reported (outcome_view it) ≡ gpg_verified format
-        (program_of by.now) (output_view output)) }
+    ensures { IfOk result (λ it. reported (outcome_view it)
+        ≡ gpg_verified format (program_of by.now) (output_view output)) }
 {
     let success = output.success;
     let told = BString::new(output.stderr);
@@ -120,8 +120,8 @@ fn open_pgp_call_of(
     signature: &[u8],
     signed: &SignedData<'_>,
 ) -> Result<Call, OutOfMemory>
-    ensures { IfOk result (λ it. call_view it ≡ open_pgp_call (program_of by.now) signature.now
-        (signed_bytes signed.now)) }
+    ensures { IfOk result (λ it. call_view it
+        ≡ open_pgp_call (program_of by.now) signature.now (signed_bytes signed.now)) }
 {
     let words = open_pgp_words_of(alloc, by)?;
     let files = vec![in alloc; BString::from_slice(alloc, signature)?]?;
@@ -150,8 +150,8 @@ fn x509_call_of(
     signature: &[u8],
     signed: &SignedData<'_>,
 ) -> Result<Call, OutOfMemory>
-    ensures { IfOk result (λ it. call_view it ≡ x509_call (program_of by.now) signature.now
-        (signed_bytes signed.now)) }
+    ensures { IfOk result (λ it. call_view it
+        ≡ x509_call (program_of by.now) signature.now (signed_bytes signed.now)) }
 {
     let words = x509_words_of(alloc, by)?;
     let files = two_files(alloc, signature, signed)?;
@@ -184,8 +184,8 @@ fn two_files(
     signature: &[u8],
     signed: &SignedData<'_>,
 ) -> Result<Vec<BString>, OutOfMemory>
-    ensures { IfOk result (λ it. map bstring_bytes it.items ≡ signature.now ∷ signed_bytes
-        signed.now ∷ []) }
+    ensures { IfOk result (λ it. map bstring_bytes it.items
+        ≡ signature.now ∷ signed_bytes signed.now ∷ []) }
 {
     let mut files = vec![in alloc; BString::from_slice(alloc, signature)?]?;
     files.push(signed.to_bstring(alloc)?)?;
@@ -200,8 +200,8 @@ fn call_of(
     files: Vec<BString>,
     input: Option<BString>,
 ) -> Result<Call, OutOfMemory>
-    ensures { IfOk result (λ it. call_view it ≡ whole_call (program_of by.now)
-        (map word_view words.items) (map bstring_bytes files.items)
+    ensures { IfOk result (λ it. call_view it
+        ≡ whole_call (program_of by.now) (map word_view words.items) (map bstring_bytes files.items)
         (option_map bstring_bytes input)) }
 {
     let environment = environment_of(alloc, &by.environment)?;

@@ -123,8 +123,9 @@ fn accepted_by(
     principal: &BString,
     output: Output,
 ) -> Result<Outcome, OutOfMemory>
-    ensures { IfOk result (λ it. reported (outcome_view it) ≡ ssh_verified (ssh_program_of by.now)
-        output.success trust.Fully (Some (bstring_bytes principal.now)) (output_view output)) }
+    ensures { IfOk result (λ it. reported (outcome_view it)
+        ≡ ssh_verified (ssh_program_of by.now) output.success trust.Fully
+        (Some (bstring_bytes principal.now)) (output_view output)) }
 {
     let signer = copy_of(alloc, principal)?;
     let success = output.success;
@@ -152,8 +153,9 @@ fn end_with<R: Runner>(
 
 /// The outcome of a call that accepted no principal.
 fn rejected_by(alloc: Global, by: &SshProgram, output: Output) -> Result<Outcome, OutOfMemory>
-    ensures { IfOk result (λ it. reported (outcome_view it) ≡ ssh_verified (ssh_program_of by.now)
-        output.success trust.Fully None (output_view output)) }
+    ensures { IfOk result (λ it. reported (outcome_view it)
+        ≡ ssh_verified (ssh_program_of by.now) output.success trust.Fully None
+        (output_view output)) }
 {
     let success = output.success;
     outcome_of(alloc, by, success, TrustLevel::Fully, None, output)
@@ -197,8 +199,9 @@ fn outcome_of(
     signer: Option<BString>,
     output: Output,
 ) -> Result<Outcome, OutOfMemory>
-    ensures { IfOk result (λ it. reported (outcome_view it) ≡ ssh_verified (ssh_program_of by.now)
-        success trust (option_map bstring_bytes signer) (output_view output)) }
+    ensures { IfOk result (λ it. reported (outcome_view it)
+        ≡ ssh_verified (ssh_program_of by.now) success trust (option_map bstring_bytes signer)
+        (output_view output)) }
 {
     let told = human_of(output)?;
     let report = parse_ssh_output(alloc, told, signer, trust)?;
@@ -232,8 +235,8 @@ fn push_principal(
     line: &[u8],
     principals: &mut Vec<BString>,
 ) -> Result<(), OutOfMemory>
-    ensures { OnOk result (map bstring_bytes principals.new.items ≡ map bstring_bytes
-        principals.old.items ++ map lossy (filter is_filled (line.now ∷ []))) }
+    ensures { OnOk result (map bstring_bytes principals.new.items
+        ≡ map bstring_bytes principals.old.items ++ map lossy (filter is_filled (line.now ∷ []))) }
 {
     if line.is_empty() {
         return Ok(());

@@ -40,8 +40,8 @@ impl<'a> TreeRef<'a> {
 /// the input begins with no entry. It takes no memory.
 #[tactic(auto, using(crate::proofs::OneEntry::shorter))]
 pub fn read_entry(input: &[u8], hash_kind: Kind) -> Option<(EntryRef<'_>, &[u8])>
-    ensures found { IfSome result (λ it. BeginsWithEntry hash_kind input.now (entry_view it.0)
-        it.1.now) }
+    ensures found { IfSome result (λ it.
+        BeginsWithEntry hash_kind input.now (entry_view it.0) it.1.now) }
     ensures none { IfNone result (BeginsWithNoEntry hash_kind input.now) }
     ensures shorter { IfSome result (λ it. length it.1.now < length input.now) }
 {
@@ -70,8 +70,8 @@ pub fn read_entry(input: &[u8], hash_kind: Kind) -> Option<(EntryRef<'_>, &[u8])
 
 /// The id of this kind at the front of the input, and what follows it, or none where fewer bytes are left.
 fn read_id(input: &[u8], hash_kind: Kind) -> Option<(oid<'_>, &[u8])>
-    ensures found { IfSome result (λ it. BeginsWithId hash_kind input.now (borrowed_id it.0)
-        it.1.now) }
+    ensures found { IfSome result (λ it.
+        BeginsWithId hash_kind input.now (borrowed_id it.0) it.1.now) }
     ensures none { IfNone result (length input.now < hash_len hash_kind) }
 {
     let len = hash_kind.len_in_bytes();

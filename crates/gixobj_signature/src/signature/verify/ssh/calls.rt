@@ -21,8 +21,8 @@ pub(crate) fn principals_call_of(
     by: &SshProgram,
     signature: &[u8],
 ) -> Result<Call, OutOfMemory>
-    ensures { IfOk result (λ it. call_view it ≡ principals_call (ssh_program_of by.now)
-        (ssh_of by.now) signature.now) }
+    ensures { IfOk result (λ it. call_view it
+        ≡ principals_call (ssh_program_of by.now) (ssh_of by.now) signature.now) }
 {
     let mut words = words_of(alloc, &by.program_arguments)?;
     words.push(text(alloc, b"-Y")?)?;
@@ -45,8 +45,9 @@ pub(crate) fn principal_call_of(
     signature: &[u8],
     signed: &SignedData<'_>,
 ) -> Result<Call, OutOfMemory>
-    ensures { IfOk result (λ it. call_view it ≡ principal_call (ssh_program_of by.now)
-        (ssh_of by.now) signature.now (signed_bytes signed.now) principal.now) }
+    ensures { IfOk result (λ it. call_view it
+        ≡ principal_call (ssh_program_of by.now) (ssh_of by.now) signature.now
+        (signed_bytes signed.now) principal.now) }
 {
     let words = principal_words_of(alloc, by, principal)?;
     let words = with_revocation(alloc, words, &by.revocation_file)?;
@@ -60,8 +61,8 @@ fn principal_words_of(
     by: &SshProgram,
     principal: &[u8],
 ) -> Result<Vec<Word>, OutOfMemory>
-    ensures { IfOk result (λ it. map word_view it.items ≡ principal_words (ssh_program_of by.now)
-        (ssh_of by.now) principal.now) }
+    ensures { IfOk result (λ it. map word_view it.items
+        ≡ principal_words (ssh_program_of by.now) (ssh_of by.now) principal.now) }
 {
     let mut words = verify_words_of(alloc, by)?;
     words.push(text(alloc, principal)?)?;
@@ -73,8 +74,8 @@ fn principal_words_of(
 
 /// Its words before the principal.
 fn verify_words_of(alloc: Global, by: &SshProgram) -> Result<Vec<Word>, OutOfMemory>
-    ensures { IfOk result (λ it. map word_view it.items ≡ verify_words (ssh_program_of by.now)
-        (ssh_of by.now)) }
+    ensures { IfOk result (λ it. map word_view it.items
+        ≡ verify_words (ssh_program_of by.now) (ssh_of by.now)) }
 {
     let mut words = git_words_of(alloc, by, b"verify")?;
     words.push(text(alloc, b"-f")?)?;
@@ -85,8 +86,8 @@ fn verify_words_of(alloc: Global, by: &SshProgram) -> Result<Vec<Word>, OutOfMem
 
 /// The first words of a call of this command over git's signatures.
 fn git_words_of(alloc: Global, by: &SshProgram, command: &[u8]) -> Result<Vec<Word>, OutOfMemory>
-    ensures { IfOk result (λ it. map word_view it.items ≡ git_words (ssh_program_of by.now)
-        command.now) }
+    ensures { IfOk result (λ it. map word_view it.items
+        ≡ git_words (ssh_program_of by.now) command.now) }
 {
     let mut words = words_of(alloc, &by.program_arguments)?;
     words.push(text(alloc, b"-Y")?)?;
@@ -104,8 +105,9 @@ pub(crate) fn novalidate_call_of(
     signature: &[u8],
     signed: &SignedData<'_>,
 ) -> Result<Call, OutOfMemory>
-    ensures { IfOk result (λ it. call_view it ≡ novalidate_call (ssh_program_of by.now)
-        (ssh_of by.now) signature.now (signed_bytes signed.now)) }
+    ensures { IfOk result (λ it. call_view it
+        ≡ novalidate_call (ssh_program_of by.now) (ssh_of by.now) signature.now
+        (signed_bytes signed.now)) }
 {
     let words = novalidate_words_of(alloc, by)?;
     let input = Some(signed.to_bstring(alloc)?);
@@ -114,8 +116,8 @@ pub(crate) fn novalidate_call_of(
 
 /// Its words.
 fn novalidate_words_of(alloc: Global, by: &SshProgram) -> Result<Vec<Word>, OutOfMemory>
-    ensures { IfOk result (λ it. map word_view it.items ≡ novalidate_words (ssh_program_of by.now)
-        (ssh_of by.now)) }
+    ensures { IfOk result (λ it. map word_view it.items
+        ≡ novalidate_words (ssh_program_of by.now) (ssh_of by.now)) }
 {
     let mut words = check_words_of(alloc, by)?;
     words.push(text(alloc, b"-s")?)?;
@@ -137,8 +139,8 @@ fn with_revocation(
     words: Vec<Word>,
     file: &Option<BString>,
 ) -> Result<Vec<Word>, OutOfMemory>
-    ensures { IfOk result (λ it. map word_view it.items ≡ map word_view
-        words.items ++ revocation_words (option_map bstring_bytes file.now)) }
+    ensures { IfOk result (λ it. map word_view it.items
+        ≡ map word_view words.items ++ revocation_words (option_map bstring_bytes file.now)) }
 {
     let mut words = words;
     if let Some(path) = file {
@@ -156,8 +158,9 @@ fn call_of(
     signature: &[u8],
     input: Option<BString>,
 ) -> Result<Call, OutOfMemory>
-    ensures { IfOk result (λ it. call_view it ≡ whole_call (in_english (ssh_program_of by.now))
-        (map word_view words.items) (signature.now ∷ []) (option_map bstring_bytes input)) }
+    ensures { IfOk result (λ it. call_view it
+        ≡ whole_call (in_english (ssh_program_of by.now)) (map word_view words.items)
+        (signature.now ∷ []) (option_map bstring_bytes input)) }
 {
     let mut environment = environment_of(alloc, &by.environment)?;
     environment.push(pair(alloc, b"LANG", b"C")?)?;

@@ -94,8 +94,8 @@ impl Run {
         ensures trailers { result.trailers ≡ self.trailers + cond (is_trailing_of line.now) 1 0 }
         ensures others { result.others ≡ self.others + other_of_of self.above line.now }
         ensures recognised { result.recognised ≡ (self.recognised || is_recognised_of line.now) }
-        ensures above { result.above ≡
-            cond (is_trailing_of line.now) true (cond (is_indented_of line.now) self.above false) }
+        ensures above { result.above ≡ cond (is_trailing_of line.now) true
+            (cond (is_indented_of line.now) self.above false) }
     {
         let (trailing, indented) = (is_trailing(line), is_indented(line));
         Run {

@@ -74,8 +74,8 @@ fn is_trailer_text(text: &[u8]) -> bool
 /// The token of a trailer's text, and what stands behind its colon.
 fn parts_behind_token<'a>(text: &'a [u8], rest: &'a [u8]) -> Option<(&'a [u8], &'a [u8])>
     requires { length rest.now ≤ length text.now }
-    ensures { read_parts result ≡
-        with_value (take (length text.now - length rest.now) text.now) (behind_gap_of rest.now) }
+    ensures { read_parts result ≡ with_value (take (length text.now - length rest.now) text.now)
+        (behind_gap_of rest.now) }
 {
     match behind_gap(rest) {
         Some(value) => Some((&text[..text.len() - rest.len()], value)),

@@ -198,8 +198,8 @@ fn read_trailer<'a>(
     rest: &[u8],
 ) -> Result<TrailerRef<'a>, AllocError>
     ensures token { IfOk result (λ it. bstr_bytes it.token ≡ token.now) }
-    ensures value { IfOk result (λ it.
-        cow_slice_items it.value ≡ unfolded_of first.now (map text_of (folded_front rest.now))) }
+    ensures value { IfOk result (λ it. cow_slice_items it.value
+        ≡ unfolded_of first.now (map text_of (folded_front rest.now))) }
     ensures owned { IfOk result (λ it. is_owned it.value ≡ are_some (folded_front rest.now)) }
     ensures refusal { IfErr result (λ _. are_some (folded_front rest.now) ≡ true) }
 {
@@ -219,8 +219,8 @@ fn read_trailer<'a>(
 /// The value of several lines.
 #[tactic(auto, using(crate::proofs::Reading::folded_more, crate::proofs::Reading::folded_ends, crate::proofs::Reading::folded_all, crate::proofs::Reading::shorter))]
 fn unfolded(alloc: Global, first: &[u8], rest: &[u8]) -> Result<Vec<u8>, AllocError>
-    ensures { IfOk result (λ it.
-        it.items ≡ with_folded (with_piece [] (trimmed first.now)) (lines_of rest.now)) }
+    ensures { IfOk result (λ it. it.items
+        ≡ with_folded (with_piece [] (trimmed first.now)) (lines_of rest.now)) }
 {
     let mut value = Vec::new(alloc);
     push_piece(&mut value, first.trim())?;
