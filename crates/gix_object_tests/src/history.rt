@@ -59,15 +59,23 @@ fn objects() -> [(ObjectId, Data<'static>); 4] {
     ]
 }
 
+/// The ancestor of the second commit so many commits back, or none behind one without a parent.
+fn ancestor_at(alloc: Global, generations: u32) -> Result<Option<ObjectId>, Error> {
+    let objects = objects();
+    let store = Shelf { objects: &objects };
+    match ancestor(alloc, &store, id(SECOND), generations) {
+        Ok(found) => Ok(Some(found)),
+        Err(Error::NoParent(_)) => Ok(None),
+        Err(error) => Err(error),
+    }
+}
+
 #[test]
 fn ancestors(rt: HostRuntime) -> Result<(), Fail> {
     let alloc = rt.alloc();
-    let objects = objects();
-    let store = Shelf { objects: &objects };
-    assert!(rt; ancestor(alloc, &store, id(SECOND), 0)? == id(SECOND));
-    assert!(rt; ancestor(alloc, &store, id(SECOND), 1)? == id(FIRST));
-    let orphan = ancestor(alloc, &store, id(SECOND), 2);
-    assert!(rt; matches!(&orphan, Err(Error::NoParent(_))));
+    assert!(rt; ancestor_at(alloc, 0)? == Some(id(SECOND)));
+    assert!(rt; ancestor_at(alloc, 1)? == Some(id(FIRST)));
+    assert!(rt; ancestor_at(alloc, 2)?.is_none());
     Ok(())
 }
 

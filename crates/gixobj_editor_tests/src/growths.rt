@@ -1,12 +1,12 @@
 //! Four rows whose answers stay the same where a growth is refused on the way, and the call is made again: what was
 //! refused has lost nothing.
 
-use crate::samples::{FILE, empty_editor, names, path_of, stored_file};
+use crate::samples::{FILE, empty_editor, names, path_of, stored_file, self};
 use crate::writes::stops_at_the_second;
 use bstr::BString;
 use gixobj_base::hash::Kind as HashKind;
+use gixobj_base::encode;
 use gixobj_base::tree::EntryKind;
-use gixobj_base::{Tree, encode};
 use gixobj_editor::editor::{Editor, Error, WriteError, Written};
 use gixobj_find::Memory;
 use std::alloc::Global;
@@ -14,8 +14,8 @@ use std::test::Fail;
 
 /// Puts a file in, and once more where memory was wanting.
 fn put(editor: &mut Editor<Memory>, path: &[BString]) -> Result<(), Error> {
-    match editor.try_upsert(path, EntryKind::Blob, FILE) {
-        Err(Error::OutOfMemory) => editor.try_upsert(path, EntryKind::Blob, FILE),
+    match samples::put(editor, path, FILE) {
+        Err(Error::OutOfMemory) => samples::put(editor, path, FILE),
         answer => answer,
     }
 }
@@ -25,9 +25,9 @@ fn written(
     alloc: Global,
     editor: &mut Editor<Memory>,
 ) -> Result<Written, WriteError<encode::Error>> {
-    match editor.write(|tree: &Tree| tree.compute_id(alloc, HashKind::Sha1)) {
+    match samples::written(alloc, editor) {
         Ok(written) => Ok(written),
-        Err(_) => editor.write(|tree: &Tree| tree.compute_id(alloc, HashKind::Sha1)),
+        Err(_) => samples::written(alloc, editor),
     }
 }
 

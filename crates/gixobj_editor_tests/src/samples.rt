@@ -4,7 +4,7 @@ use bstr::BString;
 use gixobj_base::hash::{Kind as HashKind, ObjectId};
 use gixobj_base::tree::{Entry, EntryKind};
 use gixobj_base::{Kind, Tree, WriteTo, encode};
-use gixobj_editor::editor::{Editor, Error, Written};
+use gixobj_editor::editor::{Editor, Error, Written, WriteError};
 use gixobj_find::Memory;
 use gixobj_script::edit_on;
 use std::alloc::{AllocError, Global};
@@ -107,6 +107,15 @@ pub(crate) fn number(answer: &Result<(), Error>) -> u8 {
     }
 }
 
+/// Puts the file in at a path.
+pub(crate) fn put(
+    editor: &mut Editor<Memory>,
+    path: &[BString],
+    id: ObjectId,
+) -> Result<(), Error> {
+    editor.try_upsert(path, EntryKind::Blob, id)
+}
+
 /// The number of the refusal of an upsert of a file, or 0.
 pub(crate) fn upserted(
     alloc: Global,
@@ -115,7 +124,7 @@ pub(crate) fn upserted(
     id: ObjectId,
 ) -> Result<u8, AllocError> {
     let path = path_of(alloc, path)?;
-    Ok(number(&editor.try_upsert(&path, EntryKind::Blob, id)))
+    Ok(number(&put(editor, &path, id)))
 }
 
 /// Whether a script is run on an editor.
@@ -155,9 +164,17 @@ pub(crate) fn went_out(alloc: Global, written: &Written, ids: &[&[u8]]) -> bool 
             .is_some_and(|(id, _)| *id == written.id)
 }
 
+/// What a write hands out.
+pub(crate) fn written(
+    alloc: Global,
+    editor: &mut Editor<Memory>,
+) -> Result<Written, WriteError<encode::Error>> {
+    editor.write(|tree: &Tree| id_of(alloc, tree))
+}
+
 /// Whether a write hands out trees of these ids.
 pub(crate) fn writes(alloc: Global, editor: &mut Editor<Memory>, ids: &[&[u8]]) -> bool {
-    match editor.write(|tree: &Tree| tree.compute_id(alloc, HashKind::Sha1)) {
+    match written(alloc, editor) {
         Ok(written) => went_out(alloc, &written, ids),
         Err(_) => false,
     }
