@@ -169,7 +169,7 @@ pub(crate) fn written(
     alloc: Global,
     editor: &mut Editor<Memory>,
 ) -> Result<Written, WriteError<encode::Error>> {
-    editor.write(|tree: &Tree| id_of(alloc, tree))
+    editor.write(|tree: &Tree| tree.compute_id(alloc, HashKind::Sha1))
 }
 
 /// Whether a write hands out trees of these ids.
