@@ -1,7 +1,9 @@
 -- Loose objects, read: a header, and then a content of as many bytes as it says (gitformat-loose, "Loose object format").
-use Rattle.std.specs.Prelude.{◌≡◌, ◌⊎◌, ◌<◌, ◌≤◌, ◌^◌, ◌++◌, ℕ, List, length, ⊤}
-use Rattle.gixobj_hash.specs.Decode.{IsLooseHeader, RefusesHeader}
+use Rattle.std.specs.Prelude.{◌≡◌, ◌⊎◌, ◌≤◌, ◌^◌, ℕ, List, ⊤}
+use Rattle.gixobj_hash.specs.Decode.{BeginsWithHeader, HasContent, IsShort, RefusesHeader}
 use Rattle.gixobj_hash.specs.declared.decode.Error.{Error}
+use Rattle.gixobj_hash.specs.declared.decode.LooseContentError.{LooseContentError}
+use Rattle.gixobj_hash.specs.declared.decode.LooseContentError.TheVariants as content
 use Rattle.gixobj_hash.specs.declared.decode.LooseHeaderDecodeError.{LooseHeaderDecodeError}
 use Rattle.gixobj_hash.specs.declared.decode.LooseHeaderDecodeError.TheVariants as header
 use Rattle.gixobj_hash.specs.declared.hash.kind.Kind as hash
@@ -10,18 +12,6 @@ use Rattle.gixobj_object.specs.ObjectReading.{IsObjectText, RefusesObjectText}
 use Rattle.gixobj_object.specs.declared.object.borrowed.ObjectRef.{ObjectRef}
 use Rattle.gixobj_object.specs.declared.object.borrowed.decode.LooseDecodeError.{LooseDecodeError}
 use Rattle.gixobj_object.specs.declared.object.borrowed.decode.LooseDecodeError.TheVariants.{InvalidContent, InvalidHeader, OutOfMemory}
-
--- the input begins with a loose header of this kind and size, and the rest follows
-abbrev pub BeginsWithHeader : List ℕ → Kind → ℕ → List ℕ → Type 0
-BeginsWithHeader input kind size rest = (header : List ℕ) × (input ≡ header ++ rest) × IsLooseHeader header kind size
-
--- the input begins with a loose object of this kind and content: a header that says its length, and then it; any bytes may follow
-abbrev pub HasContent : List ℕ → Kind → List ℕ → Type 0
-HasContent input kind content = (rest : List ℕ) × BeginsWithHeader input kind (length content) (content ++ rest)
-
--- fewer bytes follow the header than it says
-abbrev pub IsShort : List ℕ → Type 0
-IsShort input = (kind : Kind) × (size : ℕ) × (rest : List ℕ) × BeginsWithHeader input kind size rest × (length rest < size)
 
 -- the header says a size that no address of 64 bits reaches
 abbrev pub IsTooLarge : List ℕ → ℕ → Type 0
@@ -40,11 +30,13 @@ abbrev pub IsInvalidHeader : LooseHeaderDecodeError → Type 0
 IsInvalidHeader (header.InvalidHeader message) = ⊤
 IsInvalidHeader _ = ⊥
 
--- why there is no content of this size in front of what follows a header: it is longer, or no address reaches its end
-abbrev pub RefusesContentSize : List ℕ → ℕ → LooseDecodeError → Type 0
-RefusesContentSize behind size (InvalidHeader error) = (length behind < size) × IsInvalidHeader error
-RefusesContentSize behind size (OutOfMemory said) = (2 ^ 64 ≤ size) × (said ≡ size)
-RefusesContentSize behind size _ = ⊥
+-- the refusal is made of that of a content: a header's is handed on; where fewer bytes follow than a header says, either the header is called
+-- invalid, or no address of 64 bits reaches the size
+abbrev pub IsContentRefusal : LooseContentError → LooseDecodeError → Type 0
+IsContentRefusal (content.Header error) it = it ≡ InvalidHeader error
+IsContentRefusal (content.Short size) (InvalidHeader error) = IsInvalidHeader error
+IsContentRefusal (content.Short size) (OutOfMemory said) = (2 ^ 64 ≤ size) × (said ≡ size)
+IsContentRefusal (content.Short size) (InvalidContent error) = ⊥
 
 -- why the input begins with no loose object: why it begins with no header, or fewer bytes follow than the header says; why the content is refused;
 -- or no memory has room for a content of this size

@@ -1,12 +1,13 @@
 //! Objects of any kind, read by their kind, or as loose objects (gitformat-loose, "Loose object format").
-ghost use Rattle.std.specs.Prelude.{◌≡◌, ◌≤◌, IfErr, IfOk, length, take};
+ghost use Rattle.std.specs.Prelude.{◌≡◌, IfErr, IfOk};
+ghost use Rattle.gixobj_hash.specs.declared.decode.LooseContentError.TheVariants.{Short};
 ghost use Rattle.gixobj_object.specs.BorrowedObjects.{HasObjectIds, IsReadyToWrite};
-ghost use Rattle.gixobj_object.specs.LooseObjects.{IsLooseObject, RefusesLooseObject, RefusesContentSize};
+ghost use Rattle.gixobj_object.specs.LooseObjects.{IsContentRefusal, IsLooseObject, RefusesLooseObject};
 ghost use Rattle.gixobj_object.specs.ObjectReading.{IsObjectText, RefusesObjectText};
 
 use super::ObjectRef;
 use gixobj_commit::CommitRef;
-use gixobj_hash::decode::{Error, LooseHeaderDecodeError, loose_header};
+use gixobj_hash::decode::{Error, LooseContentError, LooseHeaderDecodeError, loose_content};
 use gixobj_hash::{Kind, hash};
 use gixobj_tag::TagRef;
 use gixobj_tree::{BlobRef, TreeRef};
@@ -39,6 +40,17 @@ impl From<LooseHeaderDecodeError> for LooseDecodeError {
     }
 }
 
+impl From<LooseContentError> for LooseDecodeError {
+    ghost from_gives = { λ error it. IsContentRefusal error it };
+
+    fn from(error: LooseContentError) -> LooseDecodeError {
+        match error {
+            LooseContentError::Header(error) => LooseDecodeError::InvalidHeader(error),
+            LooseContentError::Short { size } => short(size),
+        }
+    }
+}
+
 impl From<Error> for LooseDecodeError {
     ghost use Rattle.gixobj_object.specs.declared.object.borrowed.decode.LooseDecodeError.TheVariants.{InvalidContent};
 
@@ -66,8 +78,7 @@ impl<'a> ObjectRef<'a> {
         ensures ready { IfOk result IsReadyToWrite }
         ensures refusal { IfErr result (RefusesLooseObject hash_kind input.now) }
     {
-        let (kind, size, used) = loose_header(alloc, input)?;
-        let content = content_of(&input[used..], size)?;
+        let (kind, content) = loose_content(alloc, input)?;
         Ok(ObjectRef::from_bytes(alloc, content, kind, hash_kind)?)
     }
 
@@ -95,21 +106,15 @@ impl<'a> ObjectRef<'a> {
     }
 }
 
-/// The content of this size at the front of what follows a header, or the refusal where fewer bytes follow, or
-/// the size passes every address.
-fn content_of(behind: &[u8], size: u64) -> Result<&[u8], LooseDecodeError>
-    ensures found { IfOk result (λ content. (size ≤ length behind.now)
-        × (content.now ≡ take size behind.now)) }
-    ensures refusal { IfErr result (RefusesContentSize behind.now size) }
+/// The refusal of an object with fewer bytes than this size, which its header says.
+fn short(size: u64) -> LooseDecodeError
+    ensures { IsContentRefusal (Short size) result }
 {
-    let Ok(len) = usize::try_from(size) else {
-        return Err(LooseDecodeError::OutOfMemory { size });
-    };
-    match behind.get(..len) {
-        Some(content) => Ok(content),
-        None => {
+    match usize::try_from(size) {
+        Ok(_) => {
             let message = "fewer bytes than the header of an object says";
-            Err(LooseHeaderDecodeError::InvalidHeader { message })?
+            LooseDecodeError::InvalidHeader(LooseHeaderDecodeError::InvalidHeader { message })
         }
+        Err(_) => LooseDecodeError::OutOfMemory { size },
     }
 }
