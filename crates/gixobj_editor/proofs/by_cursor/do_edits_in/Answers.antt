@@ -1,10 +1,9 @@
 use Rattle.std.proofs.Common.{List, Result, inr, rules, ◌≡◌}
 use Rattle.std.specs.Fn.{FnReturnsAt}
 use Rattle.gixobj_directories.specs.Calls.{names_of}
-use Rattle.gixobj_directories.specs.Openings.{AreTreesOf}
+use Rattle.gixobj_directories.specs.Openings.{OfTrees}
 use Rattle.gixobj_editor.specs.Cursors.{prefix_of}
 use Rattle.gixobj_editor.specs.Upserts.{IsForAName, IsRefused}
-use Rattle.gixobj_files.specs.Files.{Trees}
 use Rattle.gixobj_files.specs.State.{State}
 use Rattle.gixobj_files.specs.Unopened.{inside}
 use Rattle.gixobj_hash.specs.declared.hash.object_id.ObjectId.{ObjectId}
@@ -29,5 +28,5 @@ returns-in-Ok g c =
 pub returns-in-Err : goal.returns-in-Err
 returns-in-Err g c =
     let left = c.cursor_at.follows.lender-at-none in
-    let refused : ((trees : Trees) → AreTreesOf (g.S.Store.objects c.args.editor.now.store) trees → IsRefused trees c.args.editor.now (inside (prefix_of (names_of c.args.prefix.now))) left) × (IsForAName c.in-Err.error → left ≡ c.args.editor.now) = search rules in
+    let refused : OfTrees (g.S.Store.objects c.args.editor.now.store) (λ trees. IsRefused trees c.args.editor.now (inside (prefix_of (names_of c.args.prefix.now))) left) × (IsForAName c.in-Err.error → left ≡ c.args.editor.now) = search rules in
     record { replied = inr (record { left = refused.0; refusal = (c.in-Err.ensures {u = tt}).refusal }, refused.1) }
