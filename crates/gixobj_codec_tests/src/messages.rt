@@ -146,6 +146,14 @@ fn names(rt: HostRuntime) {
     }
 }
 
+/// Whether a trailer is copied.
+fn is_copied(trailer: &TrailerRef<'_>) -> bool {
+    match trailer.clone() {
+        Ok(copy) => copy == *trailer,
+        Err(_) => false,
+    }
+}
+
 #[test]
 fn order_and_hash(rt: HostRuntime) {
     let (message, same) = (
@@ -164,5 +172,5 @@ fn order_and_hash(rt: HostRuntime) {
     assert!(rt; body < BodyRef::from_bytes(b"b"));
     assert!(rt; named(b"a") == named(b"a") && named(b"a") < named(b"b"));
     assert!(rt; hash_of(&named(b"a")) == hash_of(&named(b"a")));
-    assert!(rt; named(b"a").clone().is_ok_and(|copy| copy == named(b"a")));
+    assert!(rt; is_copied(&named(b"a")));
 }
