@@ -5,7 +5,7 @@ use crate::samples::{id, path_of};
 use bstr::BString;
 use gix_object::actor::Signature;
 use gix_object::date::Time;
-use gix_object::hash::{Kind as HashKind, Kind as HashKind, ObjectId};
+use gix_object::hash::{Kind as HashKind, ObjectId};
 use gix_object::import::{Imported, Importer, Step, import_all};
 use gix_object::tree::EntryKind;
 use gix_object::tree::editor::Edit;

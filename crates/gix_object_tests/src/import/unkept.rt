@@ -5,7 +5,7 @@ use crate::import::samples::{
     COMMITS, are_commits, imports, kept_commit, number, plain_steps, step, stop_of, told_of,
 };
 use gix_object::hash::Kind as HashKind;
-use gix_object::import::{Importer, Importer, import_all};
+use gix_object::import::{Importer, import_all};
 use std::alloc::Global;
 use std::test::Fail;
 
