@@ -1,11 +1,11 @@
 //! Four rows whose answers stay the same where a growth is refused on the way, and the call is made again: what was
 //! refused has lost nothing.
 
-use crate::samples::{FILE, empty_editor, names, path_of, stored_file, self};
+use crate::samples::{self, FILE, empty_editor, names, path_of, stored_file};
 use crate::writes::stops_at_the_second;
 use bstr::BString;
-use gixobj_base::hash::Kind as HashKind;
 use gixobj_base::encode;
+use gixobj_base::hash::Kind as HashKind;
 use gixobj_base::tree::EntryKind;
 use gixobj_editor::editor::{Editor, Error, WriteError, Written};
 use gixobj_find::Memory;

@@ -4,7 +4,7 @@ use bstr::BString;
 use gixobj_base::hash::{Kind as HashKind, ObjectId};
 use gixobj_base::tree::{Entry, EntryKind};
 use gixobj_base::{Kind, Tree, WriteTo, encode};
-use gixobj_editor::editor::{Editor, Error, Written, WriteError};
+use gixobj_editor::editor::{Editor, Error, WriteError, Written};
 use gixobj_find::Memory;
 use gixobj_script::edit_on;
 use std::alloc::{AllocError, Global};
