@@ -86,15 +86,16 @@ pub use Rattle.gixobj_object.specs.Objects
 pub use Rattle.gixobj_object.specs.Stores
 pub use Rattle.gixobj_object.specs.TreeReaders
 pub use Rattle.gixobj_object.specs.declared as object
+pub use Rattle.gixobj_report.specs.Fields
+pub use Rattle.gixobj_report.specs.GpgReports
+pub use Rattle.gixobj_report.specs.Outcomes
+pub use Rattle.gixobj_report.specs.SshReports
+pub use Rattle.gixobj_report.specs.Trust
+pub use Rattle.gixobj_report.specs.declared as report
 pub use Rattle.gixobj_signature.specs.Calls as ProgramCalls
-pub use Rattle.gixobj_signature.specs.Fields
-pub use Rattle.gixobj_signature.specs.GpgReports
-pub use Rattle.gixobj_signature.specs.Outcomes
 pub use Rattle.gixobj_signature.specs.Plans
 pub use Rattle.gixobj_signature.specs.SignedBytes
 pub use Rattle.gixobj_signature.specs.Signing
-pub use Rattle.gixobj_signature.specs.SshReports
-pub use Rattle.gixobj_signature.specs.Trust
 pub use Rattle.gixobj_signature.specs.Verifiers
 pub use Rattle.gixobj_signature.specs.Verifying
 pub use Rattle.gixobj_signature.specs.VerifyingCalls

@@ -10,11 +10,11 @@ use Rattle.gix_object.specs.SshReports.{ssh_report, ssh_status}
 use Rattle.gix_object.specs.Verifiers.{OptionsView, ProgramView, SshView, by_open_pgp, by_ssh, by_x509}
 use Rattle.gix_object.specs.Verifying.{ComesOf, Verified, accepts, gpg_verify_plan, human, mismatch, not_run, principals_in, reported, ssh_verified, ssh_verify_plan, tries, unsupported, verify_plan}
 use Rattle.gix_object.specs.VerifyingCalls.{open_pgp_call, principal_call, x509_call}
-use Rattle.gix_object.specs.signature.signature.report.Outcome.{Outcome}
-use Rattle.gix_object.specs.signature.signature.report.Status.{Status}
-use Rattle.gix_object.specs.signature.signature.report.Status.TheVariants as status
-use Rattle.gix_object.specs.signature.signature.report.TrustLevel.{TrustLevel}
-use Rattle.gix_object.specs.signature.signature.report.TrustLevel.TheVariants as trust
+use Rattle.gix_object.specs.report.report.Outcome.{Outcome}
+use Rattle.gix_object.specs.report.report.Status.{Status}
+use Rattle.gix_object.specs.report.report.Status.TheVariants as status
+use Rattle.gix_object.specs.report.report.TrustLevel.{TrustLevel}
+use Rattle.gix_object.specs.report.report.TrustLevel.TheVariants as trust
 use Rattle.gix_object.specs.signature.signature.verify.Error.{Error}
 use Rattle.gix_object.specs.text.signature.Format.{Format}
 use Rattle.gix_object.specs.text.signature.Format.TheVariants as format

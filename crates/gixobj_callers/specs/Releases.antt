@@ -29,9 +29,9 @@ use Rattle.gix_object.specs.hash.decode.Error as decode
 use Rattle.gix_object.specs.hash.hash.kind.Kind as hash
 use Rattle.gix_object.specs.hash.kind.Kind.{Kind}
 use Rattle.gix_object.specs.hash.kind.Kind.TheVariants as kind
-use Rattle.gix_object.specs.signature.signature.report.Outcome.{Outcome}
-use Rattle.gix_object.specs.signature.signature.report.Status.TheVariants as status
-use Rattle.gix_object.specs.signature.signature.report.TrustLevel.TheVariants as trust
+use Rattle.gix_object.specs.report.report.Outcome.{Outcome}
+use Rattle.gix_object.specs.report.report.Status.TheVariants as status
+use Rattle.gix_object.specs.report.report.TrustLevel.TheVariants as trust
 use Rattle.gix_object.specs.signature.signature.sign.Error as sign
 use Rattle.gix_object.specs.signature.signature.sign.Error.TheVariants.{Encode}
 use Rattle.gix_object.specs.signature.signature.sign.Options.{Options}

@@ -6,7 +6,7 @@ use Rattle.bstr.specs.Owned.{bstring_bytes}
 use Rattle.bstr.specs.declared.bstring.BString.{BString}
 use Rattle.gixobj_signature.specs.Calls.{Answer, CallView, OutputView, ran, failed, no_memory}
 use Rattle.gixobj_signature.specs.Plans.{BeginsPlan, Goes, IsLeft, Plan, ask, done, no_more}
-use Rattle.gixobj_signature.specs.declared.signature.report.TrustLevel.TheVariants as trust
+use Rattle.gixobj_report.specs.declared.report.TrustLevel.TheVariants as trust
 use Rattle.gixobj_signature.specs.Verifiers.{ProgramView, SshView}
 use Rattle.gixobj_signature.specs.Verifying.{Verified, accepts, on_output, rest_plan, ssh_verified, tries}
 use Rattle.gixobj_signature.specs.VerifyingCalls.{principal_call}

@@ -1,13 +1,7 @@
 pub mod Calls
-pub mod Fields
-pub mod GpgReports
-pub mod Outcomes
 pub mod Plans
 pub mod SignedBytes
 pub mod Signing
-pub mod SshReports
-pub mod Telling
-pub mod Trust
 pub mod Verifiers
 pub mod Verifying
 pub mod VerifyingCalls

@@ -8,16 +8,16 @@ use Rattle.bstr.specs.Text.{lines_of, without_terminator}
 use Rattle.bstr.specs.Utf8.{lossy_chars}
 use Rattle.bstr.specs.declared.bstr.BStr.{BStr}
 use Rattle.gixobj_signature.specs.Calls.{Answer, CallView, Failure, OutputView, failed, no_file, no_memory, no_time, not_spawned, not_told, output_view, ran}
-use Rattle.gixobj_signature.specs.GpgReports.{gpg_report}
-use Rattle.gixobj_signature.specs.Outcomes.{OutcomeView, judged, outcome_view}
+use Rattle.gixobj_report.specs.GpgReports.{gpg_report}
+use Rattle.gixobj_report.specs.Outcomes.{OutcomeView, judged, outcome_view}
 use Rattle.gixobj_signature.specs.Plans.{Goes, Plan, ask, done, no_more}
-use Rattle.gixobj_signature.specs.SshReports.{ssh_report}
+use Rattle.gixobj_report.specs.SshReports.{ssh_report}
 use Rattle.gixobj_signature.specs.declared.signature.Output.{Output}
 use Rattle.gixobj_signature.specs.declared.signature.RunError.{RunError}
 use Rattle.gixobj_signature.specs.declared.signature.RunError.TheVariants as run
-use Rattle.gixobj_signature.specs.declared.signature.report.Outcome.{Outcome}
-use Rattle.gixobj_signature.specs.declared.signature.report.TrustLevel.{TrustLevel}
-use Rattle.gixobj_signature.specs.declared.signature.report.TrustLevel.TheVariants as trust
+use Rattle.gixobj_report.specs.declared.report.Outcome.{Outcome}
+use Rattle.gixobj_report.specs.declared.report.TrustLevel.{TrustLevel}
+use Rattle.gixobj_report.specs.declared.report.TrustLevel.TheVariants as trust
 use Rattle.gixobj_text.specs.Markers.{BeginsWithMarker, BeginsWithNoMarker}
 use Rattle.gixobj_text.specs.declared.signature.Format.{Format}
 use Rattle.gixobj_text.specs.declared.signature.Format.TheVariants as format

@@ -2,7 +2,6 @@
 //! verify.
 ghost use Rattle.gixobj_signature.specs.Calls.{answer_view, call_view};
 
-pub mod report;
 pub mod sign;
 mod signed_data;
 pub mod verify;
@@ -10,6 +9,7 @@ pub mod words;
 
 use bstr::BString;
 use gixobj_actor::date::Time;
+pub use gixobj_report::report;
 pub use signed_data::SignedData;
 
 /// A word of a call.

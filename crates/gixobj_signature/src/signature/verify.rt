@@ -8,13 +8,11 @@ ghost use Rattle.gixobj_signature.specs.Calls.{call_view};
 mod gpg;
 mod ssh;
 
-pub use crate::signature::report::{
-    Outcome, Status, TrustLevel, parse_gpg_output, parse_ssh_output,
-};
 use crate::signature::{Call, Output, RunError, Runner, SignedData};
 use bstr::{BStr, BString};
 use gixobj_actor::date::Time;
 use gixobj_hash::OutOfMemory;
+pub use gixobj_report::report::{Outcome, Status, TrustLevel, parse_gpg_output, parse_ssh_output};
 use gixobj_text::signature::Format;
 use gpg::{verify_open_pgp, verify_x509};
 use ssh::verify_if_ssh;

@@ -3,7 +3,7 @@ ghost use Rattle.std.specs.Prelude.{◌≡◌, ◌∷◌, [], IfOk, Some, map};
 ghost use Rattle.std.specs.Option.{option_map};
 ghost use Rattle.bstr.specs.Owned.{bstring_bytes};
 ghost use Rattle.gixobj_signature.specs.Calls.{call_view, output_view, word_view};
-ghost use Rattle.gixobj_signature.specs.Outcomes.{outcome_view};
+ghost use Rattle.gixobj_report.specs.Outcomes.{outcome_view};
 ghost use Rattle.gixobj_text.specs.declared.signature.Format.TheVariants as format;
 ghost use Rattle.gixobj_signature.specs.SignedBytes.{signed_bytes};
 ghost use Rattle.gixobj_signature.specs.Verifiers.{by_open_pgp, by_x509, program_of};
@@ -11,11 +11,11 @@ ghost use Rattle.gixobj_signature.specs.VerifyingCalls.{open_pgp_call, open_pgp_
 ghost use Rattle.gixobj_signature.specs.Verifying.{ComesOf, gpg_verified, gpg_verify_plan, reported, verify_plan};
 
 use super::{Error, Program, ask_one};
-use crate::signature::report::{Outcome, judge, parse_gpg_output};
 use crate::signature::words::{environment_of, text, words_of};
 use crate::signature::{Call, Output, Runner, SignedData, Word};
 use bstr::{BString, ByteSlice};
 use gixobj_hash::OutOfMemory;
+use gixobj_report::report::{Outcome, judge, parse_gpg_output};
 use gixobj_text::signature::Format;
 use std::alloc::Global;
 

@@ -3,8 +3,8 @@ ghost use Rattle.std.specs.Prelude.{◌≡◌, ◌++◌, ◌∷◌, [], IfOk, No
 ghost use Rattle.std.specs.Option.{option_map};
 ghost use Rattle.bstr.specs.Owned.{bstring_bytes};
 ghost use Rattle.gixobj_signature.specs.Calls.{output_view};
-ghost use Rattle.gixobj_signature.specs.Outcomes.{outcome_view};
-ghost use Rattle.gixobj_signature.specs.declared.signature.report.TrustLevel.TheVariants as trust;
+ghost use Rattle.gixobj_report.specs.Outcomes.{outcome_view};
+ghost use Rattle.gixobj_report.specs.declared.report.TrustLevel.TheVariants as trust;
 ghost use Rattle.gixobj_signature.specs.SignedBytes.{signed_bytes};
 ghost use Rattle.gixobj_signature.specs.Verifiers.{by_ssh, ssh_of, ssh_program_of};
 ghost use Rattle.gixobj_signature.specs.VerifyingCalls.{novalidate_call, principal_call, principals_call};
@@ -14,11 +14,11 @@ ghost use Rattle.gixobj_hash.specs.Texts.{is_filled};
 mod calls;
 
 use super::{Error, SshProgram, ask_one};
-use crate::signature::report::{Outcome, TrustLevel, judge, parse_ssh_output};
 use crate::signature::{Output, Runner, SignedData};
 use bstr::{BString, ByteSlice};
 use calls::{novalidate_call_of, principal_call_of, principals_call_of};
 use gixobj_hash::OutOfMemory;
+use gixobj_report::report::{Outcome, TrustLevel, judge, parse_ssh_output};
 use gixobj_text::signature::Format;
 use std::alloc::Global;
 

@@ -3,8 +3,8 @@ use Rattle.std.specs.Option.{option_map}
 use Rattle.bstr.specs.Owned.{bstring_bytes}
 use Rattle.gixobj_signature.specs.Calls.{output_view}
 use Rattle.gixobj_signature.specs.Plans.{Goes}
-use Rattle.gixobj_signature.specs.Outcomes.{outcome_view}
-use Rattle.gixobj_signature.specs.declared.signature.report.Outcome.{Outcome}
+use Rattle.gixobj_report.specs.Outcomes.{outcome_view}
+use Rattle.gixobj_report.specs.declared.report.Outcome.{Outcome}
 use Rattle.gixobj_signature.specs.SignedBytes.{signed_bytes}
 use Rattle.gixobj_signature.specs.Verifiers.{ssh_of, ssh_program_of}
 use Rattle.gixobj_signature.specs.Verifying.{refusal_view, reported, tries, verify_view}

@@ -1,0 +1,92 @@
+-- The field of a number stands behind so many spaces, up to the next one.
+use Rattle.std.proofs.Common.{◌≡◌, ◌≢◌, ◌∷◌, ◌++◌, ◌==◌, ◌∙◌, ◌<◌, ◌≤◌, ◌-◌, arith, [], ap, sym, true, false, cond, zero, suc, ℕ, Bool, List, Option, Some, None, refl}
+use Rattle.std.proofs.lemmas.Bool.{eqb-true}
+use Rattle.std.proofs.lemmas.List.Elements.{All-head, All-tail}
+use Rattle.std.specs.Option.{option_map}
+use Rattle.std.specs.Prelude.{slice_get}
+use Rattle.gixobj_hash.specs.Bytes.{space}
+use Rattle.gixobj_hash.specs.Texts.{IsFree, SplitsAt}
+use Rattle.gixobj_report.specs.Fields.{field_at, fields_of, first_word, if_not_empty, one_more_byte}
+use Rattle.gixobj_report.specs.Telling.{behind_some_space, behind_spaces, if_some}
+
+refuted : (t : Bool) → ¬ (t ≡ true) → t ≡ false
+refuted true other = absurd (other refl)
+refuted false other = refl
+
+no_space : (byte : ℕ) → byte ≢ space → (byte == space) ≡ false
+no_space byte other = refuted (byte == space) (λ yes. other (eqb-true byte space yes))
+
+-- the first word is what stands before the first space, or all
+word_before : (front rest line : List ℕ) → IsFree space front → line ≡ front ++ space ∷ rest → front ≡ first_word line
+word_before [] rest line free is = sym (ap first_word is)
+word_before (byte ∷ front) rest line free is =
+    let other : (byte == space) ≡ false = no_space byte (All-head (λ it. it ≢ space) byte front free) in
+    ap (λ (xs : List ℕ). byte ∷ xs) (word_before front rest (front ++ space ∷ rest) (All-tail (λ it. it ≢ space) byte front free) refl)
+    ∙ sym (ap first_word is ∙ ap (λ (t : Bool). cond t [] (byte ∷ first_word (front ++ space ∷ rest))) other)
+
+pub word_alone : (line : List ℕ) → IsFree space line → line ≡ first_word line
+word_alone [] free = refl
+word_alone (byte ∷ line) free =
+    let other : (byte == space) ≡ false = no_space byte (All-head (λ it. it ≢ space) byte line free) in
+    ap (λ (xs : List ℕ). byte ∷ xs) (word_alone line (All-tail (λ it. it ≢ space) byte line free))
+    ∙ sym (ap (λ (t : Bool). cond t [] (byte ∷ first_word line)) other)
+
+pub word_split : (front rest line : List ℕ) → SplitsAt space line front rest → front ≡ first_word line
+word_split front rest line splits = word_before front rest line splits.first splits.joined
+
+-- the field of number 0
+one_first : (byte : ℕ) (fields : List (List ℕ)) (word : List ℕ) → slice_get fields 0 ≡ Some word → slice_get (one_more_byte byte fields) 0 ≡ Some (byte ∷ word)
+one_first byte [] word is = cc is
+one_first byte (field ∷ fields) word is = cc is
+
+first_of : (t : Bool) (byte : ℕ) (fields : List (List ℕ)) (word : List ℕ) → slice_get fields 0 ≡ Some word
+    → slice_get (cond t ([] ∷ fields) (one_more_byte byte fields)) 0 ≡ Some (cond t [] (byte ∷ word))
+first_of true byte fields word is = refl
+first_of false byte fields word is = one_first byte fields word is
+
+first_field : (line : List ℕ) → slice_get (fields_of line) 0 ≡ Some (first_word line)
+first_field [] = refl
+first_field (byte ∷ rest) = first_of (byte == space) byte (fields_of rest) (first_word rest) (first_field rest)
+
+-- a later one is that of the number before in what stands behind the first space
+one_later : (byte number : ℕ) (fields : List (List ℕ)) → slice_get (one_more_byte byte fields) (suc number) ≡ slice_get fields (suc number)
+one_later byte number [] = refl
+one_later byte number (field ∷ fields) = refl
+
+later_of : (t : Bool) (byte number : ℕ) (fields : List (List ℕ)) (rest : List ℕ) (more : Option (List ℕ)) → slice_get fields number ≡ slice_get (fields_of rest) number
+    → slice_get fields (suc number) ≡ if_some (λ it. slice_get (fields_of it) number) more
+    → slice_get (cond t ([] ∷ fields) (one_more_byte byte fields)) (suc number) ≡ if_some (λ it. slice_get (fields_of it) number) (cond t (Some rest) more)
+later_of true byte number fields rest more same later = same
+later_of false byte number fields rest more same later = one_later byte number fields ∙ later
+
+later_fields : (number : ℕ) (line : List ℕ) → slice_get (fields_of line) (suc number) ≡ if_some (λ it. slice_get (fields_of it) number) (behind_some_space line)
+later_fields number [] = refl
+later_fields number (byte ∷ rest) = later_of (byte == space) byte number (fields_of rest) rest (behind_some_space rest) refl (later_fields number rest)
+
+field_behind : (number : ℕ) (more : Option (List ℕ)) → ((it : List ℕ) → slice_get (fields_of it) number ≡ option_map first_word (behind_spaces number it))
+    → if_some (λ it. slice_get (fields_of it) number) more ≡ option_map first_word (if_some (behind_spaces number) more)
+field_behind number None here = refl
+field_behind number (Some it) here = here it
+
+fields_behind_spaces : (number : ℕ) (line : List ℕ) → slice_get (fields_of line) number ≡ option_map first_word (behind_spaces number line)
+fields_behind_spaces zero line = first_field line
+fields_behind_spaces (suc number) line = later_fields number line ∙ field_behind number (behind_some_space line) (fields_behind_spaces number)
+
+pub field_so : (number : ℕ) (line : List ℕ) (behind_them : Option (List ℕ)) → behind_them ≡ behind_spaces number line
+    → field_at number (fields_of line) ≡ if_not_empty (option_map first_word behind_them)
+field_so number line behind_them is = ap if_not_empty (fields_behind_spaces number line ∙ ap (option_map first_word) (sym is))
+
+-- the walk over spaces: one passed, none left to pass, or none there
+pub spaces_more : (left : ℕ) (line next : List ℕ) (whole : Option (List ℕ)) → 0 < left → Some next ≡ behind_some_space line → behind_spaces left line ≡ whole → behind_spaces (left - 1) next ≡ whole
+spaces_more zero line next whole some is same = absurd (omega arith)
+spaces_more (suc left) line next whole some is same =
+    let one : suc left - 1 ≡ left = omega arith in
+    ap (λ m. behind_spaces m next) one ∙ ap (if_some (behind_spaces left)) is ∙ same
+
+pub spaces_none : (left : ℕ) (line : List ℕ) (whole : Option (List ℕ)) → left ≤ 0 → behind_spaces left line ≡ whole → Some line ≡ whole
+spaces_none zero line whole none same = same
+spaces_none (suc left) line whole none same = absurd (omega arith)
+
+pub spaces_out : (left : ℕ) (line : List ℕ) (whole : Option (List ℕ)) → 0 < left → None ≡ behind_some_space line → behind_spaces left line ≡ whole → None ≡ whole
+spaces_out zero line whole some is same = absurd (omega arith)
+spaces_out (suc left) line whole some is same = ap (if_some (behind_spaces left)) is ∙ same

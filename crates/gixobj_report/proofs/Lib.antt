@@ -1,0 +1,4 @@
+mod FieldPlaces
+mod LastPlaces
+mod Rows
+mod Told

@@ -1,0 +1,115 @@
+-- Reports of stated texts, read off the definitions by computing.
+use Rattle.std.proofs.Common.{◌≡◌, List, [], ◌++◌, None, Some, ℕ, codes, refl}
+use Rattle.bstr.proofs.Computing.{computing}
+use Rattle.gixobj_text.specs.declared.signature.Format.TheVariants as format
+use Rattle.gixobj_report.specs.GpgReports.{gpg_report}
+use Rattle.gixobj_report.specs.Outcomes.{OutcomeView}
+use Rattle.gixobj_report.specs.SshReports.{ssh_report}
+use Rattle.gixobj_report.specs.Trust.{trust_of}
+use Rattle.gixobj_report.specs.declared.report.Status.TheVariants as status
+use Rattle.gixobj_report.specs.declared.report.TrustLevel.TheVariants as trust
+
+-- ---- OpenPGP
+
+abbrev good_lines : List ℕ
+good_lines = codes "[GNUPG:] GOODSIG 0123456789ABCDEF Fixture Signer\n[GNUPG:] VALIDSIG FINGERPRINT 0 0 0 0 0 0 0 0 PRIMARY\n[GNUPG:] TRUST_FULLY 0 pgp\n"
+
+abbrev two_lines : List ℕ
+two_lines = good_lines ++ codes "[GNUPG:] GOODSIG A B\n"
+
+abbrev good : OutcomeView
+good = gpg_report format.OpenPgp [] good_lines
+
+abbrev two : OutcomeView
+two = gpg_report format.OpenPgp [] two_lines
+
+good_status : good.status ≡ status.Good
+unfolding computing
+good_status = refl
+
+good_trust : good.trust_level ≡ trust.Fully
+unfolding computing
+good_trust = refl
+
+good_key : good.key ≡ Some (codes "0123456789ABCDEF")
+unfolding computing
+good_key = refl
+
+good_signer : good.signer ≡ Some (codes "Fixture Signer")
+unfolding computing
+good_signer = refl
+
+good_fingerprint : good.fingerprint ≡ Some (codes "FINGERPRINT")
+unfolding computing
+good_fingerprint = refl
+
+good_primary : good.primary_key_fingerprint ≡ Some (codes "PRIMARY")
+unfolding computing
+good_primary = refl
+
+-- a second status is an error, and hides neither the trust nor the fingerprints
+two_status : two.status ≡ status.Error
+unfolding computing
+two_status = refl
+
+two_key : two.key ≡ None
+unfolding computing
+two_key = refl
+
+two_signer : two.signer ≡ None
+unfolding computing
+two_signer = refl
+
+two_trust : two.trust_level ≡ trust.Fully
+unfolding computing
+two_trust = refl
+
+two_fingerprint : two.fingerprint ≡ Some (codes "FINGERPRINT")
+unfolding computing
+two_fingerprint = refl
+
+two_primary : two.primary_key_fingerprint ≡ Some (codes "PRIMARY")
+unfolding computing
+two_primary = refl
+
+-- ---- SSH
+
+abbrev ssh_good : OutcomeView
+ssh_good = ssh_report (codes "Good \"git\" signature for Fixture Signer with ED25519 key SHA256:fixture\n") (Some (codes "Fixture Signer")) trust.Fully
+
+abbrev ssh_bad : OutcomeView
+ssh_bad = ssh_report (codes "invalid signature") None trust.Undefined
+
+ssh_good_status : ssh_good.status ≡ status.Good
+unfolding computing
+ssh_good_status = refl
+
+ssh_good_key : ssh_good.key ≡ Some (codes "SHA256:fixture")
+unfolding computing
+ssh_good_key = refl
+
+ssh_good_fingerprint : ssh_good.fingerprint ≡ Some (codes "SHA256:fixture")
+unfolding computing
+ssh_good_fingerprint = refl
+
+ssh_bad_status : ssh_bad.status ≡ status.Bad
+unfolding computing
+ssh_bad_status = refl
+
+ssh_bad_key : ssh_bad.key ≡ None
+unfolding computing
+ssh_bad_key = refl
+
+-- ---- trust
+
+never : trust_of (codes "NEVER") ≡ Some trust.Never
+unfolding computing
+never = refl
+
+marginal : trust_of (codes "Marginal") ≡ Some trust.Marginal
+unfolding computing
+marginal = refl
+
+unknown : trust_of (codes "unknown") ≡ None
+unfolding computing
+unknown = refl

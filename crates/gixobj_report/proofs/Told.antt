@@ -1,0 +1,51 @@
+-- Lines that are told to programs: what all of them say, from what one after the other says.
+use Rattle.std.proofs.Common.{◌≡◌, ◌∷◌, ◌∙◌, [], ap, sym, codes, List, ℕ, Option, Some, None, refl, map}
+use Rattle.std.specs.List.{cons_option, filter_map}
+use Rattle.bstr.specs.Text.{lines_of, without_terminator}
+use Rattle.gixobj_report.specs.Fields.{behind, either, last_of}
+use Rattle.gixobj_report.specs.GpgReports.{fields_said, status_of, told_lines, trust_in, trust_said, valid_fields}
+use Rattle.gixobj_report.specs.Telling.{behind_from, said_behind, status_from, statuses_in, told_behind}
+
+-- a list that isn't empty has a last, whatever stood before it
+last_there : {X : Type 0} (x : X) (xs : List X) (a b : Option X) → either (last_of (x ∷ xs)) a ≡ either (last_of (x ∷ xs)) b
+last_there x [] a b = refl
+last_there x (y ∷ ys) a b = last_there y ys a b
+
+last_more : {X : Type 0} (x : X) (xs : List X) (a : Option X) → either (last_of (x ∷ xs)) a ≡ either (last_of xs) (Some x)
+last_more x [] a = refl
+last_more x (y ∷ ys) a = last_there y ys a (Some x)
+
+last_cons : {X : Type 0} (x : Option X) (xs : List X) (found : Option X) → either (last_of (cons_option x xs)) found ≡ either (last_of xs) (either x found)
+last_cons (Some x) xs found = last_more x xs found
+last_cons None xs found = refl
+
+-- a walk has one line behind it: what it found is what that line says, or what was found before
+pub one_line_more : (text line : List ℕ) (lines rest : List (List ℕ)) (found next total : Option (List ℕ)) → lines ≡ line ∷ rest → next ≡ either (told_behind text line) found
+    → either (last_of (said_behind text lines)) found ≡ total → either (last_of (said_behind text rest)) next ≡ total
+one_line_more text line lines rest found next total is gives whole =
+    ap (either (last_of (said_behind text rest))) gives
+    ∙ sym (last_cons (told_behind text line) (said_behind text rest) found)
+    ∙ ap (λ (ls : List (List ℕ)). either (last_of (said_behind text ls)) found) (sym is) ∙ whole
+
+-- to take the told lines and then what each says is one walk over all lines
+both_of : {X Y Z : Type 0} (f : X → Option Y) (g : Y → Option Z) (h : Option Y → Option Z) → h None ≡ None → ((y : Y) → h (Some y) ≡ g y)
+    → (y : Option Y) (ys : List Y) (zs : List Z) → filter_map g ys ≡ zs → filter_map g (cons_option y ys) ≡ cons_option (h y) zs
+both_of f g h none some None ys zs same = same ∙ ap (λ (z : Option _). cons_option z zs) (sym none)
+both_of f g h none some (Some y) ys zs same = ap (cons_option (g y)) same ∙ ap (λ (z : Option _). cons_option z zs) (sym (some y))
+
+one_walk : {X Y Z : Type 0} (f : X → Option Y) (g : Y → Option Z) (h : Option Y → Option Z) → h None ≡ None → ((y : Y) → h (Some y) ≡ g y)
+    → (xs : List X) → filter_map g (filter_map f xs) ≡ filter_map (λ x. h (f x)) xs
+one_walk f g h none some [] = refl
+one_walk f g h none some (x ∷ xs) = both_of f g h none some (f x) (filter_map f xs) (filter_map (λ x. h (f x)) xs) (one_walk f g h none some xs)
+
+said_so : (text raw : List ℕ) → filter_map (λ line. behind text line) (told_lines raw) ≡ said_behind text (map without_terminator (lines_of raw))
+said_so text raw = one_walk (λ line. behind (codes "[GNUPG:] ") line) (λ line. behind text line) (behind_from text) refl (λ y. refl) (map without_terminator (lines_of raw))
+
+pub statuses_so : (raw : List ℕ) → filter_map status_of (told_lines raw) ≡ statuses_in (map without_terminator (lines_of raw))
+statuses_so raw = one_walk (λ line. behind (codes "[GNUPG:] ") line) status_of status_from refl (λ y. refl) (map without_terminator (lines_of raw))
+
+pub trust_so : (raw : List ℕ) → trust_in (told_lines raw) ≡ trust_said (last_of (said_behind (codes "TRUST_") (map without_terminator (lines_of raw))))
+trust_so raw = ap (λ (xs : List (List ℕ)). trust_said (last_of xs)) (said_so (codes "TRUST_") raw)
+
+pub valid_so : (raw : List ℕ) → valid_fields (told_lines raw) ≡ fields_said (last_of (said_behind (codes "VALIDSIG ") (map without_terminator (lines_of raw))))
+valid_so raw = ap (λ (xs : List (List ℕ)). fields_said (last_of xs)) (said_so (codes "VALIDSIG ") raw)

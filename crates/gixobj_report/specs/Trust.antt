@@ -1,0 +1,26 @@
+-- How far the key of a signature is trusted (git-config, "gpg.minTrustLevel").
+use Rattle.std.specs.Prelude.{ℕ, List, Option, Some, None, cond, codes}
+use Rattle.std.specs.Str.{str_eq_ignore_ascii_case}
+use Rattle.gixobj_report.specs.declared.report.TrustLevel.{TrustLevel}
+use Rattle.gixobj_report.specs.declared.report.TrustLevel.TheVariants as trust
+
+-- the level of this name, whatever the case of its letters
+abbrev pub trust_of : List ℕ → Option TrustLevel
+trust_of name =
+    cond (str_eq_ignore_ascii_case name (codes "undefined")) (Some trust.Undefined)
+    (cond (str_eq_ignore_ascii_case name (codes "never")) (Some trust.Never)
+    (cond (str_eq_ignore_ascii_case name (codes "marginal")) (Some trust.Marginal)
+    (cond (str_eq_ignore_ascii_case name (codes "fully")) (Some trust.Fully)
+    (cond (str_eq_ignore_ascii_case name (codes "ultimate")) (Some trust.Ultimate) None))))
+
+abbrev pub or_undefined : Option TrustLevel → TrustLevel
+or_undefined (Some level) = level
+or_undefined None = trust.Undefined
+
+-- the place of a level among them, the least first
+abbrev pub level : TrustLevel → ℕ
+level trust.Undefined = 0
+level trust.Never = 1
+level trust.Marginal = 2
+level trust.Fully = 3
+level trust.Ultimate = 4

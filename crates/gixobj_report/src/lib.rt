@@ -1,0 +1,5 @@
+//! What verifiers report of a signature, and whether it is accepted (gnupg, doc/DETAILS; ssh-keygen(1), `-Y verify`;
+//! git-config, `gpg.minTrustLevel`).
+#![tactic(auto)]
+
+pub mod report;
