@@ -4,22 +4,15 @@ pub use Rattle.gixobj_actor.specs.Date
 pub use Rattle.gixobj_actor.specs.declared as actor
 pub use Rattle.gixobj_commit.specs.Commit
 pub use Rattle.gixobj_commit.specs.CommitOwned
-pub use Rattle.gixobj_commit.specs.CommitRuns
 pub use Rattle.gixobj_commit.specs.CommitSigning
-pub use Rattle.gixobj_commit.specs.CommitTokens
 pub use Rattle.gixobj_commit.specs.CommitViews
 pub use Rattle.gixobj_commit.specs.CommitWriting
 pub use Rattle.gixobj_commit.specs.ExtraHeaders
-pub use Rattle.gixobj_commit.specs.Extracting
 pub use Rattle.gixobj_commit.specs.HeadersLeft
 pub use Rattle.gixobj_commit.specs.Lines
 pub use Rattle.gixobj_commit.specs.Mergetags
 pub use Rattle.gixobj_commit.specs.ParentsLeft
-pub use Rattle.gixobj_commit.specs.Readers
 pub use Rattle.gixobj_commit.specs.Rewriting
-pub use Rattle.gixobj_commit.specs.TokenFilters
-pub use Rattle.gixobj_commit.specs.TokenGiving
-pub use Rattle.gixobj_commit.specs.TokenPassing
 pub use Rattle.gixobj_commit.specs.declared as commit
 pub use Rattle.gixobj_directories.specs.Calls
 pub use Rattle.gixobj_directories.specs.Handing
@@ -86,6 +79,18 @@ pub use Rattle.gixobj_object.specs.Objects
 pub use Rattle.gixobj_object.specs.Stores
 pub use Rattle.gixobj_object.specs.TreeReaders
 pub use Rattle.gixobj_object.specs.declared as object
+pub use Rattle.gixobj_ref_iter.specs.CommitRuns
+pub use Rattle.gixobj_ref_iter.specs.CommitTokens
+pub use Rattle.gixobj_ref_iter.specs.Extracting
+pub use Rattle.gixobj_ref_iter.specs.Readers
+pub use Rattle.gixobj_ref_iter.specs.TagExtracting
+pub use Rattle.gixobj_ref_iter.specs.TagReaders
+pub use Rattle.gixobj_ref_iter.specs.TagTokenGiving
+pub use Rattle.gixobj_ref_iter.specs.TagTokens
+pub use Rattle.gixobj_ref_iter.specs.TokenFilters
+pub use Rattle.gixobj_ref_iter.specs.TokenGiving
+pub use Rattle.gixobj_ref_iter.specs.TokenPassing
+pub use Rattle.gixobj_ref_iter.specs.declared as ref_iter
 pub use Rattle.gixobj_report.specs.Fields
 pub use Rattle.gixobj_report.specs.GpgReports
 pub use Rattle.gixobj_report.specs.Outcomes
@@ -106,17 +111,13 @@ pub use Rattle.gixobj_signed.specs.OneMarker
 pub use Rattle.gixobj_signed.specs.SignedTexts
 pub use Rattle.gixobj_tag.specs.LineReading
 pub use Rattle.gixobj_tag.specs.NameRule
-pub use Rattle.gixobj_tag.specs.Readers as TagReaders
 pub use Rattle.gixobj_tag.specs.Rewriting as TagRewriting
 pub use Rattle.gixobj_tag.specs.Signed
-pub use Rattle.gixobj_tag.specs.TagExtracting
 pub use Rattle.gixobj_tag.specs.TagOwned
 pub use Rattle.gixobj_tag.specs.TagSigning
 pub use Rattle.gixobj_tag.specs.TagText
-pub use Rattle.gixobj_tag.specs.TagTokens
 pub use Rattle.gixobj_tag.specs.TagViews
 pub use Rattle.gixobj_tag.specs.TagWriting
-pub use Rattle.gixobj_tag.specs.TokenGiving as TagTokenGiving
 pub use Rattle.gixobj_tag.specs.declared as tag
 pub use Rattle.gixobj_text.specs.Blocks
 pub use Rattle.gixobj_text.specs.Bodies

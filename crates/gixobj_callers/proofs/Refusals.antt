@@ -9,7 +9,7 @@ use Rattle.gix_object.specs.Streams.{SinkView}
 use Rattle.gix_object.specs.TokenPassing.{FindsFault, IsMessageToken}
 use Rattle.gix_object.specs.TreeReading.{IsTreeText, RefusesTreeText}
 use Rattle.gix_object.specs.Writing.{FailsAsSink}
-use Rattle.gix_object.specs.commit.ref_iter.CommitRefIter.{CommitRefIter}
+use Rattle.gix_object.specs.ref_iter.commit.CommitRefIter.{CommitRefIter}
 use Rattle.gix_object.specs.fields.encode.Error as encode
 use Rattle.gix_object.specs.fields.encode.Error.TheVariants as written
 use Rattle.gix_object.specs.hash.decode.Error.{Error}

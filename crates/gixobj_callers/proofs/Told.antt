@@ -8,10 +8,10 @@ use Rattle.gix_object.specs.TagTokenGiving.{GivesTagToken, IsAtStartOfTag, Tells
 use Rattle.gix_object.specs.TagTokens.{HasTagToken, TagTokenView, kind_token, name_token, tag_token_view, target_token}
 use Rattle.gix_object.specs.hash.hash.kind.Kind.{Kind}
 use Rattle.gix_object.specs.hash.hash.object_id.ObjectId.{ObjectId}
-use Rattle.gix_object.specs.tag.ref_iter.State.{State}
-use Rattle.gix_object.specs.tag.ref_iter.State.TheVariants as state
-use Rattle.gix_object.specs.tag.ref_iter.TagRefIter.{TagRefIter}
-use Rattle.gix_object.specs.tag.ref_iter.Token.{Token}
+use Rattle.gix_object.specs.ref_iter.tag.State.{State}
+use Rattle.gix_object.specs.ref_iter.tag.State.TheVariants as state
+use Rattle.gix_object.specs.ref_iter.tag.TagRefIter.{TagRefIter}
+use Rattle.gix_object.specs.ref_iter.tag.Token.{Token}
 use Rattle.gixobj_callers.specs.Told.{IsToTell}
 
 -- ---- the laws, as their functions state them

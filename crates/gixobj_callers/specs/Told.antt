@@ -3,7 +3,7 @@ use Rattle.std.specs.Prelude.{List}
 use Rattle.gix_object.specs.Runs.{complete}
 use Rattle.gix_object.specs.TagTokenGiving.{TellsTag, standing_in_tag}
 use Rattle.gix_object.specs.TagTokens.{TagTokenView}
-use Rattle.gix_object.specs.tag.ref_iter.TagRefIter.{TagRefIter}
+use Rattle.gix_object.specs.ref_iter.tag.TagRefIter.{TagRefIter}
 
 -- these tokens come, to the end of the reader's bytes
 abbrev pub IsToTell : TagRefIter → List TagTokenView → Type 0

@@ -4,7 +4,8 @@ pub mod message;
 
 pub use gixobj_commit::commit::{Commit, CommitRef};
 pub use gixobj_commit::{
-    BorrowedHeaders, CommitRefIter, ExtraHeaders, FindAll, Mergetags, OwnedHeaders, Parents,
-    SIGNATURE_FIELD_NAME, SIGNATURE_FIELD_NAME_SHA256, ref_iter, signature_field_name,
+    BorrowedHeaders, ExtraHeaders, FindAll, Mergetags, OwnedHeaders, Parents, SIGNATURE_FIELD_NAME,
+    SIGNATURE_FIELD_NAME_SHA256, signature_field_name,
 };
+pub use gixobj_ref_iter::{CommitRefIter, commit as ref_iter};
 pub use gixobj_text::commit::MessageRef;

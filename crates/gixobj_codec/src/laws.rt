@@ -3,7 +3,7 @@
 pub use gixobj_commit::laws::{
     borrowed_headers_are_found, borrowed_mergetags_are_found, commit_has_one_reading,
     commit_reads_and_writes, commit_writes_back, owned_forms_have_the_parts,
-    owned_headers_are_found, owned_mergetags_are_found, readers, tokens,
+    owned_headers_are_found, owned_mergetags_are_found,
 };
 pub use gixobj_fields::laws::header_reads_back;
 pub use gixobj_hash::laws::hex_spells_one_id;
@@ -11,10 +11,12 @@ pub use gixobj_object::laws::{
     an_object_is_put_in, bytes_left_end_the_text, entries_are_passed, ids_are_the_same_or_not,
     tree_readers_read_one_language,
 };
+pub use gixobj_ref_iter::laws::{
+    parts_of_tags_are_found, readers, tag_readers_read_one_language, tag_tokens_are_passed,
+    tag_tokens_have_one_reading, tokens,
+};
 pub use gixobj_tag::laws::{
-    owned_tags_have_the_parts, parts_of_tags_are_found, tag_has_one_reading,
-    tag_readers_read_one_language, tag_reads_and_writes, tag_tokens_are_passed,
-    tag_tokens_have_one_reading, tag_writes_back,
+    owned_tags_have_the_parts, tag_has_one_reading, tag_reads_and_writes, tag_writes_back,
 };
 pub use gixobj_text::laws::{
     bodies_have_one_block_start, bodies_have_one_list_of_blocks, messages_are_split_once,

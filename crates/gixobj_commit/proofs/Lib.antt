@@ -1,6 +1,5 @@
 mod CommitSigned
 mod CommitWrites
-mod CommitsFound
 pub mod CommitsRead
 mod HeaderSearches
 pub mod HeadersFound
@@ -8,14 +7,8 @@ mod HexFields
 mod LineRefusals
 pub mod LinesTold
 mod MergetagsFound
-mod OneLanguage
 pub mod OneLine
 pub mod ParentHexes
-mod ParentsFound
-mod Seeking
-mod TokenRuns
-mod Tokens
-mod Walks
 pub mod WholeCommits
 mod WritingBack
 mod WrittenBack

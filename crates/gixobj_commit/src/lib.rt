@@ -1,5 +1,5 @@
-//! Commits, read whole and token by token, made owned and written (gitdatamodel, "commits"). Both readers stand on the
-//! reader of one line, in [`lines`].
+//! Commits, read whole, made owned, signed and written (gitdatamodel, "commits"). The reader stands on the reader of one
+//! line, in [`lines`], as that of tokens does, in a crate above.
 #![tactic(auto)]
 
 pub mod commit;
@@ -7,7 +7,6 @@ mod extra_headers;
 pub mod laws;
 pub mod lines;
 mod parents;
-pub mod ref_iter;
 
 pub use commit::{Commit, CommitRef};
 pub use extra_headers::{
@@ -15,4 +14,3 @@ pub use extra_headers::{
     SIGNATURE_FIELD_NAME_SHA256, signature_field_name,
 };
 pub use parents::Parents;
-pub use ref_iter::CommitRefIter;

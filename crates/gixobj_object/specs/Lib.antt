@@ -11,18 +11,18 @@ pub use Rattle.gixobj_commit.specs.Commit
 pub use Rattle.gixobj_commit.specs.CommitOwned
 pub use Rattle.gixobj_commit.specs.CommitViews
 pub use Rattle.gixobj_commit.specs.CommitWriting
-pub use Rattle.gixobj_commit.specs.TokenGiving
 pub use Rattle.gixobj_fields.specs.Streams
 pub use Rattle.gixobj_fields.specs.Writing
 pub use Rattle.gixobj_hash.specs.Decode
 pub use Rattle.gixobj_hash.specs.Encode
 pub use Rattle.gixobj_hash.specs.Hash
 pub use Rattle.gixobj_hash.specs.Kind
+pub use Rattle.gixobj_ref_iter.specs.TagTokenGiving
+pub use Rattle.gixobj_ref_iter.specs.TokenGiving
 pub use Rattle.gixobj_tag.specs.TagOwned
 pub use Rattle.gixobj_tag.specs.TagText
 pub use Rattle.gixobj_tag.specs.TagViews
 pub use Rattle.gixobj_tag.specs.TagWriting
-pub use Rattle.gixobj_tag.specs.TokenGiving as TagTokenGiving
 pub use Rattle.gixobj_tree.specs.TreeReading
 pub use Rattle.gixobj_tree.specs.TreeText
 pub use Rattle.gixobj_tree.specs.TreeViews

@@ -4,17 +4,16 @@ ghost use Rattle.gixobj_hash.specs.declared.kind.Kind.TheVariants as object;
 ghost use Rattle.gixobj_object.specs.EntryGiving.{IsAtEntry};
 ghost use Rattle.gixobj_object.specs.BorrowedObjects.{HasObjectIds, IsReadyToWrite};
 ghost use Rattle.gixobj_object.specs.ObjectReading.{IsObjectText, RefusesObjectText};
-ghost use Rattle.gixobj_tag.specs.TokenGiving.{IsAtStartOfTag};
-ghost use Rattle.gixobj_commit.specs.TokenGiving.{IsAtStartOfCommit};
+ghost use Rattle.gixobj_ref_iter.specs.TagTokenGiving.{IsAtStartOfTag};
+ghost use Rattle.gixobj_ref_iter.specs.TokenGiving.{IsAtStartOfCommit};
 
 pub mod verify;
 
 use crate::ObjectRef;
 use crate::tree::TreeRefIter;
-use gixobj_commit::CommitRefIter;
 use gixobj_hash::decode::Error;
 use gixobj_hash::{Kind, hash};
-use gixobj_tag::TagRefIter;
+use gixobj_ref_iter::{CommitRefIter, TagRefIter};
 use std::alloc::Global;
 
 /// The content of an object, borrowed, with its kind and the kind of its ids.

@@ -25,7 +25,7 @@ use Rattle.gixobj_commit.specs.declared.lines.State.{State}
 use Rattle.gixobj_commit.specs.declared.lines.State.TheVariants as state
 use Rattle.gixobj_hash.specs.Bytes.{newline, space}
 use Rattle.gixobj_hash.specs.Texts.{IsFree}
-use Rattle.gixobj_commit.specs.Extracting.{HasCommitSignature, IsNamedLine}
+use Rattle.gixobj_ref_iter.specs.Extracting.{HasCommitSignature, IsNamedLine}
 use Rattle.gixobj_commit.specs.CommitSigning.{is_header_named, with_signature, without_headers}
 use Rattle.gixobj_signed.specs.LineFields.{HasHeaderNames, HasLineFields, IsOneLine}
 

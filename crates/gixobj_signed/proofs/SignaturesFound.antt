@@ -16,7 +16,7 @@ use Rattle.gixobj_commit.specs.Lines.{HasLine, LineView}
 use Rattle.gixobj_commit.specs.declared.lines.State.{State}
 use Rattle.gixobj_commit.specs.declared.lines.State.TheVariants as state
 use Rattle.gixobj_signed.proofs.CommitsExtracted.{Blocks, IsBlockLine, block_line, comes_last, comes_more, ends_at_header, join, no_block, read_again, signature_name, signed_text, the_header, unsigned_front, written_blocks, written_header}
-use Rattle.gixobj_commit.specs.Extracting.{HasNoSignature, IsNamedLine, RefusesCommitSignature}
+use Rattle.gixobj_ref_iter.specs.Extracting.{HasNoSignature, IsNamedLine, RefusesCommitSignature}
 use Rattle.gixobj_commit.specs.CommitSigning.{with_signature}
 use Rattle.gixobj_signed.specs.LineFields.{HasHeaderNames, HasLineFields}
 

@@ -12,13 +12,13 @@ use Rattle.gixobj_signature.specs.Plans.{Carries}
 use Rattle.gixobj_signature.specs.Signing.{options_view, sign_plan, signature}
 use Rattle.gixobj_signature.specs.declared.signature.sign.Error.{Error}
 use Rattle.gixobj_signature.specs.declared.signature.sign.Options.{Options}
-use Rattle.gixobj_tag.specs.TagExtracting as tags
+use Rattle.gixobj_ref_iter.specs.TagExtracting as tags
 use Rattle.gixobj_tag.specs.TagSigning as tag
 use Rattle.gixobj_tag.specs.TagText.{TagLines}
 use Rattle.gixobj_tag.specs.TagViews as tag_views
 use Rattle.gixobj_tag.specs.TagWriting.{tag_text}
 use Rattle.gixobj_tag.specs.declared.tag.Tag.{Tag}
-use Rattle.gixobj_commit.specs.Extracting as commits
+use Rattle.gixobj_ref_iter.specs.Extracting as commits
 use Rattle.gixobj_signed.proofs.CommitsExtracted.{payload_extracted}
 use Rattle.gixobj_signed.proofs.SignaturesFound.{signature_is_there}
 use Rattle.gixobj_signed.proofs.TagsExtracted.{tag_payload_extracted}

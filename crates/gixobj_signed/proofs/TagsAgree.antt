@@ -11,7 +11,7 @@ use Rattle.gixobj_text.proofs.MarkerPlaces.{not_both, one_format, one_marker_pla
 use Rattle.gixobj_text.specs.Markers.{BeginsWithMarker, HasNoMarker, IsMarkerOf, IsMarkerPlace, MarksPlace, StartsLine, pgp_message, pgp_signature, signed_message, ssh_signature}
 use Rattle.gixobj_text.specs.declared.signature.Format.{Format}
 use Rattle.gixobj_text.specs.declared.signature.SignatureRef.{SignatureRef}
-use Rattle.gixobj_tag.specs.TagExtracting.{GivesSignatureOfTag, HasTagSignature}
+use Rattle.gixobj_ref_iter.specs.TagExtracting.{GivesSignatureOfTag, HasTagSignature}
 use Rattle.gixobj_tag.proofs.WholeTags.{Reads, take_apart}
 use Rattle.gixobj_tag.specs.LineReading.{HasTagger}
 use Rattle.gixobj_tag.specs.Signed.{IsSignature}

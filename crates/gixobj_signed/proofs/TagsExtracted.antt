@@ -5,7 +5,7 @@ use Rattle.gixobj_text.specs.Markers.{BeginsWithMarker, IsMarkerPlace, MarksPlac
 use Rattle.gixobj_text.specs.declared.signature.Format.{Format}
 use Rattle.gixobj_tag.specs.TagText.{TagLines, lines_text}
 use Rattle.gixobj_tag.specs.TagWriting.{message_text, tag_text}
-use Rattle.gixobj_tag.specs.TagExtracting.{HasTagSignature}
+use Rattle.gixobj_ref_iter.specs.TagExtracting.{HasTagSignature}
 use Rattle.gixobj_tag.specs.TagSigning.{payload_of_tag, signed_as}
 use Rattle.gixobj_signed.specs.OneMarker.{HasOneMarker}
 

@@ -7,8 +7,8 @@ use Rattle.gixobj_signature.specs.Signing.{options_view, sign_plan, signature}
 use Rattle.gixobj_signature.specs.declared.signature.sign.Options.{Options}
 use Rattle.gixobj_signed.specs.OneMarker.{HasOneMarker}
 use Rattle.gixobj_text.specs.declared.signature.Format.{Format}
-use Rattle.gixobj_tag.specs.TagExtracting as tags
-use Rattle.gixobj_commit.specs.Extracting as commits
+use Rattle.gixobj_ref_iter.specs.TagExtracting as tags
+use Rattle.gixobj_ref_iter.specs.Extracting as commits
 
 -- the calls that were made are those by which these bytes are signed
 abbrev pub WasSigned : {S : Type 0} → (S → CallView → Answer → S → Type 0) → Options → List ℕ → S → S → Type 0

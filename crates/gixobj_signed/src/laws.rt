@@ -16,13 +16,13 @@ ghost use Rattle.gixobj_signed.specs.SignedTexts.{CommitGivesPayload, TagGivesPa
 ghost use Rattle.gixobj_text.specs.Markers.{HasNoMarker};
 ghost use Rattle.gixobj_text.specs.declared.signature.Format.{Format};
 ghost use Rattle.gixobj_text.specs.declared.signature.SignatureRef.{SignatureRef};
-ghost use Rattle.gixobj_tag.specs.TagExtracting as tags;
+ghost use Rattle.gixobj_ref_iter.specs.TagExtracting as tags;
 ghost use Rattle.gixobj_tag.specs.Signed.{IsSignature};
 ghost use Rattle.gixobj_tag.specs.TagSigning as tag;
 ghost use Rattle.gixobj_tag.specs.TagText.{IsTagText, TagLines};
 ghost use Rattle.gixobj_tag.specs.TagViews as tag_views;
 ghost use Rattle.gixobj_tag.specs.TagWriting.{tag_text};
-ghost use Rattle.gixobj_commit.specs.Extracting.{HasNoSignature, HasCommitSignature, RefusesCommitSignature};
+ghost use Rattle.gixobj_ref_iter.specs.Extracting.{HasNoSignature, HasCommitSignature, RefusesCommitSignature};
 ghost use Rattle.gixobj_signature.specs.declared.signature.signed_data.SignedData.{SignedData};
 
 use crate::one_line::{actor_has_one_line, id_has_one_line, ids_have_one_line};

@@ -1,17 +1,13 @@
 pub mod LineReading
 pub mod LineViews
 pub mod NameRule
-pub mod Readers
 pub mod Rewriting
 pub mod Signed
-pub mod TagExtracting
 pub mod TagOwned
 pub mod TagSigning
 pub mod TagText
-pub mod TagTokens
 pub mod TagViews
 pub mod TagWriting
-pub mod TokenGiving
 pub use Rattle.gixobj_actor.specs.Actor
 pub use Rattle.gixobj_fields.specs.HeaderReading
 pub use Rattle.gixobj_fields.specs.HeaderText

@@ -3,10 +3,11 @@
 use crate::signing::calls::Told;
 use crate::signing::objects::{Comes, Row, gpg, is_so, runner_of_row};
 use crate::signing::signing::CREATED;
-use gixobj_commit::{Commit, CommitRef, CommitRefIter};
+use gixobj_commit::{Commit, CommitRef};
 use gixobj_fields::WriteTo;
 use gixobj_hash::hash::Kind::{self, Sha1, Sha256};
 use gixobj_hash::{OutOfMemory, decode};
+use gixobj_ref_iter::CommitRefIter;
 use gixobj_signature::signature::sign::Error;
 use std::alloc::Global;
 use std::test::Fail;

@@ -12,19 +12,20 @@ ghost use Rattle.gixobj_commit.specs.Commit.{IsCommitText};
 ghost use Rattle.gixobj_find.specs.declared.find.existing_iter.Error.TheVariants as told;
 ghost use Rattle.gixobj_find.specs.declared.find.existing_object.Error.TheVariants as decoded;
 ghost use Rattle.gixobj_object.specs.BorrowedObjects.{HasObjectIds};
-ghost use Rattle.gixobj_tag.specs.TokenGiving.{IsAtStartOfTag};
+ghost use Rattle.gixobj_ref_iter.specs.TagTokenGiving.{IsAtStartOfTag};
 ghost use Rattle.gixobj_tag.specs.TagText.{IsTagText};
 ghost use Rattle.gixobj_tag.specs.TagViews.{tag_lines};
-ghost use Rattle.gixobj_commit.specs.TokenGiving.{IsAtStartOfCommit};
+ghost use Rattle.gixobj_ref_iter.specs.TokenGiving.{IsAtStartOfCommit};
 ghost use Rattle.gixobj_tree.specs.TreeReading.{IsTreeText};
 ghost use Rattle.gixobj_tree.specs.TreeViews.{tree_entries};
 
 use crate::find::{existing, existing_iter, existing_object};
-use gixobj_commit::{CommitRef, CommitRefIter};
+use gixobj_commit::CommitRef;
 use gixobj_hash::Kind;
 use gixobj_hash::hash::{ObjectId, oid};
 use gixobj_object::{Data, Find, ObjectRef, TreeRefIter};
-use gixobj_tag::{TagRef, TagRefIter};
+use gixobj_ref_iter::{CommitRefIter, TagRefIter};
+use gixobj_tag::TagRef;
 use gixobj_tree::{BlobRef, TreeRef};
 use std::alloc::Global;
 

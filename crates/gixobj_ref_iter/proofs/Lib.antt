@@ -1,0 +1,12 @@
+mod CommitLanguage
+mod CommitRuns
+mod CommitTokens
+mod CommitWalks
+mod CommitsFound
+mod ParentsFound
+mod Seeking
+mod TagLanguage
+mod TagRuns
+mod TagTokens
+mod TagWalks
+mod TagsFound

@@ -1,0 +1,11 @@
+pub mod CommitRuns
+pub mod CommitTokens
+pub mod Extracting
+pub mod Readers
+pub mod TagExtracting
+pub mod TagReaders
+pub mod TagTokenGiving
+pub mod TagTokens
+pub mod TokenFilters
+pub mod TokenGiving
+pub mod TokenPassing
