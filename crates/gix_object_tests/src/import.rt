@@ -1,6 +1,5 @@
 //! Tests of imports, of what no clause says: the ids that `git` gives, which refusal is told, and what the store has after it.
 
-mod failing;
 mod growths;
 mod refusals;
 mod samples;

@@ -22,7 +22,7 @@ use Rattle.gix_object.specs.editor.command.Edit.{Edit}
 use Rattle.gix_object.specs.editor.command.Edit.TheVariants as edit
 use Rattle.gix_object.specs.editor.reply.EditReply.{EditReply}
 use Rattle.gix_object.specs.editor.reply.EditReply.TheVariants as edit_reply
-use Rattle.gixobj_callers.specs.Imports.{AreDone, Decides, IsWriteBehind, import_steps}
+use Rattle.gixobj_callers.specs.Imports.{AreEditsDone, Decides, HasWriteReply, import_steps}
 use Rattle.gixobj_callers.proofs.Alone.{root_files}
 use Rattle.gixobj_callers.proofs.Histories.{history_append, same_history, same_refl, same_sym, same_trans}
 
@@ -45,7 +45,7 @@ module _ {S E : Type 0} (means : Meaning S) (answers : Answers E) (trees_of : (o
   edit_stays old new edit.Write done = absurd done
 
   -- the store stays as it is
-  edits_stay : (old new : State S) (edits : List Edit) → AreDone means answers old edits new → new.store ≡ old.store
+  edits_stay : (old new : State S) (edits : List Edit) → AreEditsDone means answers old edits new → new.store ≡ old.store
   edits_stay old new [] done = ap (λ (s : State S). s.store) done
   edits_stay old new (it ∷ edits) (between, first, done) = edits_stay between new edits done ∙ edit_stays old between it first
 
@@ -61,7 +61,7 @@ module _ {S E : Type 0} (means : Meaning S) (answers : Answers E) (trees_of : (o
     edit_files old new edit.Write done agrees = absurd done
 
     -- the files are those of the steps
-    edits_files : (old new : State S) (edits : List Edit) → AreDone means answers old edits new → AgreesWithObjects T (means.objects old.store)
+    edits_files : (old new : State S) (edits : List Edit) → AreEditsDone means answers old edits new → AgreesWithObjects T (means.objects old.store)
         → SameFiles (EditorFiles T n new) (History T n (import_steps edits) (EditorFiles T n old))
     edits_files old new [] done agrees = subst (λ (s : State S). SameFiles (EditorFiles T n s) (EditorFiles T n old)) (sym done) (same_refl (EditorFiles T n old))
     edits_files old new (it ∷ edits) (between, first, done) agrees =
@@ -81,18 +81,18 @@ module _ {S E : Type 0} (means : Meaning S) (answers : Answers E) (trees_of : (o
     edit_based old new edit.Write done agrees has = absurd done
 
     -- the bases are those of their ids still
-    edits_based : (old new : State S) (edits : List Edit) → AreDone means answers old edits new → AgreesWithObjects T (means.objects old.store)
+    edits_based : (old new : State S) (edits : List Edit) → AreEditsDone means answers old edits new → AgreesWithObjects T (means.objects old.store)
         → HasBases T (open_dirs old) (open_bases old) → HasBases T (open_dirs new) (open_bases new)
     edits_based old new [] done agrees has = subst (λ (s : State S). HasBases T (open_dirs s) (open_bases s)) (sym done) has
     edits_based old new (it ∷ edits) (between, first, done) agrees has =
         edits_based between new edits done (subst (λ (s : S). AgreesWithObjects T (means.objects s)) (sym (edit_stays old between it first)) agrees) (edit_based old between it first agrees has)
 
-    pub named_files : (old new : State S) (edits : List Edit) (written : Written) → IsWriteBehind means answers old edits (edit_reply.Written written) new
+    pub named_files : (old new : State S) (edits : List Edit) (written : Written) → HasWriteReply means answers old edits (edit_reply.Written written) new
         → AgreesWithObjects T (means.objects old.store) → AgreesWithPairs T written.trees.items → HasBases T (open_dirs old) (open_bases old) → SameFiles (NamedFiles T n written.id) (History T n (import_steps edits) (EditorFiles T n old))
     named_files old new edits written behind agrees pairs has =
         same_trans _ _ _ (behind.write.written.files T n pairs (edits_based old behind.edited edits behind.done agrees has)) (edits_files old behind.edited edits behind.done agrees)
 
-    pub files_left : (old new : State S) (edits : List Edit) (written : Written) → IsWriteBehind means answers old edits (edit_reply.Written written) new
+    pub files_left : (old new : State S) (edits : List Edit) (written : Written) → HasWriteReply means answers old edits (edit_reply.Written written) new
         → AgreesWithPairs T written.trees.items → SameFiles (EditorFiles T n new) (NamedFiles T n written.id)
     files_left old new edits written behind pairs =
         let it = behind.write in
@@ -103,15 +103,15 @@ module _ {S E : Type 0} (means : Meaning S) (answers : Answers E) (trees_of : (o
         (same_trans _ _ _ root (subst (λ (found : Option (List EntryView)). SameFiles (Files T n own) (λ path mode id. MatchOption found ⊥ (λ es. Files T n es path mode id))) (sym there) (same_refl (Files T n own))))
 
     -- the root alone is open then
-    pub bases_left : (old new : State S) (edits : List Edit) (written : Written) → IsWriteBehind means answers old edits (edit_reply.Written written) new → HasBases T (open_dirs new) (open_bases new)
+    pub bases_left : (old new : State S) (edits : List Edit) (written : Written) → HasWriteReply means answers old edits (edit_reply.Written written) new → HasBases T (open_dirs new) (open_bases new)
     bases_left old new edits written behind = subst (λ (s : State S). HasBases T (open_dirs s) (open_bases s)) (sym behind.write.rest) (behind.write.written.has_bases T)
 
   -- the reply that decides says what went out
   pub write_done : (old new : State S) (edits : List Edit) (index : ℕ) (its_reply : EditReply E) (written : Written) → Decides means answers old edits index its_reply new → its_reply ≡ edit_reply.Written written
-      → IsWriteBehind means answers old edits (edit_reply.Written written) new
+      → HasWriteReply means answers old edits (edit_reply.Written written) new
   write_done old new edits index its_reply written decides is = subst (λ (r : EditReply E). Decides means answers old edits index r new) is decides
 
-  pub all_kept : (old new : State S) (edits : List Edit) (written : Written) → IsWriteBehind means answers old edits (edit_reply.Written written) new
+  pub all_kept : (old new : State S) (edits : List Edit) (written : Written) → HasWriteReply means answers old edits (edit_reply.Written written) new
       → means.objects new.store ≡ with_trees written.trees.items (means.objects old.store)
   all_kept old new edits written behind =
       behind.write.kept.0 ∙ ap (λ (s : S). with_trees written.trees.items (means.objects s)) (edits_stay old behind.edited edits behind.done)

@@ -2,7 +2,7 @@
 use Rattle.std.proofs.Common.{◌≡◌, ◌≢◌, ◌<◌, ℕ, suc, List, [], ◌∷◌, Bool, true, not, None, Some, ap, arith, get_or, length, refl, subst, sym}
 use Rattle.std.specs.Prelude.{Contains, position}
 use Rattle.std.specs.List.{position_or_len}
-use Rattle.gixobj_callers.specs.Imports.{Decides, IsWriteBehind, edits_and_write, is_done}
+use Rattle.gixobj_callers.specs.Imports.{Decides, HasWriteReply, edits_and_write, is_done}
 use Rattle.gix_object.specs.Stores.{Meaning}
 use Rattle.gix_object.specs.Commands.{at_root}
 use Rattle.gix_object.specs.Replies.{Answers, IsEditReply, IsRun}
@@ -48,7 +48,7 @@ module _ {S E : Type 0} (means : Meaning S) (answers : Answers E) where
   by_an_edit old new edits k r other it = it
 
   one_behind : (old between new : State S) (it : Edit) (edits : List Edit) (its_reply : EditReply E) → IsEditReply means answers at_root old it edit_reply.Done between
-      → IsWriteBehind means answers between edits its_reply new → IsWriteBehind means answers old (it ∷ edits) its_reply new
+      → HasWriteReply means answers between edits its_reply new → HasWriteReply means answers old (it ∷ edits) its_reply new
   one_behind old between new it edits its_reply first behind = record { edited = behind.edited; done = (between, first, behind.done); write = behind.write }
 
   one_more : (old between new : State S) (it : Edit) (edits : List Edit) (k : ℕ) (r : Reply E) → IsEditReply means answers at_root old it edit_reply.Done between
@@ -77,7 +77,7 @@ module _ {S E : Type 0} (means : Meaning S) (answers : Answers E) where
   last between new (r ∷ replies) run = absurd run
 
   write_alone : (old between new : State S) (its_reply : EditReply E) (replies : List (Reply E)) → IsEditReply means answers at_root old edit.Write its_reply between
-      → IsRun means answers between [] replies new → IsWriteBehind means answers old [] its_reply new
+      → IsRun means answers between [] replies new → HasWriteReply means answers old [] its_reply new
   write_alone old between new its_reply replies first run =
       record { edited = old; done = refl; write = subst (λ (s : State S). IsEditReply means answers at_root old edit.Write its_reply s) (sym (last between new replies run)) first }
 

@@ -33,24 +33,24 @@ is_done its_reply = false
 
 module _ {S E : Type 0} (means : Meaning S) (answers : Answers E) where
   -- the edits come through, one after the other
-  abbrev pub AreDone : State S → List Edit → State S → Type 0
-  AreDone old edits new = AreEditReplies means answers at_root old edits (map (λ _. edit_reply.Done) edits) new
+  abbrev pub AreEditsDone : State S → List Edit → State S → Type 0
+  AreEditsDone old edits new = AreEditReplies means answers at_root old edits (map (λ _. edit_reply.Done) edits) new
 
   -- behind the edits, which come through, the write gets this reply
-  pub record IsWriteBehind (old : State S) (edits : List Edit) (its_reply : EditReply E) (new : State S) : Type 0 where
+  pub record HasWriteReply (old : State S) (edits : List Edit) (its_reply : EditReply E) (new : State S) : Type 0 where
     pub edited : State S
-    pub done : AreDone old edits edited
+    pub done : AreEditsDone old edits edited
     pub write : IsEditReply means answers at_root edited edit.Write its_reply new
 
   -- the edit of this number is refused, those before it come through, and those behind it and the write are tried all the same
-  pub record IsRefusedAt (old : State S) (edits : List Edit) (index : ℕ) (error : Error) (new : State S) : Type 0 where
+  pub record IsEditRefusedAt (old : State S) (edits : List Edit) (index : ℕ) (error : Error) (new : State S) : Type 0 where
     pub before : List Edit
     pub refused : Edit
     pub behind : List Edit
     pub place : edits ≡ before ++ refused ∷ behind
     pub number : length before ≡ index
     pub reached : State S
-    pub done : AreDone old before reached
+    pub done : AreEditsDone old before reached
     pub left : State S
     pub refusal : IsEditReply means answers at_root reached refused (edit_reply.Refused error) left
     pub replies : List (Reply E)
@@ -59,13 +59,13 @@ module _ {S E : Type 0} (means : Meaning S) (answers : Answers E) where
   -- what an import comes to where this reply, of this number, is the first that isn't that to an edit which came through
   abbrev pub Decides : State S → List Edit → ℕ → EditReply E → State S → Type 0
   Decides old edits index edit_reply.Done new = ⊥
-  Decides old edits index (edit_reply.Refused error) new = IsRefusedAt old edits index error new
-  Decides old edits index its_reply new = IsWriteBehind old edits its_reply new
+  Decides old edits index (edit_reply.Refused error) new = IsEditRefusedAt old edits index error new
+  Decides old edits index its_reply new = HasWriteReply old edits its_reply new
 
   -- why an import fails, and what it leaves
   abbrev pub FailsImport : State S → List Edit → ImportError E → State S → Type 0
   FailsImport old edits import.HoldsWrite new = Contains edits edit.Write × (new ≡ old)
-  FailsImport old edits (import.Edit index error) new = IsRefusedAt old edits index error new
-  FailsImport old edits (import.Write error) new = IsWriteBehind old edits (edit_reply.WriteRefused error) new
-  FailsImport old edits (import.NotKept written count error) new = IsWriteBehind old edits (edit_reply.NotKept written count error) new
+  FailsImport old edits (import.Edit index error) new = IsEditRefusedAt old edits index error new
+  FailsImport old edits (import.Write error) new = HasWriteReply old edits (edit_reply.WriteRefused error) new
+  FailsImport old edits (import.NotKept written count error) new = HasWriteReply old edits (edit_reply.NotKept written count error) new
   FailsImport old edits import.OutOfMemory new = new ≡ old

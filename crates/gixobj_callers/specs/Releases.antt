@@ -63,10 +63,10 @@ RefusesSignedText runs options commit old new error =
 
 -- an object has this signature, which is one of exactly these of its bytes: of a commit of all but those of the first
 -- header with the name of signatures, of a tag of all before the last marker at the start of a line
-abbrev pub IsSignature : Kind → hash.Kind → List ℕ → List ℕ → List ℕ → Type 0
-IsSignature kind.Commit ids bytes signature signed = commits.HasCommitSignature ids bytes signature signed
-IsSignature kind.Tag ids bytes signature signed = (format : Format) × tags.HasTagSignature bytes signature signed format
-IsSignature other ids bytes signature signed = ⊥
+abbrev pub IsObjectSignature : Kind → hash.Kind → List ℕ → List ℕ → List ℕ → Type 0
+IsObjectSignature kind.Commit ids bytes signature signed = commits.HasCommitSignature ids bytes signature signed
+IsObjectSignature kind.Tag ids bytes signature signed = (format : Format) × tags.HasTagSignature bytes signature signed format
+IsObjectSignature other ids bytes signature signed = ⊥
 
 -- an object has no signature
 abbrev pub IsUnsigned : Kind → hash.Kind → List ℕ → Type 0
@@ -75,7 +75,7 @@ IsUnsigned kind.Tag ids bytes = HasNoMarker bytes
 IsUnsigned other ids bytes = ⊥
 
 abbrev pub GivesSignature : Kind → hash.Kind → List ℕ → Option (CowSlice ℕ Global × SignedData) → Type 0
-GivesSignature kind ids bytes (Some it) = IsSignature kind ids bytes (cow_slice_items it.0) (signed_bytes it.1)
+GivesSignature kind ids bytes (Some it) = IsObjectSignature kind ids bytes (cow_slice_items it.0) (signed_bytes it.1)
 GivesSignature kind ids bytes None = IsUnsigned kind ids bytes
 
 -- why it isn't known whether an object has one
@@ -153,16 +153,16 @@ Vouches runs (by_ssh by ssh) signature signed old outcome new = AcceptsPrincipal
 -- what came of the object's signature; or it has none, and no call was made
 abbrev pub IsAudit : {S : Type 0} → (S → CallView → Answer → S → Type 0) → OptionsView → Kind → hash.Kind → List ℕ → S → S → Option Outcome → Type 0
 IsAudit runs it kind ids bytes old new (Some outcome) =
-    (signature signed : List ℕ) × IsSignature kind ids bytes signature signed × ComesOfVerifying runs it signature signed old (Ok outcome) new
+    (signature signed : List ℕ) × IsObjectSignature kind ids bytes signature signed × ComesOfVerifying runs it signature signed old (Ok outcome) new
 IsAudit runs it kind ids bytes old new None = IsUnsigned kind ids bytes × (new ≡ old)
 
 -- the object's signature was accepted
 abbrev pub IsAccepted : {S : Type 0} → (S → CallView → Answer → S → Type 0) → OptionsView → Kind → hash.Kind → List ℕ → S → OutcomeView → S → Type 0
 IsAccepted runs it kind ids bytes old outcome new =
-    (signature signed : List ℕ) × IsSignature kind ids bytes signature signed × Vouches runs it signature signed old outcome new
+    (signature signed : List ℕ) × IsObjectSignature kind ids bytes signature signed × Vouches runs it signature signed old outcome new
 
 -- why an object isn't audited: no signature is found, and no call was made; or the signature isn't verified
 abbrev pub RefusesAudit : {S : Type 0} → (S → CallView → Answer → S → Type 0) → OptionsView → Kind → hash.Kind → List ℕ → S → S → AuditError → Type 0
 RefusesAudit runs it kind ids bytes old new (audit.Verify cause) =
-    (signature signed : List ℕ) × IsSignature kind ids bytes signature signed × ComesOfVerifying runs it signature signed old (Err cause) new
+    (signature signed : List ℕ) × IsObjectSignature kind ids bytes signature signed × ComesOfVerifying runs it signature signed old (Err cause) new
 RefusesAudit runs it kind ids bytes old new other = RefusesSignature kind ids bytes other × (new ≡ old)

@@ -13,7 +13,7 @@ ghost use Rattle.gix_object.specs.RunTables.{AgreesWithObjects};
 ghost use Rattle.gix_object.specs.State.{EditorFiles, open_bases, open_dirs};
 ghost use Rattle.gix_object.specs.Tables.{AgreesWithPairs};
 ghost use Rattle.gixobj_callers.specs.Copies.{FailsForPart};
-ghost use Rattle.gixobj_callers.specs.Imports.{Decides, FailsImport, IsWriteBehind, edits_and_write, is_done, import_steps};
+ghost use Rattle.gixobj_callers.specs.Imports.{Decides, FailsImport, HasWriteReply, edits_and_write, import_steps, is_done};
 ghost use Rattle.gix_object.specs.Stores.{meaning};
 
 use crate::store::CopyError;
@@ -99,7 +99,7 @@ pub fn import_files<S: Keep, E: Drop, F: Fn(&Tree) -> Result<ObjectId, E> + Drop
         ≡ with_trees written.trees.items (S.objects editor.old.store)) }
     // Each edit came through, and then the write; or else it is told which call didn't, and why.
     ensures done { IfOk result (λ written.
-        IsWriteBehind (meaning S.objects S.may_fail) (FnReturnsAt F.Fn out) editor.old edits.items
+        HasWriteReply (meaning S.objects S.may_fail) (FnReturnsAt F.Fn out) editor.old edits.items
         (EditReply.Written written) editor.new) }
     ensures fails { IfErr result (λ error.
         FailsImport (meaning S.objects S.may_fail) (FnReturnsAt F.Fn out) editor.old edits.items

@@ -1,13 +1,13 @@
 //! The entries that an editor and a cursor get, behind scripts; and names with a slash, which no script says.
 
 use crate::cursor_calls::upserted_by;
-use crate::runs::failing::Failing;
 use crate::runs::samples::{editor_over, replies_to};
 use crate::samples::{FILE, empty_editor, number, number_of, path_of, told, writes};
 use gixobj_base::hash::ObjectId;
 use gixobj_base::tree::EntryKind;
 use gixobj_editor::editor::Editor;
 use gixobj_find::Memory;
+use gixobj_find_tests::failing::Failing;
 use std::alloc::{AllocError, Global};
 use std::test::Fail;
 

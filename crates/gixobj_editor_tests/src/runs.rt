@@ -1,7 +1,6 @@
 //! Tests of whole runs: scripts and lists of commands, over a store that counts what it is asked for, and refuses; and
 //! of what is told of them.
 
-pub(crate) mod failing;
 mod growths;
 mod many_edits;
 mod refused_halfway;

@@ -111,11 +111,8 @@ pub(crate) fn store_of(
 ) -> Result<(Failing, ObjectId), OutOfMemory> {
     let mut objects = Memory::new(alloc);
     let id = objects.insert(kind, HashKind::Sha1, text)?;
-    let mut failing = Vec::new(alloc);
-    if fails {
-        failing.push(1)?;
-    }
-    Ok((Failing::new(alloc, objects, failing), id))
+    let lookups_that_fail: &'static [u64] = if fails { &[1] } else { &[] };
+    Ok((Failing::new(alloc, objects, lookups_that_fail, &[]), id))
 }
 
 /// What the lookup of an object of a kind comes to where the store has one of this kind and content.
@@ -250,7 +247,7 @@ fn finds_the_empty_blob(alloc: Global, store: &Failing, kind: HashKind) -> bool 
 #[test]
 fn empty_objects(rt: HostRuntime) -> Result<(), Fail> {
     let alloc = rt.alloc();
-    let store = Failing::new(alloc, Memory::new(alloc), vec![in alloc; 1, 2, 3, 4]?);
+    let store = Failing::new(alloc, Memory::new(alloc), &[1, 2, 3, 4], &[]);
     for kind in [HashKind::Sha1, HashKind::Sha256] {
         assert!(rt; finds_the_empty_tree(alloc, &store, kind), "{kind:?}");
         assert!(rt; finds_the_empty_blob(alloc, &store, kind), "{kind:?}");

@@ -3,8 +3,7 @@
 
 #[cfg(test)]
 mod existing;
-#[cfg(test)]
-mod failing;
+pub mod failing;
 #[cfg(test)]
 mod growths;
 #[cfg(test)]

@@ -13,7 +13,7 @@ fn store_of(alloc: Global) -> Result<(Failing, ObjectId, ObjectId), OutOfMemory>
     let mut store = two_trees(alloc)?;
     let blob = store.insert(Kind::Blob, HashKind::Sha1, b"hello\n")?;
     let damaged = store.insert(Kind::Commit, HashKind::Sha1, b"tree 4b")?;
-    Ok((Failing::new(alloc, store, Vec::new(alloc)), blob, damaged))
+    Ok((Failing::new(alloc, store, &[], &[]), blob, damaged))
 }
 
 /// Whether a reader of a commit is found at the id, which refuses the text at once and is at its end then.

@@ -150,7 +150,7 @@ fn fails<S: Find>(alloc: Global, store: &S, path: &[u8]) -> bool {
 #[test]
 fn a_store_that_fails(rt: HostRuntime) -> Result<(), Fail> {
     let alloc = rt.alloc();
-    let store = Failing::new(alloc, two_trees(alloc)?, vec![in alloc; 1]?);
+    let store = Failing::new(alloc, two_trees(alloc)?, &[1], &[]);
     assert!(rt; is_there_from(alloc, &store, ROOT_TEXT, b"bak") == Some(true));
     assert!(rt; store.lookups() == 0);
     assert!(rt; fails(alloc, &store, b"bak/test.txt") && store.lookups() == 1);

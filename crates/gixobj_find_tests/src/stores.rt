@@ -112,7 +112,7 @@ fn fails<S: FindObjectOrHeader + Exists>(alloc: Global, store: &S, id: ObjectId)
 #[test]
 fn failing(rt: HostRuntime) -> Result<(), Fail> {
     let alloc = rt.alloc();
-    let store = Failing::new(alloc, two_trees(alloc)?, vec![in alloc; 1, 2, 3]?);
+    let store = Failing::new(alloc, two_trees(alloc)?, &[1, 2, 3], &[]);
     assert!(rt; fails(alloc, &store, id(BAK)));
     assert!(rt; has_tree(alloc, &store, id(BAK), 36));
     assert!(rt; store.lookups() == 6);

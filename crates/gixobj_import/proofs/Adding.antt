@@ -12,7 +12,7 @@ use Rattle.gixobj_editor.specs.declared.reply.EditReply.TheVariants as reply
 use Rattle.gixobj_import.specs.ByDigest.{AddsByDigest}
 use Rattle.gixobj_import.specs.Commits.{step_text}
 use Rattle.gixobj_import.specs.Edited.{AreDone, IsWriteBehind}
-use Rattle.gixobj_import.specs.Steps.{AreImported, IsFailed, IsImported, RefusesCommit, RefusesEdits, RefusesStep, RefusesWrite}
+use Rattle.gixobj_import.specs.Steps.{AreImported, IsImported, IsStepFailed, RefusesEdits, RefusesStep, RefusesStepCommit, RefusesWrite}
 use Rattle.gixobj_import.specs.declared.import.ImportError.{ImportError}
 use Rattle.gixobj_import.specs.declared.import.ImportError.TheVariants as import
 use Rattle.gixobj_import.specs.declared.import.Imported.{Imported}
@@ -74,7 +74,7 @@ module _ {S : Type 0} (means : Meaning S) (laws : OfStores) where
   edits_add hash edits old new import.OutOfMemory is = absurd is.2
   edits_add hash edits old new import.Failed is = absurd is.2
 
-  commit_adds : (hash : hash.Kind) (step : Step) (tree : ObjectId) (parent : Option ObjectId) (old new : State S) (error : ImportError) → RefusesCommit means hash step tree parent old error new
+  commit_adds : (hash : hash.Kind) (step : Step) (tree : ObjectId) (parent : Option ObjectId) (old new : State S) (error : ImportError) → RefusesStepCommit means hash step tree parent old error new
       → AddsByDigest (means.objects old.store) (means.objects new.store)
   commit_adds hash step tree parent old new (import.NotKept error) is = adds_none _ _ is.unchanged
   commit_adds hash step tree parent old new (import.Commit error) is = adds_none _ _ (ap (λ (s : State S). means.objects s.store) is.1)
@@ -84,7 +84,7 @@ module _ {S : Type 0} (means : Meaning S) (laws : OfStores) where
   commit_adds hash step tree parent old new (import.Write error) is = absurd is.0
   commit_adds hash step tree parent old new import.Failed is = absurd is.0
 
-  failed_adds : (old new : Importer S) (step : Step) (error : ImportError) → IsFailed means old step error new → AddsByDigest (objects_of old) (objects_of new)
+  failed_adds : (old new : Importer S) (step : Step) (error : ImportError) → IsStepFailed means old step error new → AddsByDigest (objects_of old) (objects_of new)
   failed_adds old new step error is =
       ⊎_elim (λ refused. edits_add old.hash step.edits.items old.editor new.editor error refused)
       (λ uncommitted.

@@ -11,7 +11,7 @@ use Rattle.gixobj_hash.specs.declared.hash.kind.Kind as hash
 use Rattle.gixobj_hash.specs.declared.hash.object_id.ObjectId.{ObjectId}
 use Rattle.gixobj_editor.specs.declared.reply.EditReply.TheVariants as reply
 use Rattle.gixobj_import.specs.Edited.{AreDone, IsWriteBehind, IsWriteReplied}
-use Rattle.gixobj_import.specs.Steps.{AreImported, IsFailed, IsImported, RefusesCommit, RefusesEdits, RefusesStep, RefusesStepText, RefusesWrite, Stops}
+use Rattle.gixobj_import.specs.Steps.{AreImported, IsImported, IsStepFailed, RefusesEdits, RefusesStep, RefusesStepCommit, RefusesStepText, RefusesWrite, Stops}
 use Rattle.gixobj_import.specs.declared.import.ImportError.{ImportError}
 use Rattle.gixobj_import.specs.declared.import.ImportError.TheVariants as import
 use Rattle.gixobj_import.specs.declared.import.Imported.{Imported}
@@ -66,7 +66,7 @@ module _ {S : Type 0} (means : Meaning S) where
   })
 
   -- a step that fails is refused
-  pub refuses_step : (old new : Importer S) (step : Step) (error : ImportError) → IsFailed means old step error new → RefusesStep means old step error new
+  pub refuses_step : (old new : Importer S) (step : Step) (error : ImportError) → IsStepFailed means old step error new → RefusesStep means old step error new
   refuses_step old new step import.Failed is = ⊎_elim (λ refused. absurd refused.2) (λ uncommitted. absurd uncommitted.refusal.0) is.refusal
   refuses_step old new step import.WriteInStep is = ⊎_elim (λ refused. absurd refused.2) (λ uncommitted. absurd uncommitted.refusal.0) is.refusal
   refuses_step old new step (import.Edit index error) is = is
@@ -97,7 +97,7 @@ module _ {S : Type 0} (means : Meaning S) where
   write_refused_behind hash edits old edited new (Err error) done refusal = edits_refused hash edits old edited new error done refusal
 
   -- a commit that isn't written
-  pub text_refused : (hash : hash.Kind) (step : Step) (tree : ObjectId) (parent : Option ObjectId) (old new : State S) (error : ImportError) → RefusesStepText step error → new ≡ old → RefusesCommit means hash step tree parent old error new
+  pub text_refused : (hash : hash.Kind) (step : Step) (tree : ObjectId) (parent : Option ObjectId) (old new : State S) (error : ImportError) → RefusesStepText step error → new ≡ old → RefusesStepCommit means hash step tree parent old error new
   text_refused hash step tree parent old new (import.Edit index error) refused same = absurd refused
   text_refused hash step tree parent old new (import.Write error) refused same = absurd refused
   text_refused hash step tree parent old new (import.NotKept error) refused same = absurd refused

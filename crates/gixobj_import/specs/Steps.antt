@@ -59,9 +59,9 @@ module _ {S : Type 0} (means : Meaning S) where
 
   -- why the step's commit isn't kept: an actor can't be written; or the store doesn't keep it; or memory
   -- was wanting
-  abbrev pub RefusesCommit : hash.Kind → Step → ObjectId → Option ObjectId → State S → ImportError → State S → Type 0
-  RefusesCommit hash step tree parent old (import.NotKept error) new = IsCommitUnkept (id_of hash Commit (step_text step tree parent)) old error new
-  RefusesCommit hash step tree parent old error new = RefusesStepText step error × (new ≡ old)
+  abbrev pub RefusesStepCommit : hash.Kind → Step → ObjectId → Option ObjectId → State S → ImportError → State S → Type 0
+  RefusesStepCommit hash step tree parent old (import.NotKept error) new = IsCommitUnkept (id_of hash Commit (step_text step tree parent)) old error new
+  RefusesStepCommit hash step tree parent old error new = RefusesStepText step error × (new ≡ old)
 
   -- why a write by digests isn't done and kept: it is refused, or the store doesn't keep all of its trees
   abbrev pub RefusesWrite : hash.Kind → State S → ImportError → State S → Type 0
@@ -90,10 +90,10 @@ module _ {S : Type 0} (means : Meaning S) where
     pub it : Written
     pub between : State S
     pub trees : IsWriteBehind means old.hash old.editor step.edits.items (reply.Written it) between
-    pub refusal : RefusesCommit old.hash step it.id old.last between error new
+    pub refusal : RefusesStepCommit old.hash step it.id old.last between error new
 
   -- the step fails, and so do all behind it: its edits aren't written and kept, or its commit isn't
-  pub record IsFailed (old : Importer S) (step : Step) (error : ImportError) (new : Importer S) : Type 0 where
+  pub record IsStepFailed (old : Importer S) (step : Step) (error : ImportError) (new : Importer S) : Type 0 where
     pub ready : old.failed ≡ false
     pub no_write : ¬ Contains step.edits.items edit.Write
     pub refusal : RefusesEdits old.hash step.edits.items old.editor error new.editor ⊎ IsUncommitted old step error new.editor
@@ -103,7 +103,7 @@ module _ {S : Type 0} (means : Meaning S) where
   abbrev pub RefusesStep : Importer S → Step → ImportError → Importer S → Type 0
   RefusesStep old step import.Failed new = (old.failed ≡ true) × (new ≡ old)
   RefusesStep old step import.WriteInStep new = (old.failed ≡ false) × Contains step.edits.items edit.Write × (new ≡ old)
-  RefusesStep old step error new = IsFailed old step error new
+  RefusesStep old step error new = IsStepFailed old step error new
 
   -- the steps are imported, one after the other
   abbrev pub AreImported : Importer S → List Step → List Imported → Importer S → Type 0

@@ -3,7 +3,7 @@ ghost use Rattle.std.specs.Prelude.{◌≡◌, IfErr, IfOk, OnOk};
 ghost use Rattle.gixobj_actor.specs.ActorWriting.{IsLegal, owned_text};
 ghost use Rattle.gixobj_commit.specs.CommitViews.{owned_commit_lines};
 ghost use Rattle.gixobj_import.specs.Commits.{NamesSignature, SameActor, only_parent, step_commit, step_text};
-ghost use Rattle.gixobj_import.specs.Steps.{IsCommitKept, RefusesCommit, RefusesStepText};
+ghost use Rattle.gixobj_import.specs.Steps.{IsCommitKept, RefusesStepCommit, RefusesStepText};
 ghost use Rattle.gixobj_object.specs.Stores.{meaning};
 
 use crate::import::{ImportError, Step};
@@ -34,7 +34,7 @@ pub(crate) fn keep_commit_of<S: KeepCommit>(
         IsCommitKept (meaning S.objects S.may_fail) hash step.now tree parent editor.old commit
         editor.new) }
     ensures refusal { IfErr result (λ error.
-        RefusesCommit (meaning S.objects S.may_fail) hash step.now tree parent editor.old error
+        RefusesStepCommit (meaning S.objects S.may_fail) hash step.now tree parent editor.old error
         editor.new) }
 {
     hex_reads_back();

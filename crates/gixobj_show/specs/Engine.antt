@@ -44,17 +44,17 @@ Answered words rest rest' out out' =
     (input text : List ℕ) × ReadsAll rest rest' input × IsAnswer words input text × Puts out out' text
 
 -- why there is no answer; where the output failed, a front of the text that answers was put
-abbrev pub Refuses : List (List ℕ) → Option (List ℕ) → Option (List ℕ) → Type 0 → SinkView → SinkView → Refusal → Type 0
-Refuses words rest rest' may_fail out out' Usage = AsksForNothing words
-Refuses words rest rest' may_fail out out' InputFailed = Asks words × may_fail
-Refuses words rest rest' may_fail out out' OutputFailed =
+abbrev pub RefusesAnswer : List (List ℕ) → Option (List ℕ) → Option (List ℕ) → Type 0 → SinkView → SinkView → Refusal → Type 0
+RefusesAnswer words rest rest' may_fail out out' Usage = AsksForNothing words
+RefusesAnswer words rest rest' may_fail out out' InputFailed = Asks words × may_fail
+RefusesAnswer words rest rest' may_fail out out' OutputFailed =
     (input text : List ℕ) × ReadsAll rest rest' input × IsAnswer words input text × PutsFront out out' text
-Refuses words rest rest' may_fail out out' OutOfMemory = Asks words
-Refuses words rest rest' may_fail out out' BadHeader = Asks words × (input : List ℕ) × ReadsAll rest rest' input × HasNoLooseHeader input
-Refuses words rest rest' may_fail out out' ShortData = Asks words × (input : List ℕ) × ReadsAll rest rest' input × IsShort input
-Refuses words rest rest' may_fail out out' NotATree =
+RefusesAnswer words rest rest' may_fail out out' OutOfMemory = Asks words
+RefusesAnswer words rest rest' may_fail out out' BadHeader = Asks words × (input : List ℕ) × ReadsAll rest rest' input × HasNoLooseHeader input
+RefusesAnswer words rest rest' may_fail out out' ShortData = Asks words × (input : List ℕ) × ReadsAll rest rest' input × IsShort input
+RefusesAnswer words rest rest' may_fail out out' NotATree =
     (hash : hash.Kind) × (input : List ℕ) × AsksFor words Tree hash × ReadsAll rest rest' input × IsOfAnotherKind input
-Refuses words rest rest' may_fail out out' BadTree =
+RefusesAnswer words rest rest' may_fail out out' BadTree =
     (hash : hash.Kind) × (input : List ℕ) × AsksFor words Tree hash × ReadsAll rest rest' input × IsBadTree hash input
 
 -- nothing was read where the words ask for nothing
@@ -75,5 +75,5 @@ Told errors errors' line = Puts errors errors' line ⊎ PutsFront errors errors'
 -- was put on standard output, but where it failed
 abbrev pub IsRefusal : List (List ℕ) → Option (List ℕ) → Option (List ℕ) → Type 0 → SinkView → SinkView → SinkView → SinkView → Type 0 → Type 0 → ℕ → Type 0
 IsRefusal words rest rest' may_fail out out' errors errors' same_input same_output status =
-    (refusal : Refusal) × (status ≡ exit_status_of refusal) × Refuses words rest rest' may_fail out out' refusal
+    (refusal : Refusal) × (status ≡ exit_status_of refusal) × RefusesAnswer words rest rest' may_fail out out' refusal
     × Told errors errors' (line_of refusal) × Unread same_input refusal × Unwritten same_output refusal

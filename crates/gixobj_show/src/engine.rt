@@ -1,7 +1,7 @@
 //! The program, over any reader and any two writers.
 ghost use Rattle.std.specs.Prelude.{◌≡◌, ◌≢◌, map, OnOk, IfErr, IfOk, ⊤};
 ghost use Rattle.std.specs.String.{string_bytes};
-ghost use Rattle.gixobj_show.specs.Engine.{Answered, IsRefusal, IsTextFor, Refuses, RefusesCommandText, Told, Unread, Unwritten};
+ghost use Rattle.gixobj_show.specs.Engine.{Answered, IsRefusal, IsTextFor, RefusesAnswer, RefusesCommandText, Told, Unread, Unwritten};
 ghost use Rattle.gixobj_base.specs.Streams.{writer_view};
 ghost use Rattle.gixobj_show.specs.Refusal.{line_of, exit_status_of};
 
@@ -84,7 +84,7 @@ fn answer<S: Source, O: Sink>(
 ) -> Result<(), Refusal>
     ensures answer { OnOk result (Answered (map string_bytes words.now) (S.rest input.old)
         (S.rest input.new) (O.view output.old) (O.view output.new)) }
-    ensures refusal { IfErr result (Refuses (map string_bytes words.now) (S.rest input.old)
+    ensures refusal { IfErr result (RefusesAnswer (map string_bytes words.now) (S.rest input.old)
         (S.rest input.new) (S.may_fail input.old) (O.view output.old) (O.view output.new)) }
     ensures unread { IfErr result (Unread (input.new ≡ input.old)) }
     ensures unwritten { IfErr result (Unwritten (output.new ≡ output.old)) }

@@ -1,40 +1,56 @@
 //! Each call to keep a tree or a commit refused in turn.
 
-use crate::import::failing::Failing;
 use crate::import::samples::{
     COMMITS, are_commits, imports, kept_commit, number, plain_steps, step, stop_of, told_of,
 };
+use gix_object::Memory;
 use gix_object::hash::Kind as HashKind;
 use gix_object::import::{Importer, import_all};
+use gixobj_find_tests::failing::Failing;
 use std::alloc::Global;
 use std::test::Fail;
 
-/// What is told where the call at this place is refused: how many steps were imported before, and the calls made, with those
+/// What is told where the calls at these places are refused: how many steps were imported before, and the calls made, with those
 /// to keep a commit among them. The three steps keep one tree and a commit, again, and two trees and a commit.
-const ROWS: [(u64, usize, (u64, u64)); 7] = [
-    (1, 0, (1, 0)),
-    (2, 0, (2, 1)),
-    (3, 1, (3, 1)),
-    (4, 1, (4, 2)),
-    (5, 2, (5, 2)),
-    (6, 2, (6, 2)),
-    (7, 2, (7, 3)),
+const ROWS: [(&[u64], usize, (u64, u64)); 7] = [
+    (&[1], 0, (1, 0)),
+    (&[2], 0, (2, 1)),
+    (&[3], 1, (3, 1)),
+    (&[4], 1, (4, 2)),
+    (&[5], 2, (5, 2)),
+    (&[6], 2, (6, 2)),
+    (&[7], 2, (7, 3)),
 ];
 
+/// A store without objects that refuses the calls to keep something at these places.
+fn failing(alloc: Global, refused: &'static [u64]) -> Failing {
+    Failing::new(alloc, Memory::new(alloc), &[], refused)
+}
+
+/// How many calls there were to keep something, and how many of them to keep a commit.
+fn counts_of(store: &Failing) -> (u64, u64) {
+    (store.keeps(), store.commits())
+}
+
 /// Whether an import stops so, and the importer refuses a step behind it.
-fn stops(alloc: Global, refused: u64, before: usize, counts: (u64, u64)) -> Result<bool, Fail> {
+fn stops(
+    alloc: Global,
+    refused: &'static [u64],
+    before: usize,
+    counts: (u64, u64),
+) -> Result<bool, Fail> {
     if before > COMMITS.len() {
         return Ok(false);
     }
     let (commits, _) = COMMITS.split_at(before);
-    let mut importer = Importer::new(alloc, Failing::new(alloc, refused), HashKind::Sha1);
+    let mut importer = Importer::new(alloc, failing(alloc, refused), HashKind::Sha1);
     let Some(stopped) = stop_of(&mut importer, &plain_steps(alloc)?) else {
         return Ok(false);
     };
     let told = number(&stopped.error) == 4 && are_commits(&stopped.done, commits);
-    let kept = importer.store_mut().counts() == counts;
+    let kept = counts_of(importer.store_mut()) == counts;
     let failed = told_of(&mut importer, &step(alloc, Vec::new(alloc))?) == 7;
-    let still = importer.store_mut().counts() == counts;
+    let still = counts_of(importer.store_mut()) == counts;
     let all_there = stopped.done.iter().all(|it| kept_commit(
         alloc,
         importer.store_mut(),
@@ -47,7 +63,7 @@ fn stops(alloc: Global, refused: u64, before: usize, counts: (u64, u64)) -> Resu
 fn each_keep_refused_in_turn(rt: HostRuntime) -> Result<(), Fail> {
     let alloc = rt.alloc();
     for (refused, before, counts) in &ROWS {
-        assert!(rt; stops(alloc, *refused, *before, *counts)?, "at {refused}");
+        assert!(rt; stops(alloc, *refused, *before, *counts)?, "at {refused:?}");
     }
     Ok(())
 }
@@ -55,8 +71,8 @@ fn each_keep_refused_in_turn(rt: HostRuntime) -> Result<(), Fail> {
 #[test]
 fn no_keep_refused(rt: HostRuntime) -> Result<(), Fail> {
     let alloc = rt.alloc();
-    let mut importer = Importer::new(alloc, Failing::new(alloc, 8), HashKind::Sha1);
+    let mut importer = Importer::new(alloc, failing(alloc, &[8]), HashKind::Sha1);
     assert!(rt; imports(&mut importer, &plain_steps(alloc)?, &COMMITS));
-    assert!(rt; importer.store_mut().counts() == (7, 3));
+    assert!(rt; counts_of(importer.store_mut()) == (7, 3));
     Ok(())
 }

@@ -1,13 +1,13 @@
 //! The script of ten lines, whatever growth is refused on the way: want of memory is answered where it comes, the other
 //! answers stay, and what is given again with memory gets the answer that it gets with ample memory.
 
-use crate::runs::failing::Failing;
 use crate::runs::samples::{TEN_LINES, commands_of, editor_over, run_on};
 use crate::samples::names;
 use gixobj_base::encode;
 use gixobj_editor::editor::{Editor, Error, WriteError, Written};
 use gixobj_editor::{EditReply, Reply};
 use gixobj_find::{Keep, KeepError};
+use gixobj_find_tests::failing::Failing;
 use std::alloc::{AllocError, Global};
 use std::test::Fail;
 

@@ -1,11 +1,11 @@
 //! Writes whose trees are refused: what is told, and what the next write hands out.
 
-use crate::runs::failing::Failing;
 use crate::runs::samples::{commands_of, editor_over};
 use gixobj_base::Tree;
 use gixobj_base::hash::{Kind as HashKind, ObjectId};
 use gixobj_editor::editor::{Editor, WriteError};
 use gixobj_editor::{EditReply, Reply, run};
+use gixobj_find_tests::failing::Failing;
 use gixobj_script::edit_on;
 use std::alloc::Global;
 

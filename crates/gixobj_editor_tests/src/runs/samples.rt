@@ -1,6 +1,5 @@
 //! What several tests run, and how.
 
-use crate::runs::failing::Failing;
 use crate::samples::FILE;
 use bstr::BString;
 use gixobj_base::hash::Kind as HashKind;
@@ -8,6 +7,8 @@ use gixobj_base::tree::EntryKind;
 use gixobj_base::{OutOfMemory, Tree, encode};
 use gixobj_editor::editor::Editor;
 use gixobj_editor::{Command, Edit, Reply, run};
+use gixobj_find::Memory;
+use gixobj_find_tests::failing::Failing;
 use gixobj_script::{edit_on, read_script};
 use std::alloc::{AllocError, Global};
 use std::test::Fail;
@@ -31,7 +32,12 @@ pub(crate) fn editor_over(
     lookups_that_fail: &'static [u64],
     keeps_that_fail: &'static [u64],
 ) -> Editor<Failing> {
-    let store = Failing::new(alloc, lookups_that_fail, keeps_that_fail);
+    let store = Failing::new(
+        alloc,
+        Memory::new(alloc),
+        lookups_that_fail,
+        keeps_that_fail,
+    );
     Editor::new(Tree::empty(alloc), store, HashKind::Sha1)
 }
 

@@ -1,6 +1,5 @@
 //! Stores that refuse to keep a tree, or fail to find one: what is told, and how the run goes on.
 
-use crate::runs::failing::{Failing, OFFLINE};
 use crate::runs::samples::{TEN_LINES, editor_over, replies_to, tells};
 use crate::samples::names;
 use gixobj_base::encode;
@@ -9,6 +8,7 @@ use gixobj_editor::editor::Error;
 use gixobj_editor::{EditReply, Reply};
 use gixobj_find::KeepError;
 use gixobj_find::find::existing_object;
+use gixobj_find_tests::failing::{Failing, OFFLINE};
 use gixobj_object::{Find, find};
 use std::alloc::Global;
 use std::test::Fail;
