@@ -7,7 +7,7 @@ use std::io;
 #[derive(Debug, Drop, thiserror::Error)]
 pub(crate) enum Fault {
     /// The words ask for nothing that the program does.
-    #[error("usage: gixobj_bench bench FILE ROUNDS | bodies ROUNDS | editor ROUNDS")]
+    #[error("usage: gixobj_bench bench FILE ROUNDS | bodies ROUNDS | reports ROUNDS | editor ROUNDS")]
     Usage,
     /// The file isn't objects, one behind the other.
     #[error("gixobj_bench: not a file of objects")]

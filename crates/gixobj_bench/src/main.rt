@@ -10,6 +10,7 @@ mod corpus;
 mod editor;
 mod fault;
 mod objects;
+mod reports;
 mod rows;
 mod words;
 
@@ -37,6 +38,7 @@ fn run(rt: &HostRuntime) -> Result<(), Fault> {
             objects::measure_all(rt, rounds, bytes.as_slice())
         }
         Command::Bodies { rounds } => bodies::measure_all(rt, rounds),
+        Command::Reports { rounds } => reports::measure_all(rt, rounds),
         Command::Editor { rounds } => editor::measure_all(rt, rounds),
     }
 }

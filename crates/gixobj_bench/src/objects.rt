@@ -11,6 +11,7 @@ use crate::rows::looking::LookedUp;
 use crate::rows::messages::MessageRead;
 use crate::rows::owning::Owned;
 use crate::rows::reading::Whole;
+use crate::rows::signing::SignatureFound;
 use crate::rows::subject::Subject;
 use crate::rows::telling::{CommitTold, TagTold, TreeTold};
 use crate::rows::writing::{SizeAsked, Written, WrittenToVec};
@@ -70,7 +71,7 @@ fn measure_kind<R: Clock + Print + AllocGlobal>(
     }
 }
 
-/// Measures the readers that tell an object piece by piece, which a blob doesn't have.
+/// Measures the readers that tell an object piece by piece, and that of its signature, which a blob doesn't have.
 fn measure_told<R: Clock + Print + AllocGlobal>(
     rt: &R,
     subject: Subject,
@@ -80,8 +81,14 @@ fn measure_told<R: Clock + Print + AllocGlobal>(
     let alloc = rt.alloc();
     match kind {
         Kind::Tree => subject.row(rt, "token-read", &mut TreeTold, texts),
-        Kind::Commit => subject.row(rt, "token-read", &mut CommitTold { alloc }, texts),
-        Kind::Tag => subject.row(rt, "token-read", &mut TagTold, texts),
+        Kind::Commit => {
+            subject.row(rt, "token-read", &mut CommitTold { alloc }, texts)?;
+            subject.row(rt, "signature", &mut SignatureFound { alloc, kind }, texts)
+        }
+        Kind::Tag => {
+            subject.row(rt, "token-read", &mut TagTold, texts)?;
+            subject.row(rt, "signature", &mut SignatureFound { alloc, kind }, texts)
+        }
         Kind::Blob => Ok(()),
     }
 }

@@ -10,6 +10,7 @@ pub(crate) mod looking;
 pub(crate) mod messages;
 pub(crate) mod owning;
 pub(crate) mod reading;
+pub(crate) mod signing;
 pub(crate) mod subject;
 pub(crate) mod telling;
 pub(crate) mod writing;

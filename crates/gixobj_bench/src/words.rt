@@ -19,6 +19,11 @@ pub(crate) enum Command {
         /// How often each is timed.
         rounds: u32,
     },
+    /// Reports of verifiers.
+    Reports {
+        /// How often each part is timed.
+        rounds: u32,
+    },
     /// Edits of trees.
     Editor {
         /// How often each is timed.
@@ -42,6 +47,9 @@ pub(crate) fn command_of_process<R: Env + AllocGlobal>(rt: &R) -> Result<Command
             Command::Bench { file, rounds }
         }
         "bodies" => Command::Bodies {
+            rounds: rounds_of(words.next())?,
+        },
+        "reports" => Command::Reports {
             rounds: rounds_of(words.next())?,
         },
         "editor" => Command::Editor {

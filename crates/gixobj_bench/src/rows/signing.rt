@@ -1,0 +1,93 @@
+//! Signatures, found in the texts of objects, and what verifiers report of them.
+
+use super::Work;
+use super::reading::sum_of_lengths;
+use bstr::BString;
+use gixobj_base::Kind;
+use gixobj_base::hash::Kind::Sha1;
+use gixobj_codec::{CommitRefIter, TagRefIter};
+use gixobj_signature::signature::verify::{
+    Outcome, TrustLevel, parse_gpg_output, parse_ssh_output,
+};
+use gixobj_text::signature::Format;
+use std::alloc::Global;
+
+/// Finds the signature of a commit or of a tag, and what it signs.
+#[derive(Clone, Copy)]
+pub(crate) struct SignatureFound {
+    /// The memory.
+    pub(crate) alloc: Global,
+    /// The kind of the objects.
+    pub(crate) kind: Kind,
+}
+
+impl<'a> Work<&'a [u8]> for SignatureFound {
+    fn done(&mut self, text: &&'a [u8]) -> Option<u64> {
+        match self.kind {
+            Kind::Commit => weight_of_commit(self.alloc, text),
+            Kind::Tag => weight_of_tag(text),
+            Kind::Tree | Kind::Blob => Some(0),
+        }
+    }
+}
+
+/// The length of a commit's signature, 0 without one; none where the commit is refused.
+fn weight_of_commit(alloc: Global, text: &[u8]) -> Option<u64> {
+    match CommitRefIter::signature(alloc, text, Sha1) {
+        Ok(Some((value, _))) => Some(sum_of_lengths(&[value.as_slice().len()])),
+        Ok(None) => Some(0),
+        Err(_) => None,
+    }
+}
+
+/// The length of a tag's signature, 0 without one.
+fn weight_of_tag(text: &[u8]) -> Option<u64> {
+    match TagRefIter::signature(text) {
+        Some((signature, _)) => Some(sum_of_lengths(&[signature.bytes.as_bytes().len()])),
+        None => Some(0),
+    }
+}
+
+/// Reads what a program of OpenPGP reports. The call takes its text, so it is copied for each.
+#[derive(Clone, Copy)]
+pub(crate) struct GpgReportRead {
+    /// The memory.
+    pub(crate) alloc: Global,
+}
+
+impl<'a> Work<&'a [u8]> for GpgReportRead {
+    fn done(&mut self, report: &&'a [u8]) -> Option<u64> {
+        let output = BString::from_slice(self.alloc, b"").ok()?;
+        let raw_output = BString::from_slice(self.alloc, report).ok()?;
+        let outcome = parse_gpg_output(self.alloc, Format::OpenPgp, output, raw_output).ok()?;
+        Some(weight_of_outcome(&outcome))
+    }
+}
+
+/// Reads what a program of SSH reports, likewise.
+#[derive(Clone, Copy)]
+pub(crate) struct SshReportRead {
+    /// The memory.
+    pub(crate) alloc: Global,
+}
+
+impl<'a> Work<&'a [u8]> for SshReportRead {
+    fn done(&mut self, report: &&'a [u8]) -> Option<u64> {
+        let output = BString::from_slice(self.alloc, report).ok()?;
+        let outcome = parse_ssh_output(self.alloc, output, None, TrustLevel::Fully).ok()?;
+        Some(weight_of_outcome(&outcome))
+    }
+}
+
+/// The lengths of the signer and of the key.
+fn weight_of_outcome(outcome: &Outcome) -> u64 {
+    sum_of_lengths(&[length_of(&outcome.signer), length_of(&outcome.key)])
+}
+
+/// The length of a text, 0 without one.
+fn length_of(text: &Option<BString>) -> usize {
+    match text {
+        Some(text) => text.as_bytes().len(),
+        None => 0,
+    }
+}
