@@ -6,7 +6,7 @@ use Rattle.gix_object.specs.Entries.{EntryView}
 use Rattle.gix_object.specs.Hash.{Spells}
 use Rattle.gix_object.specs.Rewriting.{RefusesOwnFormOfCommit}
 use Rattle.gix_object.specs.Streams.{SinkView}
-use Rattle.gix_object.specs.TokenPassing.{FindsFault, IsMessageToken}
+use Rattle.gix_object.specs.TokenPassing.{FindsTokenFault, IsMessageToken}
 use Rattle.gix_object.specs.TreeReading.{IsTreeText, RefusesTreeText}
 use Rattle.gix_object.specs.Writing.{FailsAsSink}
 use Rattle.gix_object.specs.ref_iter.commit.CommitRefIter.{CommitRefIter}
@@ -50,7 +50,7 @@ part_refused commit before after text written.IllegalActor fails = fails
 part_refused commit before after text written.OutOfMemory fails = fails
 
 -- what refuses a message that is there is want of memory
-pub message_refused : (reader : CommitRefIter) (error : Error) → (FindsFault IsMessageToken reader Malformed → ⊥) → FindsFault IsMessageToken reader error → error ≡ OutOfMemory
+pub message_refused : (reader : CommitRefIter) (error : Error) → (FindsTokenFault IsMessageToken reader Malformed → ⊥) → FindsTokenFault IsMessageToken reader error → error ≡ OutOfMemory
 message_refused reader Malformed has fault = absurd (has fault)
 message_refused reader OutOfMemory has fault = refl
 

@@ -10,6 +10,6 @@ abbrev pub IsNotStarted : Answer → Type 0
 IsNotStarted answer = answer ≡ failed (not_spawned [])
 
 -- the first answer of the list, or none where the call is another one; and then the others are left
-abbrev pub Gives : List (Call × Result Output RunError) → Answer → List (Call × Result Output RunError) → Type 0
-Gives [] answer left = IsNotStarted answer × (left ≡ [])
-Gives (first ∷ others) answer left = ((answer ≡ answer_view first.1) ⊎ IsNotStarted answer) × (left ≡ others)
+abbrev pub Plays : List (Call × Result Output RunError) → Answer → List (Call × Result Output RunError) → Type 0
+Plays [] answer left = IsNotStarted answer × (left ≡ [])
+Plays (first ∷ others) answer left = ((answer ≡ answer_view first.1) ⊎ IsNotStarted answer) × (left ≡ others)

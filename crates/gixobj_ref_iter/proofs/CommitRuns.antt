@@ -11,10 +11,10 @@ use Rattle.gixobj_commit.specs.Lines.{WantsMemory}
 use Rattle.gixobj_commit.specs.declared.lines.State.{State}
 use Rattle.gixobj_ref_iter.proofs.CommitTokens.{no_token_of_nothing, one_token, text_of_token}
 use Rattle.gixobj_ref_iter.specs.CommitRuns.{TellsCommit}
-use Rattle.gixobj_ref_iter.specs.CommitTokens.{HasCommitToken, IsCommitTokenText, CommitTokenView, commit_token_view}
-use Rattle.gixobj_ref_iter.specs.TokenFilters.{ReadsFirst, ReadsNone}
+use Rattle.gixobj_ref_iter.specs.CommitTokens.{CommitTokenView, HasCommitToken, IsCommitTokenText, commit_token_view}
+use Rattle.gixobj_ref_iter.specs.TokenFilters.{ReadsFirstToken, ReadsNoToken}
 use Rattle.gixobj_ref_iter.specs.TokenGiving.{BorrowsValue, GivesCommitToken, standing_in_commit}
-use Rattle.gixobj_ref_iter.specs.TokenPassing.{AreCommitTokenTexts, FindsFault, FindsFirst, FindsNone, LacksAll}
+use Rattle.gixobj_ref_iter.specs.TokenPassing.{AreCommitTokenTexts, FindsFirstToken, FindsNoToken, FindsTokenFault, LacksToken}
 use Rattle.gixobj_ref_iter.specs.declared.commit.CommitRefIter.{CommitRefIter}
 use Rattle.gixobj_ref_iter.specs.declared.commit.Token.{Token}
 
@@ -43,24 +43,24 @@ pub seeks_on : (Is : CommitTokenView → Type 0) (reader at after : CommitRefIte
     → ¬ Is (commit_token_view token) → Seeks Is reader after
 seeks_on = readers.seeks_on standing_in_commit HasCommitToken (λ kind. WantsMemory) commit_token_view BorrowsValue no_longer
 
-pub seeks_first : (Is : CommitTokenView → Type 0) (reader at after : CommitRefIter) (item : Result Token Error) (token : Token) → Seeks Is reader at → GivesCommitToken at (Some item) after → item ≡ Ok token → FindsFirst Is reader (commit_token_view token)
+pub seeks_first : (Is : CommitTokenView → Type 0) (reader at after : CommitRefIter) (item : Result Token Error) (token : Token) → Seeks Is reader at → GivesCommitToken at (Some item) after → item ≡ Ok token → FindsFirstToken Is reader (commit_token_view token)
 seeks_first = readers.seeks_first standing_in_commit HasCommitToken (λ kind. WantsMemory) commit_token_view BorrowsValue no_longer
 
-pub seeks_fault : (Is : CommitTokenView → Type 0) (reader at after : CommitRefIter) (item : Result Token Error) (given error : Error) → given ≡ error → Seeks Is reader at → GivesCommitToken at (Some item) after → item ≡ Err error → FindsFault Is reader given
+pub seeks_fault : (Is : CommitTokenView → Type 0) (reader at after : CommitRefIter) (item : Result Token Error) (given error : Error) → given ≡ error → Seeks Is reader at → GivesCommitToken at (Some item) after → item ≡ Err error → FindsTokenFault Is reader given
 seeks_fault = readers.seeks_fault standing_in_commit HasCommitToken (λ kind. WantsMemory) commit_token_view BorrowsValue no_longer
 
-pub seeks_error : (Is : CommitTokenView → Type 0) (reader at after : CommitRefIter) (item : Result Token Error) (given error : Error) → given ≡ error → Seeks Is reader at → GivesCommitToken at (Some item) after → item ≡ Err error → FindsNone Is reader given
+pub seeks_error : (Is : CommitTokenView → Type 0) (reader at after : CommitRefIter) (item : Result Token Error) (given error : Error) → given ≡ error → Seeks Is reader at → GivesCommitToken at (Some item) after → item ≡ Err error → FindsNoToken Is reader given
 seeks_error = readers.seeks_error standing_in_commit HasCommitToken (λ kind. WantsMemory) commit_token_view BorrowsValue no_longer
 
-pub seeks_end : (Is : CommitTokenView → Type 0) (reader at after : CommitRefIter) → Seeks Is reader at → GivesCommitToken at None after → LacksAll Is reader complete
+pub seeks_end : (Is : CommitTokenView → Type 0) (reader at after : CommitRefIter) → Seeks Is reader at → GivesCommitToken at None after → LacksToken Is reader complete
 seeks_end = readers.seeks_end standing_in_commit HasCommitToken (λ kind. WantsMemory) commit_token_view BorrowsValue no_longer
 
 pub reads_first : (Is This : CommitTokenView → Type 0) (reader at after : CommitRefIter) (item : Result Token Error) (token : Token) → Seeks Is reader at → GivesCommitToken at (Some item) after → item ≡ Ok token → This (commit_token_view token)
-    → ReadsFirst Is This reader after
+    → ReadsFirstToken Is This reader after
 reads_first = readers.reads_first standing_in_commit HasCommitToken (λ kind. WantsMemory) commit_token_view BorrowsValue no_longer
 
-pub reads_error : (Is : CommitTokenView → Type 0) (reader at after : CommitRefIter) (item : Result Token Error) (error : Error) → Seeks Is reader at → GivesCommitToken at (Some item) after → item ≡ Err error → ReadsNone Is reader after
+pub reads_error : (Is : CommitTokenView → Type 0) (reader at after : CommitRefIter) (item : Result Token Error) (error : Error) → Seeks Is reader at → GivesCommitToken at (Some item) after → item ≡ Err error → ReadsNoToken Is reader after
 reads_error = readers.reads_error standing_in_commit HasCommitToken (λ kind. WantsMemory) commit_token_view BorrowsValue no_longer
 
-pub reads_end : (Is : CommitTokenView → Type 0) (reader at after : CommitRefIter) → Seeks Is reader at → GivesCommitToken at None after → ReadsNone Is reader after
+pub reads_end : (Is : CommitTokenView → Type 0) (reader at after : CommitRefIter) → Seeks Is reader at → GivesCommitToken at None after → ReadsNoToken Is reader after
 reads_end = readers.reads_end standing_in_commit HasCommitToken (λ kind. WantsMemory) commit_token_view BorrowsValue no_longer

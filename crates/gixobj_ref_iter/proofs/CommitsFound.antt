@@ -21,10 +21,10 @@ use Rattle.gixobj_ref_iter.proofs.CommitLanguage as language
 use Rattle.gixobj_ref_iter.proofs.CommitRuns.{one_run}
 use Rattle.gixobj_ref_iter.proofs.CommitTokens.{no_token_of_nothing, one_token}
 use Rattle.gixobj_ref_iter.specs.CommitRuns.{TellsCommit}
-use Rattle.gixobj_ref_iter.specs.CommitTokens.{HasCommitToken, TellsLine, CommitTokenView, author_token, committer_token, message_token, tells_author, tells_committer, tells_message, tells_tree, commit_token_view, tree_token}
+use Rattle.gixobj_ref_iter.specs.CommitTokens.{CommitTokenView, HasCommitToken, TellsLine, author_token, commit_token_view, committer_token, message_token, tells_author, tells_committer, tells_message, tells_tree, tree_token}
 use Rattle.gixobj_ref_iter.specs.Readers.{AreTokensOfCommit, EndsInMessage}
-use Rattle.gixobj_ref_iter.specs.TokenGiving.{GivesIdOfCommit, GivesCommitToken, IsAtStartOfCommit, answered_commit_id, commit_id_or_malformed, standing_in_commit, commit_token_id}
-use Rattle.gixobj_ref_iter.specs.TokenPassing.{FindsAuthor, FindsCommitter, FindsFault, FindsFirst, FindsMessage, FindsNone, IsAuthorToken, IsCommitterToken, IsMessageToken, LacksAll}
+use Rattle.gixobj_ref_iter.specs.TokenGiving.{GivesCommitToken, GivesIdOfCommit, IsAtStartOfCommit, answered_commit_id, commit_id_or_malformed, commit_token_id, standing_in_commit}
+use Rattle.gixobj_ref_iter.specs.TokenPassing.{FindsAuthor, FindsCommitter, FindsFirstToken, FindsMessage, FindsNoToken, FindsTokenFault, IsAuthorToken, IsCommitterToken, IsMessageToken, LacksToken}
 use Rattle.gixobj_ref_iter.specs.declared.commit.CommitRefIter.{CommitRefIter}
 use Rattle.gixobj_ref_iter.specs.declared.commit.Token.{Token}
 
@@ -121,7 +121,7 @@ module _ (kind : Kind) (text : List ℕ) (commit : CommitLines) (reader : Commit
   told : TellsCommit (standing_in_commit reader).kind (standing_in_commit reader).state (standing_in_commit reader).bytes run.0 complete
   told = from_start kind text reader run.0 start run.1
 
-  line_found : (Is : CommitTokenView → Type 0) (token : CommitTokenView) → FindsFirst Is reader token → (line : LineView) × IsLineOf commit line × TellsLine line token
+  line_found : (Is : CommitTokenView → Type 0) (token : CommitTokenView) → FindsFirstToken Is reader token → (line : LineView) × IsLineOf commit line × TellsLine line token
   line_found Is token (before, behind, here, rest, (passed, passes, none), has) =
       let has_token = HasCommitToken (standing_in_commit reader).kind in
       let one = one_token (standing_in_commit reader).kind in
@@ -131,7 +131,7 @@ module _ (kind : Kind) (text : List ℕ) (commit : CommitLines) (reader : Commit
       let joined = at.joined ∙ ap (λ (it : List CommitTokenView). passed ++ it) first.joined in
       line_here (IsLineOf commit) (lines_of_commit commit) passed token first.others (all_of_it commit) (subst (λ (it : List CommitTokenView). AllZip TellsLine (lines_of_commit commit) it) joined run.2)
 
-  lacks_none : (Is : CommitTokenView → Type 0) (ending : Ending) (front : List LineView) (line : LineView) (more : List LineView) → lines_of_commit commit ≡ front ++ line ∷ more → ((token : CommitTokenView) → TellsLine line token → Is token) → LacksAll Is reader ending → ⊥
+  lacks_none : (Is : CommitTokenView → Type 0) (ending : Ending) (front : List LineView) (line : LineView) (more : List LineView) → lines_of_commit commit ≡ front ++ line ∷ more → ((token : CommitTokenView) → TellsLine line token → Is token) → LacksToken Is reader ending → ⊥
   lacks_none Is ending front line more joined is_such (tokens, lacks, none) =
       let same = (one_run (standing_in_commit reader).kind (standing_in_commit reader).state (standing_in_commit reader).bytes tokens run.0 ending complete lacks told).0 in
       let here = token_here front line more run.0 (subst (λ (it : List LineView). AllZip TellsLine it run.0) joined run.2) in
@@ -142,13 +142,13 @@ module _ (kind : Kind) (text : List ℕ) (commit : CommitLines) (reader : Commit
   pub its_author : (actor : ActorView) → FindsAuthor reader actor → IsActorOf commit.author actor
   its_author actor finds = let it = line_found IsAuthorToken (author_token actor) finds in author_of commit it.0 actor it.1 it.2
 
-  pub has_author : ¬ FindsNone IsAuthorToken reader Malformed
+  pub has_author : ¬ FindsNoToken IsAuthorToken reader Malformed
   has_author = λ (ending, lacks). lacks_none IsAuthorToken ending (tree_line commit.tree ∷ map parent_line commit.parents) (author_line commit.author) _ refl (is_author commit.author) lacks
 
   pub its_committer : (actor : ActorView) → FindsCommitter reader actor → IsActorOf commit.committer actor
   its_committer actor finds = let it = line_found IsCommitterToken (committer_token actor) finds in committer_of commit it.0 actor it.1 it.2
 
-  pub has_committer : ¬ FindsNone IsCommitterToken reader Malformed
+  pub has_committer : ¬ FindsNoToken IsCommitterToken reader Malformed
   has_committer = λ (ending, lacks).
       let others = encoding_lines commit.encoding ++ (map header_line commit.extra_headers ++ message_line commit.message ∷ []) in
       let joined : lines_of_commit commit ≡ (tree_line commit.tree ∷ (map parent_line commit.parents ++ author_line commit.author ∷ [])) ++ committer_line commit.committer ∷ others = sym (simp append_assoc) in
@@ -158,7 +158,7 @@ module _ (kind : Kind) (text : List ℕ) (commit : CommitLines) (reader : Commit
   its_message message (inl finds) = let it = line_found IsMessageToken (message_token message) finds in message_of commit it.0 message it.1 it.2
   its_message message (inr (lacks, empty)) = absurd (lacks_none IsMessageToken complete (message_last commit).0 (message_line commit.message) [] (message_last commit).1 (is_message commit.message) lacks)
 
-  pub has_message : ¬ FindsFault IsMessageToken reader Malformed
+  pub has_message : ¬ FindsTokenFault IsMessageToken reader Malformed
   has_message = λ lacks. lacks_none IsMessageToken broken (message_last commit).0 (message_line commit.message) [] (message_last commit).1 (is_message commit.message) lacks
 
   -- ---- the tree

@@ -9,7 +9,7 @@ use Rattle.gixobj_fields.specs.Runs as runs
 use Rattle.gixobj_fields.specs.Runs.{Ending, complete}
 use Rattle.gixobj_commit.specs.Lines.{WantsMemory}
 use Rattle.gixobj_commit.specs.declared.lines.State.TheVariants as state
-use Rattle.gixobj_ref_iter.specs.CommitTokens.{HasCommitToken, IsCommitTokenText, CommitTokenView, author_token, committer_token, message_token, parent_token}
+use Rattle.gixobj_ref_iter.specs.CommitTokens.{CommitTokenView, HasCommitToken, IsCommitTokenText, author_token, committer_token, message_token, parent_token}
 use Rattle.gixobj_ref_iter.specs.TokenGiving.{standing_in_commit}
 use Rattle.gixobj_ref_iter.specs.declared.commit.CommitRefIter.{CommitRefIter}
 
@@ -23,20 +23,20 @@ HasPassedCommitTokens kind text tokens reader =
     runs.Passes (HasCommitToken kind) state.Tree text tokens (standing_in_commit reader).state (standing_in_commit reader).bytes × ((standing_in_commit reader).kind ≡ kind)
 
 -- past tokens that are none such, this one comes
-abbrev pub FindsFirst : (CommitTokenView → Type 0) → CommitRefIter → CommitTokenView → Type 0
-FindsFirst = readers.FindsFirst standing_in_commit HasCommitToken
+abbrev pub FindsFirstToken : (CommitTokenView → Type 0) → CommitRefIter → CommitTokenView → Type 0
+FindsFirstToken = readers.FindsFirst standing_in_commit HasCommitToken
 
 -- the whole run of the reader has no such token, and ends so
-abbrev pub LacksAll : (CommitTokenView → Type 0) → CommitRefIter → Ending → Type 0
-LacksAll = readers.LacksAll standing_in_commit HasCommitToken
+abbrev pub LacksToken : (CommitTokenView → Type 0) → CommitRefIter → Ending → Type 0
+LacksToken = readers.LacksAll standing_in_commit HasCommitToken
 
 -- why no such token is found
-abbrev pub FindsNone : (CommitTokenView → Type 0) → CommitRefIter → Error → Type 0
-FindsNone = readers.FindsNone standing_in_commit HasCommitToken (λ kind. WantsMemory)
+abbrev pub FindsNoToken : (CommitTokenView → Type 0) → CommitRefIter → Error → Type 0
+FindsNoToken = readers.FindsNone standing_in_commit HasCommitToken (λ kind. WantsMemory)
 
 -- why no such token is found, where the bytes may end without one
-abbrev pub FindsFault : (CommitTokenView → Type 0) → CommitRefIter → Error → Type 0
-FindsFault = readers.FindsFault standing_in_commit HasCommitToken (λ kind. WantsMemory)
+abbrev pub FindsTokenFault : (CommitTokenView → Type 0) → CommitRefIter → Error → Type 0
+FindsTokenFault = readers.FindsFault standing_in_commit HasCommitToken (λ kind. WantsMemory)
 
 abbrev pub IsParentToken : CommitTokenView → Type 0
 IsParentToken (parent_token id) = ⊤
@@ -66,11 +66,11 @@ IsMessageToken _ = ⊥
 
 -- past tokens that are no author, this author comes
 abbrev pub FindsAuthor : CommitRefIter → ActorView → Type 0
-FindsAuthor reader actor = FindsFirst IsAuthorToken reader (author_token actor)
+FindsAuthor reader actor = FindsFirstToken IsAuthorToken reader (author_token actor)
 
 abbrev pub FindsCommitter : CommitRefIter → ActorView → Type 0
-FindsCommitter reader actor = FindsFirst IsCommitterToken reader (committer_token actor)
+FindsCommitter reader actor = FindsFirstToken IsCommitterToken reader (committer_token actor)
 
 -- past tokens that are no message this one comes, or the bytes end and it is empty
 abbrev pub FindsMessage : CommitRefIter → List ℕ → Type 0
-FindsMessage reader message = FindsFirst IsMessageToken reader (message_token message) ⊎ (LacksAll IsMessageToken reader complete × (message ≡ []))
+FindsMessage reader message = FindsFirstToken IsMessageToken reader (message_token message) ⊎ (LacksToken IsMessageToken reader complete × (message ≡ []))

@@ -13,9 +13,9 @@ pub struct Played {
 }
 
 impl Runner for Played {
-    ghost use Rattle.gixobj_codec_tests.specs.Playing.{Gives};
+    ghost use Rattle.gixobj_codec_tests.specs.Playing.{Plays};
 
-    ghost runs = { λ old _ answer new. Gives old.steps.items answer new.steps.items };
+    ghost runs = { λ old _ answer new. Plays old.steps.items answer new.steps.items };
 
     fn run(&mut self, call: &Call) -> Result<Output, RunError> {
         if self.steps.is_empty() {

@@ -3,7 +3,7 @@ ghost use Rattle.std.specs.Prelude.{IfErr, IfOk};
 ghost use Rattle.bstr.specs.BStr.{bstr_bytes};
 ghost use Rattle.gixobj_actor.specs.Actor.{actor_view};
 ghost use Rattle.gixobj_ref_iter.specs.TokenGiving.{GivesIdOfCommit};
-ghost use Rattle.gixobj_ref_iter.specs.TokenPassing.{FindsAuthor, FindsCommitter, FindsFault, FindsMessage, FindsNone, IsAuthorToken, IsCommitterToken, IsMessageToken};
+ghost use Rattle.gixobj_ref_iter.specs.TokenPassing.{FindsAuthor, FindsCommitter, FindsMessage, FindsNoToken, FindsTokenFault, IsAuthorToken, IsCommitterToken, IsMessageToken};
 
 use super::CommitRefIter;
 use bstr::BStr;
@@ -35,7 +35,7 @@ impl<'a> CommitRefIter<'a> {
     #[tactic(auto, using(crate::proofs::CommitRuns::seeks_start, crate::proofs::CommitRuns::seeks_first))]
     pub fn author(self) -> Result<SignatureRef<'a>, Error>
         ensures found { IfOk result (λ it. FindsAuthor self.entry (actor_view it)) }
-        ensures refusal { IfErr result (FindsNone IsAuthorToken self.entry) }
+        ensures refusal { IfErr result (FindsNoToken IsAuthorToken self.entry) }
     {
         for item in self {
             let token = item?;
@@ -52,7 +52,7 @@ impl<'a> CommitRefIter<'a> {
     #[tactic(auto, using(crate::proofs::CommitRuns::seeks_start, crate::proofs::CommitRuns::seeks_first))]
     pub fn committer(self) -> Result<SignatureRef<'a>, Error>
         ensures found { IfOk result (λ it. FindsCommitter self.entry (actor_view it)) }
-        ensures refusal { IfErr result (FindsNone IsCommitterToken self.entry) }
+        ensures refusal { IfErr result (FindsNoToken IsCommitterToken self.entry) }
     {
         for item in self {
             let token = item?;
@@ -69,7 +69,7 @@ impl<'a> CommitRefIter<'a> {
     #[tactic(auto, using(crate::proofs::CommitRuns::seeks_start, crate::proofs::CommitRuns::seeks_first))]
     pub fn message(self) -> Result<BStr<'a>, Error>
         ensures found { IfOk result (λ it. FindsMessage self.entry (bstr_bytes it)) }
-        ensures refusal { IfErr result (FindsFault IsMessageToken self.entry) }
+        ensures refusal { IfErr result (FindsTokenFault IsMessageToken self.entry) }
     {
         for answer in self {
             let token = answer?;

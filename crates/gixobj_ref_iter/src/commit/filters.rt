@@ -40,11 +40,11 @@ impl<'a> CommitRefIter<'a> {
 impl<'a> Iterator for ParentIds<'a> {
     type Item = ObjectId;
 
-    ghost use Rattle.gixobj_ref_iter.specs.TokenFilters.{GivesParent, parents_left};
+    ghost use Rattle.gixobj_ref_iter.specs.TokenFilters.{GivesParent, parent_ids_left};
 
     ghost next_gives = { GivesParent };
 
-    ghost remaining = { parents_left };
+    ghost remaining = { parent_ids_left };
 
     #[tactic(auto, using(crate::proofs::CommitRuns::seeks_start, crate::proofs::CommitRuns::reads_first))]
     fn next(&mut self) -> Option<ObjectId> {

@@ -14,8 +14,8 @@ ghost use Rattle.gixobj_ref_iter.specs.CommitRuns.{TellsCommit};
 ghost use Rattle.gixobj_ref_iter.specs.CommitTokens.{CommitTokenView, commit_token_view};
 ghost use Rattle.gixobj_ref_iter.specs.Readers.{AreTokensOfCommit, EndsInMessage};
 ghost use Rattle.gixobj_ref_iter.specs.TokenFilters.{GivesParent, parents_reader};
-ghost use Rattle.gixobj_ref_iter.specs.TokenGiving.{GivesIdOfCommit, GivesCommitToken, IsAtStartOfCommit};
-ghost use Rattle.gixobj_ref_iter.specs.TokenPassing.{FindsAuthor, FindsCommitter, FindsFault, FindsMessage, FindsNone, HasPassedCommitTokens, IsAuthorToken, IsCommitterToken, IsMessageToken};
+ghost use Rattle.gixobj_ref_iter.specs.TokenGiving.{GivesCommitToken, GivesIdOfCommit, IsAtStartOfCommit};
+ghost use Rattle.gixobj_ref_iter.specs.TokenPassing.{FindsAuthor, FindsCommitter, FindsMessage, FindsNoToken, FindsTokenFault, HasPassedCommitTokens, IsAuthorToken, IsCommitterToken, IsMessageToken};
 ghost use Rattle.gixobj_ref_iter.specs.declared.commit.CommitRefIter.{CommitRefIter};
 ghost use Rattle.gixobj_commit.specs.declared.lines.State.TheVariants as state;
 ghost use Rattle.gixobj_ref_iter.specs.declared.commit.Token.{Token};
@@ -74,14 +74,14 @@ pub fn actors_are_found()
         → FindsAuthor reader actor → IsActorOf commit.author actor }
     ensures has_author { (kind : Kind) (text : List ℕ) (commit : CommitLines)
         (reader : CommitRefIter) → IsCommitText kind text commit
-        → IsAtStartOfCommit kind text reader → ¬ FindsNone IsAuthorToken reader Malformed }
+        → IsAtStartOfCommit kind text reader → ¬ FindsNoToken IsAuthorToken reader Malformed }
     ensures committer { (kind : Kind) (text : List ℕ) (commit : CommitLines)
         (reader : CommitRefIter) (actor : ActorView) → IsCommitText kind text commit
         → IsAtStartOfCommit kind text reader → FindsCommitter reader actor
         → IsActorOf commit.committer actor }
     ensures has_committer { (kind : Kind) (text : List ℕ) (commit : CommitLines)
         (reader : CommitRefIter) → IsCommitText kind text commit
-        → IsAtStartOfCommit kind text reader → ¬ FindsNone IsCommitterToken reader Malformed }
+        → IsAtStartOfCommit kind text reader → ¬ FindsNoToken IsCommitterToken reader Malformed }
 {}
 
 /// Of the text of a commit a reader at its start finds the commit's message, and refuses it but for
@@ -92,5 +92,5 @@ pub fn message_is_found()
         → FindsMessage reader message → message ≡ commit.message }
     ensures has_message { (kind : Kind) (text : List ℕ) (commit : CommitLines)
         (reader : CommitRefIter) → IsCommitText kind text commit
-        → IsAtStartOfCommit kind text reader → ¬ FindsFault IsMessageToken reader Malformed }
+        → IsAtStartOfCommit kind text reader → ¬ FindsTokenFault IsMessageToken reader Malformed }
 {}
