@@ -13,7 +13,7 @@ use Rattle.gixobj_files.specs.Files.{Path}
 use Rattle.gixobj_files.specs.State.{State}
 use Rattle.gixobj_tree.specs.Entries.{Pair}
 use Rattle.gixobj_editor.specs.Commands.{Place, at_cursor, at_root, pairs_handed_out, pairs_of, pairs_of_edit}
-use Rattle.gixobj_editor.specs.Replies.{Answers, AnswersId, AreEditReplies, IsEditReply, IsReply, IsReplyAt, IsRun, IsWrittenAt}
+use Rattle.gixobj_editor.specs.Replies.{Answers, AreEditReplies, GivesTreeId, IsEditReply, IsReply, IsReplyAt, IsRun, IsWrittenAt}
 use Rattle.gixobj_editor.specs.declared.reply.EditReply.{EditReply}
 use Rattle.gixobj_editor.specs.declared.reply.EditReply.TheVariants as edit_reply
 use Rattle.gixobj_editor.specs.declared.reply.Reply.{Reply}
@@ -25,7 +25,7 @@ module _ {S E : Type 0} (means : Meaning S) (answers : Answers E) where
   abbrev pub IsAnswered : Pair → Type 0
   IsAnswered pair = answers pair.1 (Ok pair.0)
 
-  called : (asked : Unit {0}) (pairs : List Pair) (answered : Unit {0}) → FoldsTo (AnswersId answers) asked pairs answered → All IsAnswered pairs
+  called : (asked : Unit {0}) (pairs : List Pair) (answered : Unit {0}) → FoldsTo (GivesTreeId answers) asked pairs answered → All IsAnswered pairs
   called asked [] answered is = All-nil IsAnswered
   called asked (pair ∷ pairs) answered (next, one, rest) = All-cons IsAnswered pair pairs one (called next pairs answered rest)
 

@@ -14,7 +14,7 @@ use Rattle.gixobj_files.specs.Files.{Path}
 use Rattle.gixobj_files.specs.State.{State}
 use Rattle.gixobj_hash.specs.declared.hash.object_id.ObjectId.{ObjectId}
 use Rattle.gixobj_tree.specs.Entries.{EntryView, Pair}
-use Rattle.gixobj_editor.specs.Replies.{Answers, AnswersId, Denies}
+use Rattle.gixobj_editor.specs.Replies.{Answers, Denies, GivesTreeId}
 
 -- the members of the closure, and those of a reference to it
 module _ {F E : Type 0} (of : Shared F (Bor (List EntryView) × Unit {0}) (Result ObjectId E)) (lent : Mut (Bor F) (Bor (List EntryView) × Unit {0}) (Result ObjectId E)) (out : Bor F) where
@@ -36,7 +36,7 @@ module _ {F E : Type 0} (of : Shared F (Bor (List EntryView) × Unit {0}) (Resul
       let it = calls asked one.shown answer answered one.called in
       (it.0 ∙ stays, record { shown = one.shown; shows = one.shows; says = record { met = subst (λ (f : Bor F). of.post f.now (one.shown, tt) answer) stays it.1 } })
 
-  folds : (asked : Bor F) (pairs : List Pair) (answered : Bor F) → asked ≡ out → FoldsTo gave asked pairs answered → AreCalls → FoldsTo (AnswersId answers) tt pairs tt × (answered ≡ out)
+  folds : (asked : Bor F) (pairs : List Pair) (answered : Bor F) → asked ≡ out → FoldsTo gave asked pairs answered → AreCalls → FoldsTo (GivesTreeId answers) tt pairs tt × (answered ≡ out)
   folds asked [] answered stays is calls = (refl, sym is ∙ stays)
   folds asked (pair ∷ pairs) answered stays (next, one, rest) calls =
       let now = answered_so asked next pair.1 (Ok pair.0) stays one calls in
@@ -47,7 +47,7 @@ module _ {F E : Type 0} (of : Shared F (Bor (List EntryView) × Unit {0}) (Resul
   callable pre may calls = λ answered state folded tree storable. subst (λ (f : Bor F). pre f tree) (sym (folds out answered state refl folded calls).1) (may tree storable)
 
   pub written : {S : Type 0} (old new : State S) (it : Written) → (last : Bor F) × IsWrittenEditor (λ f p g. CalledAt lent f p.1 (Ok p.0) g) out old it new last → AreCalls
-      → IsWrittenEditor (AnswersId answers) tt old it new tt
+      → IsWrittenEditor (GivesTreeId answers) tt old it new tt
   written old new it (last, wrote) calls = record {
     handed_out = wrote.handed_out;
     called = (folds out it.trees.items last refl wrote.called calls).0;
@@ -64,7 +64,7 @@ module _ {F E : Type 0} (of : Shared F (Bor (List EntryView) × Unit {0}) (Resul
   }
 
   pub written_below : {S : Type 0} (old new : State S) (prefix : Path) (it : Written) → (last : Bor F) × IsWrittenBelow (λ f p g. CalledAt lent f p.1 (Ok p.0) g) out old prefix it new last → AreCalls
-      → IsWrittenBelow (AnswersId answers) tt old prefix it new tt
+      → IsWrittenBelow (GivesTreeId answers) tt old prefix it new tt
   written_below old new prefix it (last, wrote) calls = record {
     handed_out = wrote.handed_out;
     called = (folds out it.trees.items last refl wrote.called calls).0;
@@ -82,7 +82,7 @@ module _ {F E : Type 0} (of : Shared F (Bor (List EntryView) × Unit {0}) (Resul
   }
 
   pub stopped : (goes_out : List Pair → Type 0) (error : WriteError E) → (last : Bor F) × Stopped (λ f p g. CalledAt lent f p.1 (Ok p.0) g) (λ f t e g. CalledAt lent f t (Err e) g) goes_out out last error → AreCalls
-      → Stopped (AnswersId answers) (Denies answers) goes_out tt tt error
+      → Stopped (GivesTreeId answers) (Denies answers) goes_out tt tt error
   stopped goes_out (write.Out e) (last, (before, tree, between, folded, one, goes)) calls =
       let so_far = folds out before between refl folded calls in
       (before, tree, tt, so_far.0, (answered_so between last tree (Err e) so_far.1 one calls).1, goes)

@@ -36,7 +36,7 @@ use Rattle.gixobj_editor.proofs.Told.{no_tree_mode, plain_before, told_by_trees,
 use Rattle.gixobj_editor.proofs.Plainly.{AreBuilt, IsPlainState, Within, plain_assured, plain_below, plain_refused, plain_removed, plain_root, plain_upserted}
 use Rattle.gixobj_editor.specs.Commands.{Place, accepted_steps, at_cursor, at_root, kept_of, kept_of_edit, pairs_handed_out, pairs_kept, pairs_of, pairs_of_edit, written_at, written_by}
 use Rattle.gixobj_editor.specs.OneId.{IdsTellFiles, IsPlainRun, NamesNoTree, PutsNoTree, files_before}
-use Rattle.gixobj_editor.specs.Replies.{Answers, AnswersId, AreEditReplies, IsEditReply, IsReply, IsReplyAt, IsRun, IsWriteKept, IsWrittenAt}
+use Rattle.gixobj_editor.specs.Replies.{Answers, AreEditReplies, GivesTreeId, IsEditReply, IsReply, IsReplyAt, IsRun, IsWriteKept, IsWrittenAt}
 use Rattle.gixobj_editor.specs.RunTables.{AgreesWithObjects, AgreesWithRun}
 use Rattle.gixobj_editor.specs.declared.reply.EditReply.{EditReply}
 use Rattle.gixobj_editor.specs.declared.reply.EditReply.TheVariants as edit_reply
@@ -55,8 +55,8 @@ module _ {S E : Type 0} (means : Meaning S) (answers : Answers E) (T : Table) (p
   same_state old new same holds = subst (λ (s : State S). Holds s) (sym same) holds
 
   written_plain : (place : Place) (old new : State S) (it : Written) → IsWrittenAt answers place it old new → Holds old → Within T pairs known it.trees.items → Holds new × AreBuilt T pairs known it.trees.items
-  written_plain at_root old new it h holds within = plain_root T pairs known (AnswersId answers) tt tt old new it holds h within
-  written_plain (at_cursor prefix) old new it h holds within = plain_below T pairs known (AnswersId answers) tt tt old new prefix it holds h within
+  written_plain at_root old new it h holds within = plain_root T pairs known (GivesTreeId answers) tt tt old new it holds h within
+  written_plain (at_cursor prefix) old new it h holds within = plain_below T pairs known (GivesTreeId answers) tt tt old new prefix it holds h within
 
   write_plain : (place : Place) (old new : State S) (it : Written) (Keeps : Objects → Objects → Type 0) → IsWriteKept means (IsWrittenAt answers place it old) Keeps old new → Holds old → Within T pairs known it.trees.items → Holds new × AreBuilt T pairs known it.trees.items
   write_plain place old new it Keeps h holds within = let so = written_plain place old h.between it h.written holds within in (subst (λ (s : State S). Holds s) (sym h.rest) so.0, so.1)

@@ -54,8 +54,8 @@ dirs_at at_root dirs = dirs
 dirs_at (at_cursor prefix) dirs = in_path prefix dirs
 
 -- the answer to the tree is the id
-abbrev pub AnswersId : {E : Type 0} → Answers E → Unit {0} → Pair → Unit {0} → Type 0
-AnswersId answers asked pair answered = answers pair.1 (Ok pair.0)
+abbrev pub GivesTreeId : {E : Type 0} → Answers E → Unit {0} → Pair → Unit {0} → Type 0
+GivesTreeId answers asked pair answered = answers pair.1 (Ok pair.0)
 
 -- the answer to the tree is a refusal
 abbrev pub Denies : {E : Type 0} → Answers E → Unit {0} → List EntryView → E → Unit {0} → Type 0
@@ -73,8 +73,8 @@ pub record IsRefusedEdit {S : Type 0} (means : Meaning S) (Refuses : Trees → T
 
 -- a successful write
 abbrev pub IsWrittenAt : {S E : Type 0} → Answers E → Place → Written → State S → State S → Type 0
-IsWrittenAt answers at_root it old new = IsWrittenEditor (AnswersId answers) tt old it new tt
-IsWrittenAt answers (at_cursor prefix) it old new = IsWrittenBelow (AnswersId answers) tt old prefix it new tt
+IsWrittenAt answers at_root it old new = IsWrittenEditor (GivesTreeId answers) tt old it new tt
+IsWrittenAt answers (at_cursor prefix) it old new = IsWrittenBelow (GivesTreeId answers) tt old prefix it new tt
 
 -- a successful write, and then its trees were kept so in the store
 pub record IsWriteKept {S : Type 0} (means : Meaning S) (Writes : State S → Type 0) (Keeps : Objects → Objects → Type 0) (old new : State S) : Type 0 where
@@ -90,7 +90,7 @@ KeepsAll pairs before after = (after ≡ with_trees pairs before) × All (λ pai
 
 -- a refused write leaves the editor as it was
 pub record IsRefusedWrite {S E : Type 0} (answers : Answers E) (place : Place) (old : State S) (error : WriteError E) (new : State S) : Type 0 where
-  pub stopped : Stopped (AnswersId answers) (Denies answers) (HandsOutSome (dirs_at place (open_dirs old)) (dirs_at place (open_bases old))) tt tt error
+  pub stopped : Stopped (GivesTreeId answers) (Denies answers) (HandsOutSome (dirs_at place (open_dirs old)) (dirs_at place (open_bases old))) tt tt error
   pub unchanged : new ≡ old
 
 -- the editor begins anew

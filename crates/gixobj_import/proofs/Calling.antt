@@ -13,7 +13,7 @@ use Rattle.gixobj_files.specs.State.{State}
 use Rattle.gixobj_hash.specs.declared.hash.kind.Kind as hash
 use Rattle.gixobj_hash.specs.declared.hash.object_id.ObjectId.{ObjectId}
 use Rattle.gixobj_tree.specs.Entries.{EntryView, Pair}
-use Rattle.gixobj_editor.specs.Replies.{AnswersId, Denies}
+use Rattle.gixobj_editor.specs.Replies.{Denies, GivesTreeId}
 use Rattle.gixobj_tree.specs.TreeText.{IsAnsweredDigest}
 
 module _ {F : Type 0} (hash : hash.Kind) (of : Mut F (Bor (List EntryView) × Unit {0}) (Result ObjectId encode.Error)) (out : F)
@@ -23,14 +23,14 @@ module _ {F : Type 0} (hash : hash.Kind) (of : Mut F (Bor (List EntryView) × Un
       let it = calls asked one.shown answer answered same one.called in
       (subst (λ (t : List EntryView). IsAnsweredDigest hash t answer) one.shows it.0, it.1 ∙ same)
 
-  folds : (asked last : F) (pairs : List Pair) → asked ≡ out → FoldsTo (λ f p g. CalledAt of f p.1 (Ok p.0) g) asked pairs last → FoldsTo (AnswersId (IsAnsweredDigest hash)) tt pairs tt × (last ≡ out)
+  folds : (asked last : F) (pairs : List Pair) → asked ≡ out → FoldsTo (λ f p g. CalledAt of f p.1 (Ok p.0) g) asked pairs last → FoldsTo (GivesTreeId (IsAnsweredDigest hash)) tt pairs tt × (last ≡ out)
   folds asked last [] same folded = (refl, sym folded ∙ same)
   folds asked last (pair ∷ pairs) same (next, one, rest) =
       let now = answered_so asked next pair.1 (Ok pair.0) same one in
       let later = folds next last pairs now.1 rest in
       ((tt, now.0, later.0), later.1)
 
-  pub written : {S : Type 0} (old new : State S) (it : Written) → (last : F) × IsWrittenEditor (λ f p g. CalledAt of f p.1 (Ok p.0) g) out old it new last → IsWrittenEditor (AnswersId (IsAnsweredDigest hash)) tt old it new tt
+  pub written : {S : Type 0} (old new : State S) (it : Written) → (last : F) × IsWrittenEditor (λ f p g. CalledAt of f p.1 (Ok p.0) g) out old it new last → IsWrittenEditor (GivesTreeId (IsAnsweredDigest hash)) tt old it new tt
   written old new it (last, wrote) = record {
     handed_out = wrote.handed_out;
     called = (folds out last it.trees.items refl wrote.called).0;
@@ -47,7 +47,7 @@ module _ {F : Type 0} (hash : hash.Kind) (of : Mut F (Bor (List EntryView) × Un
   }
 
   pub stopped : (goes_out : List Pair → Type 0) (error : WriteError encode.Error) → (last : F) × Stopped (λ f p g. CalledAt of f p.1 (Ok p.0) g) (λ f t e g. CalledAt of f t (Err e) g) goes_out out last error
-      → Stopped (AnswersId (IsAnsweredDigest hash)) (Denies (IsAnsweredDigest hash)) goes_out tt tt error
+      → Stopped (GivesTreeId (IsAnsweredDigest hash)) (Denies (IsAnsweredDigest hash)) goes_out tt tt error
   stopped goes_out (write.Out e) (last, (before, tree, between, folded, one, goes)) =
       let so_far = folds out between before refl folded in
       (before, tree, tt, so_far.0, (answered_so between last tree (Err e) so_far.1 one).0, goes)

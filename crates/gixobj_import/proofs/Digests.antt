@@ -17,7 +17,7 @@ use Rattle.gixobj_hash.specs.declared.kind.Kind as kind
 use Rattle.gixobj_hash.specs.declared.kind.Kind.TheVariants.{Commit, Tree}
 use Rattle.gixobj_find.specs.Keeping.{commit_object, tree_object, with_commit, with_tree, with_trees}
 use Rattle.gixobj_tree.specs.TreeText.{IsAnsweredDigest, tree_text}
-use Rattle.gixobj_editor.specs.Replies.{AnswersId}
+use Rattle.gixobj_editor.specs.Replies.{GivesTreeId}
 use Rattle.gixobj_import.specs.ByDigest.{AddsByDigest, NamesByDigest, digest_id}
 use Rattle.gixobj_import.specs.Steps.{HaveHex}
 use Rattle.gixobj_import.proofs.Known.{PutIn}
@@ -77,7 +77,7 @@ module _ (laws : PutIn) where
       record { it = commit_object commit text; named_so = laws.there objects commit (commit_object commit text); digest = digests_itself hash Commit text commit is }
 
 -- the trees that went out have their digests
-pub all_digests : (hash : hash.Kind) (pairs : List Pair) → FoldsTo (AnswersId (IsAnsweredDigest hash)) tt pairs tt → All (IsDigest hash) pairs
+pub all_digests : (hash : hash.Kind) (pairs : List Pair) → FoldsTo (GivesTreeId (IsAnsweredDigest hash)) tt pairs tt → All (IsDigest hash) pairs
 all_digests hash [] folded = All-nil (IsDigest hash)
 all_digests hash (pair ∷ pairs) (next, one, rest) = All-cons (IsDigest hash) pair pairs one.1 (all_digests hash pairs rest)
 
@@ -86,7 +86,7 @@ last_has P [] x all = All-head P x [] all
 last_has P (y ∷ xs) x all = last_has P xs x (All-tail P y (xs ++ x ∷ []) all)
 
 -- the id of the root is a digest of this kind
-pub root_kind : {S : Type 0} (k : hash.Kind) (old new : State S) (it : Written) → IsWrittenEditor (AnswersId (IsAnsweredDigest k)) tt old it new tt → id_kind it.id ≡ k
+pub root_kind : {S : Type 0} (k : hash.Kind) (old new : State S) (it : Written) → IsWrittenEditor (GivesTreeId (IsAnsweredDigest k)) tt old it new tt → id_kind it.id ≡ k
 root_kind k old new it wrote =
     let all = subst (All (IsDigest k)) wrote.last (all_digests k it.trees.items wrote.called) in
     kind_of_digest k Tree (tree_text wrote.own) it.id (last_has (IsDigest k) wrote.below (it.id, wrote.own) all)

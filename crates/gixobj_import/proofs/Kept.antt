@@ -11,11 +11,11 @@ use Rattle.gixobj_find.specs.Keeping.{StopsKeeping, with_trees}
 use Rattle.gixobj_tree.specs.TreeText.{HasText, IsAnsweredDigest}
 use Rattle.gixobj_find.specs.declared.keeping.KeepError.{KeepError}
 use Rattle.gixobj_editor.specs.Commands.{at_root}
-use Rattle.gixobj_editor.specs.Replies.{AnswersId, IsWriteKept, IsWrittenAt, KeepsAll}
+use Rattle.gixobj_editor.specs.Replies.{GivesTreeId, IsWriteKept, IsWrittenAt, KeepsAll}
 use Rattle.gixobj_editor.specs.declared.reply.EditReply.TheVariants as reply
 use Rattle.gixobj_import.specs.Edited.{IsWriteReplied}
 
-module _ {S : Type 0} (means : Meaning S) (hash : hash.Kind) (old between new : State S) (start left : S) (it : Written) (lent : List Pair) (written : IsWrittenEditor (AnswersId (IsAnsweredDigest hash)) tt old it between tt)
+module _ {S : Type 0} (means : Meaning S) (hash : hash.Kind) (old between new : State S) (start left : S) (it : Written) (lent : List Pair) (written : IsWrittenEditor (GivesTreeId (IsAnsweredDigest hash)) tt old it between tt)
     (starts : start ≡ between.store) (all : lent ≡ it.trees.items) (rest : new ≡ with_store between left) (may_fail : (id : ObjectId) → means.may_fail left id ≡ means.may_fail start id) where
   start_is : start ≡ old.store
   start_is = starts ∙ ap (λ (s : State S). s.store) written.rest

@@ -8,7 +8,7 @@ ghost use Rattle.gixobj_hash.specs.Hash.{IsId};
 ghost use Rattle.gixobj_import.specs.Edited.{IsWriteBehind, IsWriteReplied};
 ghost use Rattle.gixobj_tree.specs.TreeText.{IsAnsweredDigest};
 ghost use Rattle.gixobj_import.specs.Steps.{HaveHex, RefusesEdits, RefusesWrite};
-ghost use Rattle.gixobj_editor.specs.Replies.{AnswersId, Denies};
+ghost use Rattle.gixobj_editor.specs.Replies.{Denies, GivesTreeId};
 ghost use Rattle.hex.specs.Hex.{IsBytes};
 ghost use Rattle.gixobj_object.specs.Stores.{meaning};
 
@@ -91,9 +91,9 @@ fn write_by_digests<S>(
     hash: hash::Kind,
 ) -> Result<Written, WriteError<encode::Error>>
     ensures written { IfOk result (λ it.
-        IsWrittenEditor (AnswersId (IsAnsweredDigest hash)) tt editor.old it editor.new tt) }
+        IsWrittenEditor (GivesTreeId (IsAnsweredDigest hash)) tt editor.old it editor.new tt) }
     ensures stopped { IfErr result (λ error.
-        Stopped (AnswersId (IsAnsweredDigest hash)) (Denies (IsAnsweredDigest hash))
+        Stopped (GivesTreeId (IsAnsweredDigest hash)) (Denies (IsAnsweredDigest hash))
         (HandsOutSome (open_dirs editor.old) (open_bases editor.old)) tt tt error) }
     ensures unchanged { OnErr result (editor.new ≡ editor.old) }
 {

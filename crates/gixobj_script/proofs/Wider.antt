@@ -18,14 +18,14 @@ use Rattle.gixobj_files.specs.State.{State, open_bases, open_dirs}
 use Rattle.gixobj_hash.specs.declared.hash.object_id.ObjectId.{ObjectId}
 use Rattle.gixobj_tree.specs.Entries.{EntryView, Pair}
 use Rattle.gixobj_editor.specs.Commands.{Place, at_cursor, at_root}
-use Rattle.gixobj_editor.specs.Replies.{Answers, AnswersId, AreEditReplies, Denies, IsEditReply, IsRefusedWrite, IsReply, IsReplyAt, IsRun, IsWriteKept, IsWrittenAt, dirs_at}
+use Rattle.gixobj_editor.specs.Replies.{Answers, AreEditReplies, Denies, GivesTreeId, IsEditReply, IsRefusedWrite, IsReply, IsReplyAt, IsRun, IsWriteKept, IsWrittenAt, dirs_at}
 use Rattle.gixobj_editor.specs.declared.reply.EditReply.{EditReply}
 use Rattle.gixobj_editor.specs.declared.reply.EditReply.TheVariants as edit_reply
 use Rattle.gixobj_editor.specs.declared.reply.Reply.{Reply}
 use Rattle.gixobj_editor.specs.declared.reply.Reply.TheVariants as reply
 
 module _ {S E : Type 0} (means : Meaning S) (answers wider : Answers E) (within : (tree : List EntryView) (answer : Result ObjectId E) → answers tree answer → wider tree answer) where
-  folds : (asked : Unit {0}) (pairs : List Pair) (answered : Unit {0}) → FoldsTo (AnswersId answers) asked pairs answered → FoldsTo (AnswersId wider) asked pairs answered
+  folds : (asked : Unit {0}) (pairs : List Pair) (answered : Unit {0}) → FoldsTo (GivesTreeId answers) asked pairs answered → FoldsTo (GivesTreeId wider) asked pairs answered
   folds asked [] answered is = is
   folds asked (pair ∷ pairs) answered (next, one, rest) = (next, within pair.1 (Ok pair.0) one, folds next pairs answered rest)
 
@@ -64,7 +64,7 @@ module _ {S E : Type 0} (means : Meaning S) (answers wider : Answers E) (within 
       → IsWriteKept means (IsWrittenAt wider place it old) Keeps old new
   kept place it Keeps old new is = record { between = is.between; written = written place it old is.between is.written; rest = is.rest; kept = is.kept; may_fail = is.may_fail }
 
-  stopped : (goes_out : List Pair → Type 0) (error : WriteError E) → Stopped (AnswersId answers) (Denies answers) goes_out tt tt error → Stopped (AnswersId wider) (Denies wider) goes_out tt tt error
+  stopped : (goes_out : List Pair → Type 0) (error : WriteError E) → Stopped (GivesTreeId answers) (Denies answers) goes_out tt tt error → Stopped (GivesTreeId wider) (Denies wider) goes_out tt tt error
   stopped goes_out (write.Out cause) (before, tree, asked, folded, one, goes) = (before, tree, asked, folds tt before asked folded, within tree (Err cause) one, goes)
   stopped goes_out write.OutOfMemory (before, rest, folded, goes) = (before, rest, folds tt before tt folded, goes)
 
