@@ -98,11 +98,30 @@ impl<'a> ObjectRef<'a> {
         ensures refusal { IfErr result (RefusesObjectText hash_kind kind bytes.now) }
     {
         match kind {
-            Kind::Tree => Ok(ObjectRef::Tree(TreeRef::from_bytes(alloc, bytes, hash_kind)?)),
             Kind::Blob => Ok(ObjectRef::Blob(BlobRef::from_bytes(bytes))),
-            Kind::Commit => Ok(ObjectRef::Commit(CommitRef::from_bytes(alloc, bytes, hash_kind)?)),
-            Kind::Tag => Ok(ObjectRef::Tag(TagRef::from_bytes(bytes, hash_kind)?)),
+            _ => parsed(alloc, bytes, kind, hash_kind),
         }
+    }
+}
+
+/// The object of this kind that the bytes are. It is called, so that what a blob doesn't need isn't set up for one.
+#[inline(never)]
+fn parsed<'a>(
+    alloc: Global,
+    bytes: &'a [u8],
+    kind: Kind,
+    hash_kind: hash::Kind,
+) -> Result<ObjectRef<'a>, Error>
+    ensures found { IfOk result (IsObjectText hash_kind kind bytes.now) }
+    ensures has_ids { IfOk result HasObjectIds }
+    ensures ready { IfOk result IsReadyToWrite }
+    ensures refusal { IfErr result (RefusesObjectText hash_kind kind bytes.now) }
+{
+    match kind {
+        Kind::Tree => Ok(ObjectRef::Tree(TreeRef::from_bytes(alloc, bytes, hash_kind)?)),
+        Kind::Blob => Ok(ObjectRef::Blob(BlobRef::from_bytes(bytes))),
+        Kind::Commit => Ok(ObjectRef::Commit(CommitRef::from_bytes(alloc, bytes, hash_kind)?)),
+        Kind::Tag => Ok(ObjectRef::Tag(TagRef::from_bytes(bytes, hash_kind)?)),
     }
 }
 
