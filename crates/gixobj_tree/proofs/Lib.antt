@@ -2,6 +2,7 @@ mod Bisecting
 pub mod Deciding
 pub mod EightBytes
 pub mod EntryRuns
+pub mod KindTexts
 pub mod ModeTexts
 pub mod ModesBack
 pub mod NameKeys

@@ -3,8 +3,9 @@ ghost use Rattle.std.specs.Prelude.{◌≡◌, ◌≢◌, ◌++◌, slice_index,
 ghost use Rattle.std.specs.Option.{SomeIff};
 ghost use Rattle.std.specs.Str.Parse.{AllDigits, digits_value};
 ghost use Rattle.bstr.specs.BStr.{bstr_bytes};
+ghost use Rattle.gixobj_tree.specs.declared.tree.entry_kind.EntryKind.{EntryKind};
 ghost use Rattle.gixobj_hash.specs.Texts.{IsFree};
-ghost use Rattle.gixobj_tree.specs.Mode.{BeginsWithMode, IsModeNumber, KeepsByteSix, EndsMode, blob_type, commit_type, entry_word, is_tree_mode, kind_of_mode, link_type, mode_of_digits, mode_of_kind, mode_text, mode_type, mode_value, tree_type, type_bits, is_blob_mode, is_commit_mode, is_link_mode, mode_bits};
+ghost use Rattle.gixobj_tree.specs.Mode.{BeginsWithKind, BeginsWithMode, IsModeNumber, KeepsByteSix, EndsMode, blob_type, commit_type, entry_word, is_tree_mode, kind_of_mode, link_type, mode_of_digits, mode_of_kind, mode_text, mode_type, mode_value, tree_type, type_bits, is_blob_mode, is_commit_mode, is_link_mode, mode_bits};
 ghost use Rattle.gixobj_hash.specs.Bytes.{digit, space};
 
 use super::EntryKind;
@@ -158,21 +159,18 @@ impl EntryMode {
 
     /// The mode in front of the bytes, as [`EntryMode::from_bytes`] reads it, and what stands behind
     /// its digits.
+    #[inline(always)]
+    #[tactic(auto, using(crate::proofs::KindTexts::mode_of_found))]
     pub fn extract_from_bytes(i: &[u8]) -> Option<(EntryMode, &[u8])>
         ensures found { IfSome result (λ parts.
             BeginsWithMode i.now (mode_bits parts.0) parts.1.now) }
         ensures none { IfNone result ((mode : ℕ) (rest : List ℕ)
             → ¬ BeginsWithMode i.now mode rest) }
     {
-        if i.is_empty() {
-            return None;
+        match kind_in_front(i) {
+            Some((kind, rest)) => Some((EntryMode::from(kind), rest)),
+            None => any_mode_in_front(i),
         }
-        let (digits, rest) = split_digits(i);
-        if breaks_byte_six(i, digits.len()) {
-            return None;
-        }
-        let internal = mode_from_digits(digits)?;
-        Some((EntryMode { internal }, rest))
     }
 }
 
@@ -229,6 +227,50 @@ impl<'a> TryFrom<&'a [u8]> for EntryMode {
             None => Err(bytes),
         }
     }
+}
+
+/// The kind whose own mode and a space stand in front of the bytes, and the rest from the space on.
+#[inline(always)]
+#[tactic(auto, using(crate::proofs::KindTexts::blob_found, crate::proofs::KindTexts::tree_found, crate::proofs::KindTexts::executable_found, crate::proofs::KindTexts::link_found, crate::proofs::KindTexts::commit_found, crate::proofs::KindTexts::no_kind))]
+fn kind_in_front(i: &[u8]) -> Option<(EntryKind, &[u8])>
+    ensures found { IfSome result (λ it. BeginsWithKind i.now it.0 it.1.now) }
+    ensures none { IfNone result ((kind : EntryKind) (rest : List ℕ)
+        → ¬ BeginsWithKind i.now kind rest) }
+{
+    if i.starts_with(b"100644 ") {
+        return Some((EntryKind::Blob, i.split_at(6).1));
+    }
+    if i.starts_with(b"40000 ") {
+        return Some((EntryKind::Tree, i.split_at(5).1));
+    }
+    if i.starts_with(b"100755 ") {
+        return Some((EntryKind::BlobExecutable, i.split_at(6).1));
+    }
+    if i.starts_with(b"120000 ") {
+        return Some((EntryKind::Link, i.split_at(6).1));
+    }
+    if i.starts_with(b"160000 ") {
+        return Some((EntryKind::Commit, i.split_at(6).1));
+    }
+    None
+}
+
+/// The mode in front of the bytes, and what stands behind its digits, whatever they are.
+fn any_mode_in_front(i: &[u8]) -> Option<(EntryMode, &[u8])>
+    ensures found { IfSome result (λ parts.
+        BeginsWithMode i.now (mode_bits parts.0) parts.1.now) }
+    ensures none { IfNone result ((mode : ℕ) (rest : List ℕ)
+        → ¬ BeginsWithMode i.now mode rest) }
+{
+    if i.is_empty() {
+        return None;
+    }
+    let (digits, rest) = split_digits(i);
+    if breaks_byte_six(i, digits.len()) {
+        return None;
+    }
+    let internal = mode_from_digits(digits)?;
+    Some((EntryMode { internal }, rest))
 }
 
 /// What stands before the first space, and the rest from there on.
