@@ -1,5 +1,5 @@
 //! Trees, read whole, and the reader of one entry (gitdatamodel, "trees").
-ghost use Rattle.std.specs.Prelude.{◌≡◌, ◌<◌, IfErr, IfNone, IfOk, IfSome, length, MatchOption, None};
+ghost use Rattle.std.specs.Prelude.{◌≡◌, ◌<◌, ◌+◌, ◌/◌, IfErr, IfNone, IfOk, IfSome, length, min, MatchOption, None};
 ghost use Rattle.gixobj_hash.specs.Hash.{hash_len, id_kind};
 ghost use Rattle.gixobj_hash.specs.Hash.Borrowed.{borrowed_id};
 ghost use Rattle.gixobj_tree.specs.TreeReading.{BeginsWithEntry, BeginsWithId, BeginsWithNoEntry, IsTreeText, RefusesTreeText};
@@ -24,6 +24,8 @@ impl<'a> TreeRef<'a> {
         ensures refusal { IfErr result (RefusesTreeText hash_kind bytes.now) }
     {
         let mut entries = Vec::new(alloc);
+        // Where this room is refused, each entry asks for its own.
+        let _ = entries.reserve(likely_entries(bytes, hash_kind));
         let mut rest = bytes;
         while !rest.is_empty() {
             let Some((entry, behind)) = read_entry(rest, hash_kind) else {
@@ -34,6 +36,13 @@ impl<'a> TreeRef<'a> {
         }
         Ok(TreeRef { entries })
     }
+}
+
+/// How many entries the bytes would have with names of 24 bytes, 32 at most.
+fn likely_entries(bytes: &[u8], hash_kind: Kind) -> usize
+    ensures { result ≡ min (length bytes.now / (32 + hash_len hash_kind)) 32 }
+{
+    (bytes.len() / (32 + hash_kind.len_in_bytes())).min(32)
 }
 
 /// The entry at the front of the input, which has an id of this kind, and what follows it, or none where
