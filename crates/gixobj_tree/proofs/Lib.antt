@@ -6,6 +6,7 @@ pub mod KindTexts
 pub mod ModeTexts
 pub mod ModesBack
 pub mod NameKeys
+pub mod NearZero
 mod OctalNumbers
 pub mod OneEntry
 pub mod TreeWrites
