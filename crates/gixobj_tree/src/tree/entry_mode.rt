@@ -116,6 +116,21 @@ impl EntryMode {
         }
     }
 
+    /// How many bytes the mode's text has.
+    #[inline(always)]
+    pub(super) fn text_len(&self) -> usize
+        ensures value { result ≡ length (mode_text (mode_bits self.now)) }
+        ensures short { result ≤ 6 }
+    {
+        if self.internal == 0 {
+            1
+        } else if self.internal / 4096 % 8 == 4 && self.internal / 32768 % 8 != 1 {
+            5
+        } else {
+            6
+        }
+    }
+
     /// The mode's text as a tree has it, in the buffer: octal digits, one for 0, five for a tree, and
     /// else six.
     pub fn as_bytes<'a>(&self, backing: &'a mut [u8; 6]) -> BStr<'a>

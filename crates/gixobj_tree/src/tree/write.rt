@@ -123,9 +123,7 @@ pub fn size_with(size: u64, mode: EntryMode, name: &[u8], id: oid<'_>) -> Option
     ensures { AddsSize result size (entry_text
         (entry_of (mode_bits mode) name.now (borrowed_id id.entry))) }
 {
-    let mut backing = [0; 6];
-    let digits = mode.as_bytes(&mut backing).as_bytes().len() as u64;
-    let with_mode = size.checked_add(digits)?.checked_add(2)?;
-    let with_name = with_mode.checked_add(name.len() as u64)?;
-    with_name.checked_add(id.as_bytes().len() as u64)
+    let beside_name = mode.text_len() + 2 + id.as_bytes().len();
+    let with_name = size.checked_add(name.len() as u64)?;
+    with_name.checked_add(beside_name as u64)
 }
