@@ -1,5 +1,5 @@
 //! The modes of tree entries.
-ghost use Rattle.std.specs.Prelude.{◌≡◌, ◌≢◌, ◌++◌, slice_index, ◌≤◌, ◌↔◌, ◌+◌, ◌%◌, ℕ, List, [], IsTrue, IfSome, IfNone, length, ◌^◌, ◌⊎◌, not};
+ghost use Rattle.std.specs.Prelude.{◌≡◌, ◌≢◌, ◌++◌, slice_index, ◌≤◌, ◌↔◌, ◌+◌, ◌%◌, ℕ, List, [], ◌∷◌, IsTrue, IfSome, IfNone, length, ◌^◌, ◌⊎◌, not};
 ghost use Rattle.std.specs.Option.{SomeIff};
 ghost use Rattle.std.specs.Str.Parse.{AllDigits, digits_value};
 ghost use Rattle.bstr.specs.BStr.{bstr_bytes};
@@ -113,6 +113,24 @@ impl EntryMode {
             EntryKind::BlobExecutable => "exe",
             EntryKind::Link => "link",
             EntryKind::Commit => "commit",
+        }
+    }
+
+    /// The mode's text and a space, where it is a kind's own mode, or else none.
+    #[inline(always)]
+    pub(super) fn kind_text(&self) -> Option<&'static [u8]>
+        ensures found { IfSome result (λ text.
+            text.now ≡ mode_text (mode_bits self.now) ++ space ∷ []) }
+        ensures none { IfNone result ((kind : EntryKind)
+            → mode_bits self.now ≢ mode_of_kind kind) }
+    {
+        match self.internal {
+            0o100644 => Some(b"100644 "),
+            0o040000 => Some(b"40000 "),
+            0o100755 => Some(b"100755 "),
+            0o120000 => Some(b"120000 "),
+            0o160000 => Some(b"160000 "),
+            _ => None,
         }
     }
 
