@@ -2,9 +2,11 @@ mod Bisecting
 pub mod Deciding
 pub mod EightBytes
 pub mod EntryRuns
+pub mod KindTexts
 pub mod ModeTexts
 pub mod ModesBack
 pub mod NameKeys
+pub mod NearZero
 mod OctalNumbers
 pub mod OneEntry
 pub mod TreeWrites

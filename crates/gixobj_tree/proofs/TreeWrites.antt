@@ -1,5 +1,5 @@
 -- Writing a tree entry by entry.
-use Rattle.std.proofs.Common.{◌≡◌, ℕ, ◌+◌, ◌<◌, ◌≤◌, ◌^◌, List, [], ◌∷◌, ◌++◌, length, get_or, take, drop, All, inr, refl, ap, arith, sym, ◌∙◌, append_assoc, length-append}
+use Rattle.std.proofs.Common.{◌≡◌, ℕ, ◌+◌, ◌<◌, ◌≤◌, ◌^◌, List, [], ◌∷◌, ◌++◌, length, get_or, take, drop, All, inr, refl, ap, arith, sym, ◌∙◌, length-append}
 use Rattle.std.specs.Prelude.{Contains}
 use Rattle.std.proofs.lemmas.List.{append-nil, take_all, take_more, take-append-drop, drop_more}
 use Rattle.std.proofs.lemmas.List.Elements.{All-contains, All-push, Contains-append_right, Contains-get_or}
@@ -14,7 +14,7 @@ use Rattle.gixobj_fields.specs.declared.encode.Error.TheVariants.{OutOfMemory}
 use Rattle.gixobj_hash.specs.Hash.{id_bytes}
 use Rattle.gixobj_hash.specs.declared.hash.object_id.ObjectId.{ObjectId}
 use Rattle.gixobj_tree.specs.Mode.{mode_text}
-use Rattle.gixobj_fields.proofs.Puts.{front_first, front_more}
+use Rattle.gixobj_fields.proofs.Puts.{front_first, front_more, puts_more}
 use Rattle.gixobj_fields.proofs.Refusals.{says_why_within}
 
 -- no name has a zero byte
@@ -65,20 +65,24 @@ too_long items all i e n same h is len over short =
 
 -- ---- an entry
 
--- the mode and its space, put
-pub mode_put : (a b : SinkView) (mode : ℕ) (name digits : List ℕ) (id : ObjectId) → digits ≡ mode_text mode → Puts a b (digits ++ 32 ∷ []) → Puts a b (before_name (entry_of mode name id))
-mode_put a b mode name digits id same put = rw (← same) put
-
 -- a front of the mode and its space is a front of the entry
-pub mode_front : (a b : SinkView) (mode : ℕ) (name digits : List ℕ) (id : ObjectId) → digits ≡ mode_text mode → PutsFront a b (digits ++ 32 ∷ []) → PutsFront a b (entry_text (entry_of mode name id))
-mode_front a b mode name digits id same part = rw (← same) (front_first a b ((digits ++ 32 ∷ []) ++ name) (0 ∷ id_bytes id) (front_first a b (digits ++ 32 ∷ []) name part))
+pub mode_front : (a b : SinkView) (mode : ℕ) (name : List ℕ) (id : ObjectId) → PutsFront a b (mode_text mode ++ 32 ∷ []) → PutsFront a b (entry_text (entry_of mode name id))
+mode_front a b mode name id part = front_first a b ((mode_text mode ++ 32 ∷ []) ++ name) (0 ∷ id_bytes id) (front_first a b (mode_text mode ++ 32 ∷ []) name part)
 
--- a front of the name, the zero byte and the id stands behind the mode
-pub name_front : (a b c : SinkView) (mode : ℕ) (name bytes : List ℕ) (id : ObjectId) → bytes ≡ id_bytes id → Puts a b (before_name (entry_of mode name id)) → PutsFront b c (name ++ 0 ∷ (bytes ++ []))
-    → PutsFront a c (entry_text (entry_of mode name id))
-name_front a b c mode name bytes id same put part =
-    rw (append_assoc (before_name (entry_of mode name id)) name (0 ∷ id_bytes id), ← same, ← append-nil bytes) (front_more a b c (before_name (entry_of mode name id)) (name ++ 0 ∷ (bytes ++ [])) put part)
+-- a front of the name stands behind the mode
+pub name_front : (a b c : SinkView) (mode : ℕ) (name : List ℕ) (id : ObjectId) → Puts a b (mode_text mode ++ 32 ∷ []) → PutsFront b c name → PutsFront a c (entry_text (entry_of mode name id))
+name_front a b c mode name id put part = front_first a c ((mode_text mode ++ 32 ∷ []) ++ name) (0 ∷ id_bytes id) (front_more a b c (mode_text mode ++ 32 ∷ []) name put part)
+
+-- a front of the zero byte and the id stands behind the name
+pub id_front : (a b c d : SinkView) (mode : ℕ) (name : List ℕ) (id : ObjectId) → Puts a b (mode_text mode ++ 32 ∷ []) → Puts b c name → PutsFront c d (0 ∷ id_bytes id) → PutsFront a d (entry_text (entry_of mode name id))
+id_front a b c d mode name id put named part =
+    front_more a c d ((mode_text mode ++ 32 ∷ []) ++ name) (0 ∷ id_bytes id) (puts_more a b c (mode_text mode ++ 32 ∷ []) name put named) part
+
+-- the mode, the name and the id are the entry
+pub id_put : (a b c d : SinkView) (mode : ℕ) (name : List ℕ) (id : ObjectId) → Puts a b (mode_text mode ++ 32 ∷ []) → Puts b c name → Puts c d (0 ∷ id_bytes id) → Puts a d (entry_text (entry_of mode name id))
+id_put a b c d mode name id put named last =
+    puts_more a c d ((mode_text mode ++ 32 ∷ []) ++ name) (0 ∷ id_bytes id) (puts_more a b c (mode_text mode ++ 32 ∷ []) name put named) last
 
 -- a name with a zero byte is not copied for want of memory
-pub no_copy : (a b : SinkView) (mode : ℕ) (name : List ℕ) (id : ObjectId) → Contains name 0 → Puts a b (before_name (entry_of mode name id)) → RefusesWriting (RefusesEntry (entry_of mode name id)) a b (entry_text (entry_of mode name id)) OutOfMemory
+pub no_copy : (a b : SinkView) (mode : ℕ) (name : List ℕ) (id : ObjectId) → Contains name 0 → Puts a b (mode_text mode ++ 32 ∷ []) → RefusesWriting (RefusesEntry (entry_of mode name id)) a b (entry_text (entry_of mode name id)) OutOfMemory
 no_copy a b mode name id has put = (name, inr (before_name (entry_of mode name id), (has, refl, refl), put))

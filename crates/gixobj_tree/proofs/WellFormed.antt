@@ -43,6 +43,11 @@ module _ {X : Type 0} (R : X → X → Type 0) where
 pub comes_trans : (x y z : EntryView) → ComesBefore x y → ComesBefore y z → ComesBefore x z
 comes_trans x y z = nat_list_cmp_total.trans (entry_key x) (entry_key y) (entry_key z)
 
+-- an answer by cases says the same both ways
+pub told : (b : Bool) (P : Type 0) → MatchBool b P (P → ⊥) → (b ≡ true → P) × (P → b ≡ true)
+told true P h = (λ e. h, λ p. refl)
+told false P h = (λ e. absurd (true≢false (sym e)), λ p. absurd (h p))
+
 less : (o : Ordering) → true ≡ is_lt o → o ≡ Less
 less Less e = refl
 less Equal e = absurd (true≢false e)

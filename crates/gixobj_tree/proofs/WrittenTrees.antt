@@ -66,7 +66,7 @@ six_of_text mode rest false true true some = λ is other. refl
 six_of_text mode rest false true false some = λ is other. absurd (other refl)
 six_of_text mode rest false false one some = λ is other. refl
 
-six_kept : (mode : ℕ) (rest : List ℕ) → 0 < mode → KeepsByteSix (mode_text mode ++ 32 ∷ rest) (mode_text mode)
+pub six_kept : (mode : ℕ) (rest : List ℕ) → 0 < mode → KeepsByteSix (mode_text mode ++ 32 ∷ rest) (mode_text mode)
 six_kept mode rest some =
     let filled : (mode == 0) ≡ false = grind (arith, nat_tests, some) in
     six_of_text mode rest (mode == 0) (second_digit mode == 4) (first_digit mode == 1) filled

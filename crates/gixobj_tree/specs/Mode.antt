@@ -136,3 +136,9 @@ pub record BeginsWithMode (text : List ℕ) (mode : ℕ) (rest : List ℕ) : Typ
   pub ends : EndsMode rest
   pub reads : ReadsAsMode digits mode
   pub byte_six : KeepsByteSix text digits
+
+-- the text begins with a kind's own mode and a space, and the rest follows from the space on
+pub record BeginsWithKind (text : List ℕ) (kind : EntryKind) (rest : List ℕ) : Type 0 where
+  pub name : List ℕ
+  pub spaced : rest ≡ space ∷ name
+  pub joined : text ≡ mode_text (mode_of_kind kind) ++ rest

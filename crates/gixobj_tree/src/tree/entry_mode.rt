@@ -1,10 +1,11 @@
 //! The modes of tree entries.
-ghost use Rattle.std.specs.Prelude.{◌≡◌, ◌≢◌, ◌++◌, slice_index, ◌≤◌, ◌↔◌, ◌+◌, ◌%◌, ℕ, List, [], IsTrue, IfSome, IfNone, length, ◌^◌, ◌⊎◌, not};
+ghost use Rattle.std.specs.Prelude.{◌≡◌, ◌≢◌, ◌++◌, slice_index, ◌≤◌, ◌↔◌, ◌+◌, ◌%◌, ℕ, List, [], ◌∷◌, IsTrue, IfSome, IfNone, length, ◌^◌, ◌⊎◌, not};
 ghost use Rattle.std.specs.Option.{SomeIff};
 ghost use Rattle.std.specs.Str.Parse.{AllDigits, digits_value};
 ghost use Rattle.bstr.specs.BStr.{bstr_bytes};
+ghost use Rattle.gixobj_tree.specs.declared.tree.entry_kind.EntryKind.{EntryKind};
 ghost use Rattle.gixobj_hash.specs.Texts.{IsFree};
-ghost use Rattle.gixobj_tree.specs.Mode.{BeginsWithMode, IsModeNumber, KeepsByteSix, EndsMode, blob_type, commit_type, entry_word, is_tree_mode, kind_of_mode, link_type, mode_of_digits, mode_of_kind, mode_text, mode_type, mode_value, tree_type, type_bits, is_blob_mode, is_commit_mode, is_link_mode, mode_bits};
+ghost use Rattle.gixobj_tree.specs.Mode.{BeginsWithKind, BeginsWithMode, IsModeNumber, KeepsByteSix, EndsMode, blob_type, commit_type, entry_word, is_tree_mode, kind_of_mode, link_type, mode_of_digits, mode_of_kind, mode_text, mode_type, mode_value, tree_type, type_bits, is_blob_mode, is_commit_mode, is_link_mode, mode_bits};
 ghost use Rattle.gixobj_hash.specs.Bytes.{digit, space};
 
 use super::EntryKind;
@@ -115,6 +116,39 @@ impl EntryMode {
         }
     }
 
+    /// The mode's text and a space, where it is a kind's own mode, or else none.
+    #[inline(always)]
+    pub(super) fn kind_text(&self) -> Option<&'static [u8]>
+        ensures found { IfSome result (λ text.
+            text.now ≡ mode_text (mode_bits self.now) ++ space ∷ []) }
+        ensures none { IfNone result ((kind : EntryKind)
+            → mode_bits self.now ≢ mode_of_kind kind) }
+    {
+        match self.internal {
+            0o100644 => Some(b"100644 "),
+            0o040000 => Some(b"40000 "),
+            0o100755 => Some(b"100755 "),
+            0o120000 => Some(b"120000 "),
+            0o160000 => Some(b"160000 "),
+            _ => None,
+        }
+    }
+
+    /// How many bytes the mode's text has.
+    #[inline(always)]
+    pub(super) fn text_len(&self) -> usize
+        ensures value { result ≡ length (mode_text (mode_bits self.now)) }
+        ensures short { result ≤ 6 }
+    {
+        if self.internal == 0 {
+            1
+        } else if self.internal / 4096 % 8 == 4 && self.internal / 32768 % 8 != 1 {
+            5
+        } else {
+            6
+        }
+    }
+
     /// The mode's text as a tree has it, in the buffer: octal digits, one for 0, five for a tree, and
     /// else six.
     pub fn as_bytes<'a>(&self, backing: &'a mut [u8; 6]) -> BStr<'a>
@@ -158,21 +192,18 @@ impl EntryMode {
 
     /// The mode in front of the bytes, as [`EntryMode::from_bytes`] reads it, and what stands behind
     /// its digits.
+    #[inline(always)]
+    #[tactic(auto, using(crate::proofs::KindTexts::mode_of_found))]
     pub fn extract_from_bytes(i: &[u8]) -> Option<(EntryMode, &[u8])>
         ensures found { IfSome result (λ parts.
             BeginsWithMode i.now (mode_bits parts.0) parts.1.now) }
         ensures none { IfNone result ((mode : ℕ) (rest : List ℕ)
             → ¬ BeginsWithMode i.now mode rest) }
     {
-        if i.is_empty() {
-            return None;
+        match kind_in_front(i) {
+            Some((kind, rest)) => Some((EntryMode::from(kind), rest)),
+            None => any_mode_in_front(i),
         }
-        let (digits, rest) = split_digits(i);
-        if breaks_byte_six(i, digits.len()) {
-            return None;
-        }
-        let internal = mode_from_digits(digits)?;
-        Some((EntryMode { internal }, rest))
     }
 }
 
@@ -229,6 +260,50 @@ impl<'a> TryFrom<&'a [u8]> for EntryMode {
             None => Err(bytes),
         }
     }
+}
+
+/// The kind whose own mode and a space stand in front of the bytes, and the rest from the space on.
+#[inline(always)]
+#[tactic(auto, using(crate::proofs::KindTexts::blob_found, crate::proofs::KindTexts::tree_found, crate::proofs::KindTexts::executable_found, crate::proofs::KindTexts::link_found, crate::proofs::KindTexts::commit_found, crate::proofs::KindTexts::no_kind))]
+fn kind_in_front(i: &[u8]) -> Option<(EntryKind, &[u8])>
+    ensures found { IfSome result (λ it. BeginsWithKind i.now it.0 it.1.now) }
+    ensures none { IfNone result ((kind : EntryKind) (rest : List ℕ)
+        → ¬ BeginsWithKind i.now kind rest) }
+{
+    if i.starts_with(b"100644 ") {
+        return Some((EntryKind::Blob, i.split_at(6).1));
+    }
+    if i.starts_with(b"40000 ") {
+        return Some((EntryKind::Tree, i.split_at(5).1));
+    }
+    if i.starts_with(b"100755 ") {
+        return Some((EntryKind::BlobExecutable, i.split_at(6).1));
+    }
+    if i.starts_with(b"120000 ") {
+        return Some((EntryKind::Link, i.split_at(6).1));
+    }
+    if i.starts_with(b"160000 ") {
+        return Some((EntryKind::Commit, i.split_at(6).1));
+    }
+    None
+}
+
+/// The mode in front of the bytes, and what stands behind its digits, whatever they are.
+fn any_mode_in_front(i: &[u8]) -> Option<(EntryMode, &[u8])>
+    ensures found { IfSome result (λ parts.
+        BeginsWithMode i.now (mode_bits parts.0) parts.1.now) }
+    ensures none { IfNone result ((mode : ℕ) (rest : List ℕ)
+        → ¬ BeginsWithMode i.now mode rest) }
+{
+    if i.is_empty() {
+        return None;
+    }
+    let (digits, rest) = split_digits(i);
+    if breaks_byte_six(i, digits.len()) {
+        return None;
+    }
+    let internal = mode_from_digits(digits)?;
+    Some((EntryMode { internal }, rest))
 }
 
 /// What stands before the first space, and the rest from there on.

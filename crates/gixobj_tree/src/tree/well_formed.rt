@@ -1,5 +1,5 @@
 //! Well-formed trees (gitdatamodel, "trees").
-ghost use Rattle.std.specs.Prelude.{MatchBool};
+ghost use Rattle.std.specs.Prelude.{◌↔◌, IsTrue};
 ghost use Rattle.gixobj_tree.specs.Entries.{ComesBefore, EachLater, IsEntryName, IsWellFormed};
 ghost use Rattle.gixobj_tree.specs.WellFormed.{AreApart, HasKey, HasNamesake, HaveEntryNames};
 
@@ -12,14 +12,14 @@ impl Tree {
     ///
     /// It takes no memory. The name of each directory is sought among the entries by halves.
     pub fn is_well_formed(&self) -> bool
-        ensures { MatchBool result (IsWellFormed self.now) (¬ IsWellFormed self.now) }
+        ensures { IsTrue result ↔ IsWellFormed self.now }
     {
         have_entry_names(&self.entries) && ascend(&self.entries) && are_apart(&self.entries)
     }
 }
 
 fn have_entry_names(entries: &[Entry]) -> bool
-    ensures { MatchBool result (HaveEntryNames entries.now) (¬ HaveEntryNames entries.now) }
+    ensures { IsTrue result ↔ HaveEntryNames entries.now }
 {
     entries
         .iter()
@@ -28,15 +28,14 @@ fn have_entry_names(entries: &[Entry]) -> bool
 
 /// Whether the name is filled and has no `/`.
 fn is_entry_name(name: &[u8]) -> bool
-    ensures { MatchBool result (IsEntryName name.now) (¬ IsEntryName name.now) }
+    ensures { IsTrue result ↔ IsEntryName name.now }
 {
     !name.is_empty() && !has_byte(name, b'/')
 }
 
 /// Whether each entry comes before those behind it.
 fn ascend(entries: &[Entry]) -> bool
-    ensures { MatchBool result (EachLater ComesBefore entries.now)
-        (¬ EachLater ComesBefore entries.now) }
+    ensures { IsTrue result ↔ EachLater ComesBefore entries.now }
 {
     entries.is_sorted_by(|entry, next| entry.key_order(next).is_lt())
 }
@@ -45,7 +44,7 @@ fn ascend(entries: &[Entry]) -> bool
 fn are_apart(entries: &[Entry]) -> bool
     requires names { HaveEntryNames entries.now }
     requires ascending { EachLater ComesBefore entries.now }
-    ensures { MatchBool result (AreApart entries.now) (¬ AreApart entries.now) }
+    ensures { IsTrue result ↔ AreApart entries.now }
 {
     !entries.iter().any(|entry| has_namesake(entries, entry))
 }
@@ -53,8 +52,7 @@ fn are_apart(entries: &[Entry]) -> bool
 /// Whether the entry is a directory, and a file has its name.
 fn has_namesake(entries: &[Entry], entry: &Entry) -> bool
     requires { EachLater ComesBefore entries.now }
-    ensures { MatchBool result (HasNamesake entries.now entry.now)
-        (¬ HasNamesake entries.now entry.now) }
+    ensures { IsTrue result ↔ HasNamesake entries.now entry.now }
 {
     entry.mode.is_tree() && has_key(entries, entry.filename.as_bytes())
 }
@@ -62,7 +60,7 @@ fn has_namesake(entries: &[Entry], entry: &Entry) -> bool
 /// Whether an entry has this key.
 fn has_key(entries: &[Entry], key: &[u8]) -> bool
     requires { EachLater ComesBefore entries.now }
-    ensures { MatchBool result (HasKey entries.now key.now) (¬ HasKey entries.now key.now) }
+    ensures { IsTrue result ↔ HasKey entries.now key.now }
 {
     entries
         .binary_search_by(|entry| entry.key_order_with(key, false))

@@ -1,12 +1,14 @@
 //! Trees, written (gitdatamodel, "trees").
-ghost use Rattle.std.specs.Prelude.{◌≡◌, ◌<◌, ◌+◌, ◌^◌, length, IfErr, OnOk};
+ghost use Rattle.std.specs.Prelude.{◌≡◌, ◌<◌, ◌+◌, ◌^◌, [], ◌∷◌, ◌++◌, length, IfErr, OnOk};
 ghost use Rattle.std.specs.Option.{SomeIff};
+ghost use Rattle.gixobj_hash.specs.Bytes.{space};
+ghost use Rattle.gixobj_hash.specs.Hash.{id_bytes};
 ghost use Rattle.gixobj_hash.specs.Hash.Borrowed.{borrowed_id};
 ghost use Rattle.gixobj_hash.specs.Texts.{IsFree};
 ghost use Rattle.gixobj_tree.specs.Entries.{entry_of};
-ghost use Rattle.gixobj_tree.specs.Mode.{mode_bits};
+ghost use Rattle.gixobj_tree.specs.Mode.{mode_bits, mode_text};
 ghost use Rattle.gixobj_tree.specs.TreeText.{IsAnsweredDigest, RefusesEntry, entry_text};
-ghost use Rattle.gixobj_fields.specs.Streams.{Puts};
+ghost use Rattle.gixobj_fields.specs.Streams.{Puts, PutsOrFails};
 ghost use Rattle.gixobj_fields.specs.Writing.{AddsSize, RefusesWriting};
 
 use super::{Entry, EntryMode, Tree};
@@ -18,6 +20,7 @@ use gixobj_hash::hash::{self, ObjectId, oid};
 use gixobj_hash::texts::has_byte;
 use gixobj_hash::{Kind, compute_hash};
 use std::alloc::Global;
+use std::io;
 
 /// A tree is written as its entries in the order in which they stand, whatever that is.
 ///
@@ -82,7 +85,7 @@ fn put_owned<S: Sink>(alloc: Global, entry: &Entry, sink: &mut S) -> Result<(), 
 ///
 /// A name with a zero byte is refused as `NullbyteInFilename`, after the mode and a space.
 #[inline(always)]
-#[tactic(auto, using(crate::proofs::TreeWrites::mode_front, crate::proofs::TreeWrites::mode_put, crate::proofs::TreeWrites::name_front, crate::proofs::TreeWrites::no_copy))]
+#[tactic(auto, using(crate::proofs::TreeWrites::mode_front, crate::proofs::TreeWrites::name_front, crate::proofs::TreeWrites::id_front, crate::proofs::TreeWrites::id_put, crate::proofs::TreeWrites::no_copy))]
 pub fn put_entry<S: Sink>(
     alloc: Global,
     mode: EntryMode,
@@ -99,15 +102,46 @@ pub fn put_entry<S: Sink>(
         (borrowed_id id.entry)))) }
     ensures same_loan { S.loan sink.new ≡ S.loan sink.old }
 {
-    let mut backing = [0; 6];
-    let digits = mode.as_bytes(&mut backing);
-    put_parts(&[digits.as_bytes(), b" "], sink)?;
+    put_mode(mode, sink)?;
     if has_byte(name, 0) {
         let name = BString::from_slice(alloc, name)?;
         return Err(Error::NullbyteInFilename { name });
     }
-    put_parts(&[name, b"\0", id.as_bytes()], sink)?;
+    sink.put(name)?;
+    put_id(id, sink)?;
     Ok(())
+}
+
+/// Puts the mode and a space: those of a kind's own mode at once.
+#[inline(always)]
+fn put_mode<S: Sink>(mode: EntryMode, sink: &mut S) -> io::Result<()>
+    ensures put { PutsOrFails result (S.view sink.old) (S.view sink.new)
+        (mode_text (mode_bits mode) ++ space ∷ []) }
+    ensures same_loan { S.loan sink.new ≡ S.loan sink.old }
+{
+    if let Some(text) = mode.kind_text() {
+        return sink.put(text);
+    }
+    let mut backing = [0; 6];
+    let digits = mode.as_bytes(&mut backing);
+    put_parts(&[digits.as_bytes(), b" "], sink)
+}
+
+/// Puts a zero byte and the id: one of 20 bytes at once.
+#[inline(always)]
+fn put_id<S: Sink>(id: oid<'_>, sink: &mut S) -> io::Result<()>
+    ensures put { PutsOrFails result (S.view sink.old) (S.view sink.new)
+        (0 ∷ id_bytes (borrowed_id id.entry)) }
+    ensures same_loan { S.loan sink.new ≡ S.loan sink.old }
+{
+    match <[u8; 20]>::try_from(id.as_bytes()) {
+        Ok(bytes) => {
+            let mut text = [0; 21];
+            text[1..].copy_from_slice(&bytes);
+            sink.put(&text)
+        }
+        Err(_) => put_parts(&[b"\0", id.as_bytes()], sink),
+    }
 }
 
 /// The size and that of the entry, or none past 64 bits.
@@ -123,9 +157,7 @@ pub fn size_with(size: u64, mode: EntryMode, name: &[u8], id: oid<'_>) -> Option
     ensures { AddsSize result size (entry_text
         (entry_of (mode_bits mode) name.now (borrowed_id id.entry))) }
 {
-    let mut backing = [0; 6];
-    let digits = mode.as_bytes(&mut backing).as_bytes().len() as u64;
-    let with_mode = size.checked_add(digits)?.checked_add(2)?;
-    let with_name = with_mode.checked_add(name.len() as u64)?;
-    with_name.checked_add(id.as_bytes().len() as u64)
+    let beside_name = mode.text_len() + 2 + id.as_bytes().len();
+    let with_name = size.checked_add(name.len() as u64)?;
+    with_name.checked_add(beside_name as u64)
 }

@@ -2,7 +2,7 @@
 use Rattle.std.proofs.Common.{ℕ, List, length, sym, ◌∙◌, ap, subst, ◌≤◌}
 use Rattle.std.specs.Str.Parse.{AllDigits}
 use Rattle.gixobj_tree.proofs.ModeTexts.{octal_free, one_ending}
-use Rattle.gixobj_tree.proofs.tree.entry_mode.EntryMode.extract_from_bytes.Goals as goal
+use Rattle.gixobj_tree.proofs.tree.entry_mode.any_mode_in_front.Goals as goal
 
 pub returns-then-breaks_byte_six-clause-none : goal.returns-then-breaks_byte_six-clause-none
 returns-then-breaks_byte_six-clause-none c = λ mode rest begins.
