@@ -2,6 +2,7 @@ pub mod Bodies
 pub mod Lines
 pub mod Names
 mod OneLanguage
+pub mod PlainNames
 mod TagSigned
 mod TagWrites
 mod TagsFound
