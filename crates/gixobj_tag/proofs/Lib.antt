@@ -4,7 +4,7 @@ pub mod Names
 mod OneLanguage
 pub mod PlainNames
 mod TagSigned
-mod TagWrites
+pub mod TagWrites
 mod TagsFound
 mod TokenRuns
 mod Tokens
