@@ -1,7 +1,8 @@
 pub mod Bodies
 pub mod Lines
 pub mod Names
+pub mod PlainNames
 mod TagSigned
-mod TagWrites
+pub mod TagWrites
 pub mod WholeTags
 mod WrittenBack

@@ -122,7 +122,7 @@ dot_found name (inl (rest, begins)) = dot_start name [] rest begins (inl refl)
 dot_found name (inr (front, rest, holds)) =
     dot_start name (front ++ slash ∷ []) rest (holds ∙ simp append_assoc) (inr (front, refl))
 
-dot_only : (name : List ℕ) → HasFault fault.DotStart name → BeginsWith (codes ".") name ⊎ Holds (codes "/.") name
+pub dot_only : (name : List ℕ) → HasFault fault.DotStart name → BeginsWith (codes ".") name ⊎ Holds (codes "/.") name
 dot_only name (part, is, (rest, begins)) = elim is.opens [
   | inl none ↦ inl (rest ++ is.behind, cc (is.joined, begins, none))
   | inr (front, ends) ↦
@@ -160,7 +160,7 @@ lock_found name (inl (front, ends)) = lock_end name front [] (ends ∙ sym (appe
 lock_found name (inr (front, rest, holds)) =
     lock_end name front (slash ∷ rest) (holds ∙ simp append_assoc) (inr (rest, refl))
 
-lock_only : (name : List ℕ) → HasFault fault.LockSuffix name → EndsWith (codes ".lock") name ⊎ Holds (codes ".lock/") name
+pub lock_only : (name : List ℕ) → HasFault fault.LockSuffix name → EndsWith (codes ".lock") name ⊎ Holds (codes ".lock/") name
 lock_only name (part, is, (front, ends)) = elim is.closes [
   | inl none ↦
       let regrouped : is.before ++ (front ++ codes ".lock") ++ [] ≡ is.before ++ front ++ codes ".lock" = simp (append_assoc, append-nil) in

@@ -1,16 +1,23 @@
 -- Tags, written step by step: what a step refuses, the whole refuses.
-use Rattle.std.proofs.Common.{ℕ, List, [], ◌++◌, ap, inl, inr, refl, ◌∙◌}
+use Rattle.std.proofs.Common.{ℕ, List, [], ◌∷◌, ◌++◌, Result, ap, inl, inr, refl, ◌∙◌}
 use Rattle.std.proofs.lemmas.List.{append-nil}
 use Rattle.std.specs.Prelude.{codes}
-use Rattle.gixobj_fields.proofs.Puts.{puts_nothing}
+use Rattle.gixobj_fields.proofs.Puts.{front_first, puts_nothing, puts_or_fails_more}
 use Rattle.gixobj_fields.proofs.Refusals.{says_why_behind}
 use Rattle.gixobj_fields.specs.HeaderText.{field_text}
-use Rattle.gixobj_fields.specs.Streams.{SinkView}
+use Rattle.gixobj_fields.specs.Streams.{Puts, PutsFront, PutsOrFails, SinkView}
 use Rattle.gixobj_fields.specs.Writing.{Refused, RefusesWriting}
 use Rattle.gixobj_fields.specs.declared.encode.Error.{Error}
 use Rattle.gixobj_tag.specs.NameRule.{IsTagName}
 use Rattle.gixobj_tag.specs.TagText.{TagLines, target_text}
 use Rattle.gixobj_tag.specs.TagWriting.{RefusesTagLines, RefusesNameLine, RefusesParts}
+
+-- a byte is put, and then the rest of a text
+pub byte_front : (a b : SinkView) (byte : ℕ) (rest : List ℕ) → PutsFront a b (byte ∷ []) → PutsFront a b (byte ∷ rest)
+byte_front a b byte rest part = front_first a b (byte ∷ []) rest part
+
+pub byte_then : {T E : Type 0} (r : Result T E) (a b c : SinkView) (byte : ℕ) (rest : List ℕ) → Puts a b (byte ∷ []) → PutsOrFails r b c rest → PutsOrFails r a c (byte ∷ rest)
+byte_then r a b c byte rest first more = puts_or_fails_more r a b c (byte ∷ []) rest first more
 
 pub name_refused : (front name : List ℕ) (Refuses : Refused → List ℕ → Type 0) (value : Refused) (parts : List ℕ) → RefusesNameLine name value parts → RefusesParts front name Refuses value (front ++ parts)
 name_refused front name Refuses value parts (refused, none) = inl (refused, ap (λ (it : List ℕ). front ++ it) none ∙ append-nil front)

@@ -1,6 +1,7 @@
 pub mod LineReading
 pub mod LineViews
 pub mod NameRule
+pub mod PlainNames
 pub mod Rewriting
 pub mod Signed
 pub mod TagOwned

@@ -1,16 +1,22 @@
 //! The faults of a name (git-check-ref-format, "DESCRIPTION"). No test takes memory.
-ghost use Rattle.std.specs.Prelude.{MatchBool, MatchOption};
+ghost use Rattle.std.specs.Prelude.{◌≡◌, ◌↔◌, IsTrue, MatchBool, MatchOption};
 ghost use Rattle.gixobj_fields.specs.declared.encode.RefNameFault.TheVariants as fault;
 ghost use Rattle.gixobj_tag.specs.NameRule.{HasFault, HasNoFault, IsFirstFault, IsForbidden};
+ghost use Rattle.gixobj_tag.specs.PlainNames.{IsDotted, IsPlainName, is_plain_byte as is_plain_byte_of, may_follow as may_follow_of};
 
 use bstr::ByteSlice;
 use gixobj_fields::encode::RefNameFault;
 use gixobj_hash::texts::has_byte;
 
-/// The first fault of a name, in the order of [`RefNameFault`].
+/// The first fault of a name, in the order of [`RefNameFault`]. In a plain name, as most are, none is
+/// looked for.
+#[tactic(auto, using(crate::proofs::PlainNames::plain_no_fault))]
 pub(super) fn first_fault(name: &[u8]) -> Option<RefNameFault>
     ensures { MatchOption result (HasNoFault name.now) (IsFirstFault name.now) }
 {
+    if is_plain(name) {
+        return None;
+    }
     if name.is_empty() {
         return Some(RefNameFault::Empty);
     }
@@ -39,6 +45,45 @@ pub(super) fn first_fault(name: &[u8]) -> Option<RefNameFault>
         return Some(RefNameFault::DotEnd);
     }
     None
+}
+
+/// Whether the name is words apart by single dots, and does not end as a lock file.
+#[inline(always)]
+fn is_plain(name: &[u8]) -> bool
+    ensures { IsTrue result ↔ IsPlainName name.now }
+{
+    is_dotted(name) && !name.ends_with(b".lock")
+}
+
+/// Whether the name is words of plain bytes, apart by single dots.
+#[inline(always)]
+fn is_dotted(name: &[u8]) -> bool
+    ensures { IsTrue result ↔ IsDotted name.now }
+{
+    let mut before = b'.';
+    for byte in name {
+        if !may_follow(before, *byte) {
+            return false;
+        }
+        before = *byte;
+    }
+    before != b'.'
+}
+
+/// Whether the byte may follow the one before it: it is plain, and they are not two dots.
+#[inline(always)]
+fn may_follow(before: u8, byte: u8) -> bool
+    ensures { result ≡ may_follow_of before byte }
+{
+    is_plain_byte(byte) && (before != b'.' || byte != b'.')
+}
+
+/// Whether the byte is a letter, a digit, a dash, an underscore or a dot.
+#[inline(always)]
+fn is_plain_byte(byte: u8) -> bool
+    ensures { result ≡ is_plain_byte_of byte }
+{
+    byte.is_ascii_alphanumeric() || byte == b'-' || byte == b'_' || byte == b'.'
 }
 
 /// Whether a part begins with `.`: the first one, or one behind a slash.

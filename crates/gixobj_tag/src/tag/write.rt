@@ -2,12 +2,14 @@
 ghost use Rattle.std.specs.Prelude.{◌≡◌, ◌↔◌, ◌<◌, ◌+◌, ◌^◌, ◌++◌, ◌∷◌, [], codes, length, IfErr, IfOk, IsOk, OnOk};
 ghost use Rattle.std.specs.Option.{SomeIff};
 ghost use Rattle.bstr.specs.BStr.{bstr_bytes};
-ghost use Rattle.gixobj_fields.specs.HeaderText.{field_text};
+ghost use Rattle.gixobj_fields.specs.HeaderText.{field_text, line_text};
 ghost use Rattle.gixobj_fields.specs.Streams.{Puts, PutsOrFails};
 ghost use Rattle.gixobj_fields.specs.Writing.{AddsSize, IsSize, RefusesNothing, RefusesWriting};
 ghost use Rattle.gixobj_tag.specs.NameRule.{IsTagName, RefusesTagName};
 ghost use Rattle.gixobj_tag.specs.TagText.{front_text};
 ghost use Rattle.gixobj_tag.specs.TagWriting.{RefusesNameLine, RefusesParts, body_text, message_text, parts_text, signature_text};
+ghost use Rattle.gixobj_hash.specs.Bytes.{newline};
+ghost use Rattle.gixobj_hash.specs.Kind.{kind_word};
 ghost use Rattle.gixobj_hash.specs.Optional.{bytes_if_some};
 
 mod owned;
@@ -19,10 +21,8 @@ use bstr::BStr;
 use gixobj_actor::actor::Signature;
 use gixobj_actor::encode::{size_with_signature, trusted_header_signature};
 use gixobj_fields::WriteTo;
-use gixobj_fields::encode::{
-    self, size_with_field, size_with_id, trusted_header_field, trusted_header_id,
-};
-use gixobj_fields::streams::{Sink, put_parts};
+use gixobj_fields::encode::{self, size_with_field, size_with_id, trusted_header_id};
+use gixobj_fields::streams::Sink;
 use gixobj_hash::Kind;
 use gixobj_hash::hash::ObjectId;
 use std::alloc::Global;
@@ -152,7 +152,7 @@ impl Target for BStr<'_> {
     ghost target_line = { λ hex. field_text (codes "object") (bstr_bytes hex) };
 
     fn put_target_line<S: Sink>(&self, sink: &mut S) -> io::Result<()> {
-        trusted_header_field(b"object", self.as_bytes(), sink)
+        put_line(b"object ", self.as_bytes(), sink)
     }
 
     fn size_with_target(&self, size: u64) -> Option<u64> {
@@ -213,7 +213,7 @@ impl Tagger for Option<BStr<'_>> {
     fn put_tagger<S: Sink>(&self, sink: &mut S) -> Result<(), encode::Error> {
         match self {
             Some(line) => {
-                trusted_header_field(b"tagger", line.as_bytes(), sink)?;
+                put_line(b"tagger ", line.as_bytes(), sink)?;
                 Ok(())
             }
             None => Ok(()),
@@ -260,7 +260,20 @@ fn put_target<T: Target, S: Sink>(target: &T, kind: Kind, sink: &mut S) -> io::R
     ensures same_loan { S.loan sink.new ≡ S.loan sink.old }
 {
     target.put_target_line(sink)?;
-    trusted_header_field(b"type", kind.as_bytes(), sink)
+    sink.put(kind_line(kind))
+}
+
+/// The line of a kind.
+#[inline(always)]
+fn kind_line(kind: Kind) -> &'static [u8]
+    ensures { result.now ≡ field_text (codes "type") (kind_word kind) }
+{
+    match kind {
+        Kind::Tree => b"type tree\n",
+        Kind::Blob => b"type blob\n",
+        Kind::Commit => b"type commit\n",
+        Kind::Tag => b"type tag\n",
+    }
 }
 
 /// Puts the line of a name that a tag may have.
@@ -274,24 +287,81 @@ fn put_name<S: Sink>(name: BStr<'_>, sink: &mut S) -> Result<(), encode::Error>
     ensures same_loan { S.loan sink.new ≡ S.loan sink.old }
 {
     let name = validated_name(name)?;
-    trusted_header_field(b"tag", name.as_bytes(), sink)?;
+    put_line(b"tag ", name.as_bytes(), sink)?;
     Ok(())
 }
 
+/// Puts a line: its field's name with the space behind it, the value and a newline.
+#[inline(always)]
+#[tactic(auto, using(gixobj_fields::proofs::Puts::front_first, gixobj_fields::proofs::Puts::puts_or_fails_more))]
+fn put_line<S: Sink>(front: &[u8], value: &[u8], sink: &mut S) -> io::Result<()>
+    ensures put { PutsOrFails result (S.view sink.old) (S.view sink.new)
+        (front.now ++ line_text value.now) }
+    ensures same_loan { S.loan sink.new ≡ S.loan sink.old }
+{
+    sink.put(front)?;
+    put_value(value, sink)
+}
+
+/// Puts a value and the newline that ends its line.
+#[inline(always)]
+#[tactic(auto, using(gixobj_fields::proofs::Puts::front_first, gixobj_fields::proofs::Puts::puts_or_fails_more))]
+fn put_value<S: Sink>(value: &[u8], sink: &mut S) -> io::Result<()>
+    ensures put { PutsOrFails result (S.view sink.old) (S.view sink.new) (line_text value.now) }
+    ensures same_loan { S.loan sink.new ≡ S.loan sink.old }
+{
+    sink.put(value)?;
+    sink.put(b"\n")
+}
+
 /// Puts the message and the signature.
+#[inline(always)]
+#[tactic(auto, using(gixobj_fields::proofs::Puts::front_first, gixobj_fields::proofs::Puts::puts_or_fails_more))]
 fn put_body<S: Sink>(message: BStr<'_>, signature: Option<BStr<'_>>, sink: &mut S) -> io::Result<()>
     ensures put { PutsOrFails result (S.view sink.old) (S.view sink.new)
         (body_text (bstr_bytes message.entry) (bytes_if_some signature.entry)) }
     ensures same_loan { S.loan sink.new ≡ S.loan sink.old }
 {
-    let opening = opening(message);
+    put_message(message, sink)?;
+    put_signature(signature, sink)
+}
+
+/// Puts the message.
+#[inline(always)]
+#[tactic(auto, using(gixobj_fields::proofs::Puts::front_first, gixobj_fields::proofs::Puts::puts_or_fails_more))]
+fn put_message<S: Sink>(message: BStr<'_>, sink: &mut S) -> io::Result<()>
+    ensures put { PutsOrFails result (S.view sink.old) (S.view sink.new)
+        (message_text (bstr_bytes message.entry)) }
+    ensures same_loan { S.loan sink.new ≡ S.loan sink.old }
+{
+    sink.put(opening(message))?;
+    sink.put(message.as_bytes())
+}
+
+/// Puts the signature behind a newline, or nothing without one.
+#[inline(always)]
+#[tactic(auto, using(gixobj_fields::proofs::Puts::puts_nothing))]
+fn put_signature<S: Sink>(signature: Option<BStr<'_>>, sink: &mut S) -> io::Result<()>
+    ensures put { PutsOrFails result (S.view sink.old) (S.view sink.new)
+        (signature_text (bytes_if_some signature.entry)) }
+    ensures same_loan { S.loan sink.new ≡ S.loan sink.old }
+{
     match signature {
-        Some(signature) => put_parts(
-            &[opening, message.as_bytes(), b"\n", signature.as_bytes()],
-            sink,
-        ),
-        None => put_parts(&[opening, message.as_bytes()], sink),
+        Some(signature) => put_behind_newline(signature, sink),
+        None => Ok(()),
     }
+}
+
+/// Puts a newline, and the text behind it.
+#[inline(always)]
+#[tactic(auto, using(crate::proofs::TagWrites::byte_front, crate::proofs::TagWrites::byte_then))]
+fn put_behind_newline<S: Sink>(text: BStr<'_>, sink: &mut S) -> io::Result<()>
+    ensures put { PutsOrFails result (S.view sink.old) (S.view sink.new)
+        (newline ∷ bstr_bytes text.entry) }
+    ensures same_loan { S.loan sink.new ≡ S.loan sink.old }
+{
+    sink.put(b"\n")?;
+    sink.put(text.as_bytes())
 }
 
 /// The newline before the message, or nothing where it is newlines alone.
