@@ -193,7 +193,7 @@ impl SignatureRef<'_> {
         actor_size(
             self.name.as_bytes(),
             self.email.as_bytes(),
-            self.time.as_bytes(),
+            self.time.as_bytes().len() as u64,
         )
     }
 }
@@ -235,8 +235,11 @@ impl Signature {
     pub fn size(&self) -> Option<u64>
         ensures { IsSize result (owned_text self.now) }
     {
-        let mut time_buf = TimeBuf::new();
-        self.to_ref(&mut time_buf).size()
+        actor_size(
+            self.name.as_bytes(),
+            self.email.as_bytes(),
+            self.time.text_len(),
+        )
     }
 }
 
@@ -256,12 +259,13 @@ fn put_actor<S: Sink>(name: &[u8], email: &[u8], time: &[u8], sink: &mut S) -> i
     put_parts(&[name, b" <", email, b"> ", time], sink)
 }
 
-/// How many bytes an actor takes, or none past 64 bits.
-fn actor_size(name: &[u8], email: &[u8], time: &[u8]) -> Option<u64>
-    ensures { IsSize result (actor_text name.now email.now time.now) }
+/// How many bytes an actor takes whose time has so many, or none past 64 bits.
+fn actor_size(name: &[u8], email: &[u8], time_len: u64) -> Option<u64>
+    ensures { SomeIff result (length name.now + length email.now + time_len + 4 < 2 ^ 64)
+        (length name.now + length email.now + time_len + 4) }
 {
     let texts = (name.len() as u64).checked_add(email.len() as u64)?;
-    texts.checked_add(time.len() as u64)?.checked_add(4)
+    texts.checked_add(time_len)?.checked_add(4)
 }
 
 /// The actor of a line and what follows its time, or none.

@@ -1,6 +1,6 @@
 //! Times as they stand in actor lines: seconds since 1970 and an offset from UTC (`git-fast-import`,
 //! "Date Formats", "raw").
-ghost use Rattle.std.specs.Prelude.{◌≡◌, ◌≤◌, ◌<◌, ◌+◌, ◌*◌, ◌++◌, ◌↔◌, [], ◌∷◌, ℕ, ℤ, length, IfNone, IfSome, IsSome, IsTrue, IsAscii};
+ghost use Rattle.std.specs.Prelude.{◌≡◌, ◌≤◌, ◌<◌, ◌+◌, ◌*◌, ◌++◌, ◌↔◌, [], ◌∷◌, ℕ, ℤ, length, IfNone, IfSome, IsSome, IsTrue, IsAscii, decimal};
 ghost use Rattle.std.specs.Str.Parse.{IsNumeral, starts_with_minus};
 ghost use Rattle.gixobj_actor.specs.Date.{IsOffset, IsOffsetText, IsSecondsText, IsTimeText, IsNoTimeText, seconds_digits, signed, time_text, two_digits};
 
@@ -51,6 +51,18 @@ impl Time {
     }
 }
 
+/// Measure
+impl Time {
+    /// How many bytes its text has.
+    #[inline(always)]
+    #[tactic(auto, using(crate::proofs::TimeSizes::length_of_time))]
+    pub(crate) fn text_len(&self) -> u64
+        ensures { result ≡ length (time_text self.now.seconds self.now.offset) }
+    {
+        u64::from(self.seconds < 0) + digit_count(self.seconds.unsigned_abs()) + OFFSET_LEN
+    }
+}
+
 impl Default for Time {
     ghost use Rattle.std.specs.Prelude.{pos};
 
@@ -79,6 +91,38 @@ pub fn parse_header(text: &[u8]) -> Option<Time>
 
 /// The greatest offset, 99 hours and 59 minutes, in seconds.
 const GREATEST_OFFSET: i32 = 359_940;
+
+/// How many bytes a space and the text of an offset have.
+const OFFSET_LEN: u64 = 6;
+
+/// How many digits a number has. Ten is looked at first: so many have the seconds since 2001.
+#[inline(always)]
+#[tactic(auto, using(crate::proofs::TimeSizes::ten_digits))]
+fn digit_count(number: u64) -> u64
+    ensures is { result ≡ length (decimal number) }
+    ensures few { result ≤ 20 }
+{
+    if 1_000_000_000 <= number && number < 10_000_000_000 {
+        10
+    } else {
+        digits_counted(number)
+    }
+}
+
+/// How many digits a number has, counted one by one.
+#[tactic(auto, using(crate::proofs::TimeSizes::one_digit, crate::proofs::TimeSizes::digit_more, crate::proofs::TimeSizes::few_digits))]
+fn digits_counted(number: u64) -> u64
+    ensures is { result ≡ length (decimal number) }
+    ensures few { result ≤ 20 }
+{
+    let mut count = 1;
+    let mut rest = number;
+    'digits: while rest >= 10 {
+        rest /= 10;
+        count += 1;
+    }
+    count
+}
 
 /// The seconds that a text says: at most a minus, and then digits.
 fn seconds_from_text(text: &[u8]) -> Option<i64>
