@@ -1,8 +1,9 @@
 -- How long the text of a time is.
-use Rattle.std.proofs.Common.{◌≡◌, ◌<◌, ◌≤◌, ◌+◌, ◌*◌, ◌/◌, ◌%◌, ◌^◌, ℕ, zero, suc, [], ◌∷◌, ◌++◌, length, arith, ap, ◌∙◌}
+use Rattle.std.proofs.Common.{◌≡◌, ◌<◌, ◌≤◌, ◌+◌, ◌*◌, ◌/◌, ◌%◌, ◌^◌, ℕ, zero, suc, List, [], ◌∷◌, ◌++◌, length, arith, ap, ◌∙◌}
 use Rattle.std.proofs.lemmas.Fmt.{decimal_digit, decimal_nonempty, decimal_step, length-decimal-le}
 use Rattle.std.proofs.lemmas.List.{length-append}
-use Rattle.std.specs.Prelude.{ℤ, pos, negsuc, unsigned_abs, decimal, if◌then◌else◌}
+use Rattle.std.specs.Prelude.{IsAscii, ℤ, pos, negsuc, unsigned_abs, decimal, if◌then◌else◌}
+use Rattle.std.proofs.lemmas.Str.{IsAscii-append}
 use Rattle.gixobj_actor.specs.Date.{is_below_zero, offset_text, time_text}
 
 pub one_digit : (number : ℕ) → number < 10 → length (decimal number) ≡ 1
@@ -44,3 +45,6 @@ length_of_time (pos size) offset =
 length_of_time (negsuc size) offset =
     let joined : length (decimal (suc size) ++ 32 ∷ offset_text offset) ≡ length (decimal (suc size)) + 6 = length-append (decimal (suc size)) (32 ∷ offset_text offset) in
     let same : length (time_text (negsuc size) offset) ≡ 1 + length (decimal (suc size)) + 6 = omega (arith, joined) in same
+
+pub joined_ascii : (front rest : List ℕ) → IsAscii front → IsAscii rest → IsAscii (front ++ rest)
+joined_ascii = IsAscii-append
