@@ -2,4 +2,5 @@ pub mod ActorLines
 mod ActorTexts
 pub mod OwnedActors
 pub mod SignatureFields
+mod TimeSizes
 mod TimeTexts

@@ -1,13 +1,13 @@
 //! Actors: who made an object, and when (`git-commit-tree`, "Commit Information"; `git-fast-import`,
 //! "author" and "committer").
-ghost use Rattle.std.specs.Prelude.{◌≡◌, ◌<◌, ◌+◌, ◌-◌, ◌*◌, ◌^◌, ◌++◌, ℕ, List, length, IfErr, IfNone, IfOk, IfSome, MatchBool, OnErr, OnOk, IsTrue, ◌↔◌};
+ghost use Rattle.std.specs.Prelude.{◌≡◌, ◌≤◌, ◌<◌, ◌+◌, ◌-◌, ◌*◌, ◌^◌, ◌++◌, ℕ, List, length, IfErr, IfNone, IfOk, IfSome, MatchBool, OnErr, OnOk, IsTrue, ◌↔◌, codes};
 ghost use Rattle.std.specs.Io.KnownBytes.{Appends};
 ghost use Rattle.std.specs.List.{AllPass};
 ghost use Rattle.std.specs.Option.{SomeIff};
 ghost use Rattle.bstr.specs.BStr.{bstr_bytes};
 ghost use Rattle.bstr.specs.Owned.{bstring_bytes};
 ghost use Rattle.gixobj_actor.specs.Actor.{EndsTime, IsActorLineOf, IsGap, IsNameOf, IsNoActorLine, IsTimeOrDefault, IsWritable, actor_text, actor_view, is_time_byte as is_time_byte_of};
-ghost use Rattle.gixobj_actor.specs.ActorWriting.{IsLegalActor, RefusesActor, borrowed_text, owned_text};
+ghost use Rattle.gixobj_actor.specs.ActorWriting.{IsLegal, IsLegalActor, RefusesActor, borrowed_text, owned_text};
 ghost use Rattle.gixobj_actor.specs.Date.{IsNoTimeText, IsTimeText, time_text};
 ghost use Rattle.gixobj_fields.specs.Streams.{Puts, PutsFront, PutsOrFails, writer_view};
 ghost use Rattle.gixobj_hash.specs.declared.decode.Error.TheVariants.{Malformed};
@@ -16,6 +16,7 @@ ghost use Rattle.gixobj_hash.specs.Bytes.{newline};
 ghost use Rattle.gixobj_hash.specs.Texts.{IsFree, trimmed};
 
 use crate::date::{Time, TimeBuf, parse_header};
+use crate::short_text::ShortText;
 use bstr::{BStr, BString, ByteSlice};
 use gixobj_fields::encode::Error;
 use gixobj_fields::streams::{Sink, ToWrite, put_parts};
@@ -137,7 +138,7 @@ impl Signature {
         SignatureRef {
             name: self.name.as_bstr(),
             email: self.email.as_bstr(),
-            time: BStr::new(self.time.to_str(time_buf).as_bytes()),
+            time: BStr::new(time_buf.bytes_of(self.time)),
         }
     }
 }
@@ -193,7 +194,7 @@ impl SignatureRef<'_> {
         actor_size(
             self.name.as_bytes(),
             self.email.as_bytes(),
-            self.time.as_bytes(),
+            self.time.as_bytes().len() as u64,
         )
     }
 }
@@ -227,16 +228,38 @@ impl Signature {
             (PutsFront (S.view sink.old) (S.view sink.new) (owned_text self.now))) }
         ensures same_loan { S.loan sink.new ≡ S.loan sink.old }
     {
-        let mut time_buf = TimeBuf::new();
-        self.to_ref(&mut time_buf).write_into(sink)
+        self.write_with(b"", sink)
+    }
+
+    /// Puts what [`Signature::write_into`] puts and at most one byte behind it, and refuses it as that does.
+    /// What stands behind the email is put at once.
+    pub(crate) fn write_with<S: Sink>(&self, behind: &[u8], sink: &mut S) -> Result<(), Error>
+        requires few { length behind.now ≤ 1 }
+        ensures ok { OnOk result (IsLegal self.now
+            × Puts (S.view sink.old) (S.view sink.new) (owned_text self.now ++ behind.now)) }
+        ensures refusal { IfErr result (RefusesActor (bstring_bytes self.now.name)
+            (bstring_bytes self.now.email) (sink.new ≡ sink.old)
+            (PutsFront (S.view sink.old) (S.view sink.new) (owned_text self.now ++ behind.now))) }
+        ensures same_loan { S.loan sink.new ≡ S.loan sink.old }
+    {
+        let (name, email) = (self.name.as_bytes(), self.email.as_bytes());
+        if !(is_writable(name) && is_writable(email)) {
+            return Err(Error::IllegalActor);
+        }
+        let end = end_of_line(self.time, behind);
+        put_with_end(name, email, end.as_bytes(), sink)?;
+        Ok(())
     }
 
     /// How many bytes [`Signature::write_to`] writes, or none past 64 bits.
     pub fn size(&self) -> Option<u64>
         ensures { IsSize result (owned_text self.now) }
     {
-        let mut time_buf = TimeBuf::new();
-        self.to_ref(&mut time_buf).size()
+        actor_size(
+            self.name.as_bytes(),
+            self.email.as_bytes(),
+            self.time.text_len(),
+        )
     }
 }
 
@@ -245,6 +268,27 @@ fn is_writable(text: &[u8]) -> bool
     ensures { IsTrue result ↔ IsWritable text.now }
 {
     !(has_byte(text, b'<') || has_byte(text, b'>') || has_byte(text, b'\n'))
+}
+
+/// Puts a name, ` <`, an email, and the end of an actor's line, whatever their bytes are.
+fn put_with_end<S: Sink>(name: &[u8], email: &[u8], end: &[u8], sink: &mut S) -> io::Result<()>
+    ensures put { PutsOrFails result (S.view sink.old) (S.view sink.new)
+        (name.now ++ codes " <" ++ email.now ++ end.now) }
+    ensures same_loan { S.loan sink.new ≡ S.loan sink.old }
+{
+    put_parts(&[name, b" <", email, end], sink)
+}
+
+/// The end of a line of an actor with this time: `> `, the text of the time, and these bytes.
+fn end_of_line(time: Time, behind: &[u8]) -> ShortText
+    requires few { length behind.now ≤ 1 }
+    ensures { result ≡ codes "> " ++ time_text time.seconds time.offset ++ behind.now }
+{
+    let mut end = ShortText::new();
+    end.extend(b"> ");
+    time.push_text(&mut end);
+    end.extend(behind);
+    end
 }
 
 /// Writes an actor, whatever its bytes are.
@@ -256,12 +300,13 @@ fn put_actor<S: Sink>(name: &[u8], email: &[u8], time: &[u8], sink: &mut S) -> i
     put_parts(&[name, b" <", email, b"> ", time], sink)
 }
 
-/// How many bytes an actor takes, or none past 64 bits.
-fn actor_size(name: &[u8], email: &[u8], time: &[u8]) -> Option<u64>
-    ensures { IsSize result (actor_text name.now email.now time.now) }
+/// How many bytes an actor takes whose time has so many, or none past 64 bits.
+fn actor_size(name: &[u8], email: &[u8], time_len: u64) -> Option<u64>
+    ensures { SomeIff result (length name.now + length email.now + time_len + 4 < 2 ^ 64)
+        (length name.now + length email.now + time_len + 4) }
 {
     let texts = (name.len() as u64).checked_add(email.len() as u64)?;
-    texts.checked_add(time.len() as u64)?.checked_add(4)
+    texts.checked_add(time_len)?.checked_add(4)
 }
 
 /// The actor of a line and what follows its time, or none.

@@ -1,9 +1,11 @@
 //! Times as they stand in actor lines: seconds since 1970 and an offset from UTC (`git-fast-import`,
 //! "Date Formats", "raw").
-ghost use Rattle.std.specs.Prelude.{◌≡◌, ◌≤◌, ◌<◌, ◌+◌, ◌*◌, ◌++◌, ◌↔◌, [], ◌∷◌, ℕ, ℤ, length, IfNone, IfSome, IsSome, IsTrue, IsAscii};
+ghost use Rattle.std.specs.Prelude.{◌≡◌, ◌≤◌, ◌<◌, ◌+◌, ◌*◌, ◌++◌, ◌↔◌, [], ◌∷◌, ℕ, ℤ, length, IfNone, IfSome, IsSome, IsTrue, IsAscii, decimal};
 ghost use Rattle.std.specs.Str.Parse.{IsNumeral, starts_with_minus};
-ghost use Rattle.gixobj_actor.specs.Date.{IsOffset, IsOffsetText, IsSecondsText, IsTimeText, IsNoTimeText, seconds_digits, signed, time_text, two_digits};
+ghost use Rattle.gixobj_actor.specs.Date.{IsOffset, IsOffsetText, IsSecondsText, IsTimeText, IsNoTimeText, offset_text, seconds_digits, signed, time_text, two_digits};
+ghost use Rattle.gixobj_hash.specs.Bytes.{space};
 
+use crate::short_text::ShortText;
 use gixobj_hash::texts::{are_digits, number_from_digits, split_at_byte};
 use itoa::Buffer;
 use std::marker::Model;
@@ -51,6 +53,45 @@ impl Time {
     }
 }
 
+/// Writing
+impl Time {
+    /// Puts its text at the end.
+    #[inline(always)]
+    #[tactic(auto, using(crate::proofs::TimeSizes::joined_ascii))]
+    pub(crate) fn push_text(&self, text: &mut ShortText)
+        requires room { length text.old ≤ 6 }
+        ensures text { text.new ≡ text.old ++ time_text self.now.seconds self.now.offset }
+        ensures ascii { IsAscii (time_text self.now.seconds self.now.offset) }
+        ensures short { length (time_text self.now.seconds self.now.offset) ≤ 26 }
+    {
+        let mut digits = Buffer::new();
+        text.extend(digits.format(self.seconds).as_bytes());
+        text.extend(&self.offset_bytes());
+    }
+
+    /// A space, and the text of the offset.
+    #[inline(always)]
+    fn offset_bytes(&self) -> [u8; 6]
+        ensures text { result ≡ space ∷ offset_text self.now.offset }
+        ensures ascii { IsAscii result }
+    {
+        let sign = if self.offset < 0 { b'-' } else { b'+' };
+        let minutes = self.offset.unsigned_abs() / 60;
+        let [hour_tens, hour_ones] = two_digits_of((minutes / 60) as u8);
+        let [minute_tens, minute_ones] = two_digits_of((minutes % 60) as u8);
+        [b' ', sign, hour_tens, hour_ones, minute_tens, minute_ones]
+    }
+
+    /// How many bytes its text has.
+    #[inline(always)]
+    #[tactic(auto, using(crate::proofs::TimeSizes::length_of_time))]
+    pub(crate) fn text_len(&self) -> u64
+        ensures { result ≡ length (time_text self.now.seconds self.now.offset) }
+    {
+        u64::from(self.seconds < 0) + digit_count(self.seconds.unsigned_abs()) + OFFSET_LEN
+    }
+}
+
 impl Default for Time {
     ghost use Rattle.std.specs.Prelude.{pos};
 
@@ -79,6 +120,38 @@ pub fn parse_header(text: &[u8]) -> Option<Time>
 
 /// The greatest offset, 99 hours and 59 minutes, in seconds.
 const GREATEST_OFFSET: i32 = 359_940;
+
+/// How many bytes a space and the text of an offset have.
+const OFFSET_LEN: u64 = 6;
+
+/// How many digits a number has. Ten is looked at first: so many have the seconds since 2001.
+#[inline(always)]
+#[tactic(auto, using(crate::proofs::TimeSizes::ten_digits))]
+fn digit_count(number: u64) -> u64
+    ensures is { result ≡ length (decimal number) }
+    ensures few { result ≤ 20 }
+{
+    if 1_000_000_000 <= number && number < 10_000_000_000 {
+        10
+    } else {
+        digits_counted(number)
+    }
+}
+
+/// How many digits a number has, counted one by one.
+#[tactic(auto, using(crate::proofs::TimeSizes::one_digit, crate::proofs::TimeSizes::digit_more, crate::proofs::TimeSizes::few_digits))]
+fn digits_counted(number: u64) -> u64
+    ensures is { result ≡ length (decimal number) }
+    ensures few { result ≤ 20 }
+{
+    let mut count = 1;
+    let mut rest = number;
+    'digits: while rest >= 10 {
+        rest /= 10;
+        count += 1;
+    }
+    count
+}
 
 /// The seconds that a text says: at most a minus, and then digits.
 fn seconds_from_text(text: &[u8]) -> Option<i64>
@@ -167,18 +240,17 @@ fn two_digits_of(number: u8) -> [u8; 2]
 /// Room for the text of a time.
 #[derive(Drop)]
 pub struct TimeBuf {
-    bytes: [u8; 26],
-    len: usize,
+    text: ShortText,
 }
 
 impl Model for TimeBuf {
-    ghost use Rattle.std.specs.Prelude.{◌≤◌, ℕ, List, take, IsAscii};
+    ghost use Rattle.std.specs.Prelude.{◌≤◌, ℕ, List, length, IsAscii};
 
     ghost Value = { List ℕ };
 
-    ghost view = { λ it. take it.len it.bytes };
+    ghost view = { λ it. it.text };
 
-    ghost invariant = { λ it. (it.len ≤ 26) × IsAscii (take it.len it.bytes) };
+    ghost invariant = { λ it. (length it.text ≤ 26) × IsAscii it.text };
 }
 
 impl TimeBuf {
@@ -187,8 +259,7 @@ impl TimeBuf {
         ensures { result ≡ [] }
     {
         TimeBuf {
-            bytes: [0; 26],
-            len: 0,
+            text: ShortText::new(),
         }
     }
 
@@ -197,7 +268,7 @@ impl TimeBuf {
         ensures text { result.now ≡ self.now }
         ensures short { length result.now ≤ 26 }
     {
-        match str::from_utf8(&self.bytes[..self.len]) {
+        match str::from_utf8(self.text.as_bytes()) {
             Ok(text) => text,
             Err(_) => unreachable!(),
         }
@@ -207,25 +278,17 @@ impl TimeBuf {
     fn hold(&mut self, time: Time)
         ensures { self.new ≡ time_text time.seconds time.offset }
     {
-        let mut digits = Buffer::new();
-        let minutes = time.offset.unsigned_abs() / 60;
-        self.len = 0;
-        self.extend(digits.format(time.seconds).as_bytes());
-        self.extend(b" ");
-        self.extend(if time.offset < 0 { b"-" } else { b"+" });
-        self.extend(&two_digits_of((minutes / 60) as u8));
-        self.extend(&two_digits_of((minutes % 60) as u8));
+        let mut text = ShortText::new();
+        time.push_text(&mut text);
+        *self = TimeBuf { text };
     }
 
-    /// Puts more bytes at the end.
-    fn extend(&mut self, more: &[u8])
-        requires room { length self.old + length more.now ≤ 26 }
-        requires ascii { IsAscii more.now }
-        ensures { self.new ≡ self.old ++ more.now }
+    /// The text of this time, which it holds from now on, as bytes.
+    pub(crate) fn bytes_of(&mut self, time: Time) -> &[u8]
+        ensures { result.now ≡ time_text time.seconds time.offset }
     {
-        let end = self.len + more.len();
-        self.bytes[self.len..end].copy_from_slice(more);
-        self.len = end;
+        self.hold(time);
+        self.text.as_bytes()
     }
 }
 

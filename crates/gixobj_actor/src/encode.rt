@@ -29,9 +29,7 @@ pub fn trusted_header_signature<S: Sink>(
     ensures same_loan { S.loan sink.new ≡ S.loan sink.old }
 {
     put_parts(&[name, b" "], sink)?;
-    actor.write_into(sink)?;
-    sink.put(b"\n")?;
-    Ok(())
+    actor.write_with(b"\n", sink)
 }
 
 /// The size in bytes with that of what [`trusted_header_signature`] puts, or none past 64 bits; an actor

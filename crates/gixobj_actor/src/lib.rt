@@ -6,3 +6,4 @@ pub mod date;
 pub mod encode;
 pub mod laws;
 pub mod parse;
+mod short_text;

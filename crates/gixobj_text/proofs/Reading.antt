@@ -113,7 +113,7 @@ none_left text none = ap trailers_of (ap lines_of none ∙ lines-nil)
 pub folded_nothing : (text : List ℕ) → text ≡ [] → take_while is_folded (lines_of text) ≡ []
 folded_nothing text none = ap (take_while is_folded) (ap lines_of none ∙ lines-nil)
 
-taken_by : (b : Bool) (line : List ℕ) (lines : Lines) → is_folded line ≡ b → take_while is_folded (line ∷ lines) ≡ cond b (line ∷ take_while is_folded lines) []
+pub taken_by : (b : Bool) (line : List ℕ) (lines : Lines) → is_folded line ≡ b → take_while is_folded (line ∷ lines) ≡ cond b (line ∷ take_while is_folded lines) []
 taken_by b line lines is = take_while-cons is_folded line lines ∙ ap (λ (c : Bool). cond c (line ∷ take_while is_folded lines) []) is
 
 pub folded_more : (items text line rest : List ℕ) → IsFirstLine text line rest → is_folded line ≡ true → with_folded items (lines_of text) ≡ with_folded (with_piece items (trimmed (text_of line))) (lines_of rest)

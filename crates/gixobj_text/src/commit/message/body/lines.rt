@@ -2,11 +2,12 @@
 ghost use Rattle.std.specs.Prelude.{◌≡◌, ◌≤◌, [], MatchOption, length};
 ghost use Rattle.bstr.specs.Text.{line_len};
 ghost use Rattle.gixobj_text.specs.FirstLines.{IsFirstLine};
-ghost use Rattle.gixobj_text.specs.BodyLines.{is_blank, text_of, without_last_byte};
+ghost use Rattle.gixobj_text.specs.BodyLines.{begins_indented as begins_indented_of, is_blank, text_of, without_last_byte};
 
 use bstr::ByteSlice;
 
 /// The text of a line: without its newline, and without one return at the end of what is left.
+#[inline(always)]
 pub(crate) fn line_text(line: &[u8]) -> &[u8]
     ensures text { result.now ≡ text_of line.now }
     ensures within { length result.now ≤ length line.now }
@@ -15,6 +16,7 @@ pub(crate) fn line_text(line: &[u8]) -> &[u8]
 }
 
 /// The bytes without one such byte at the end.
+#[inline(always)]
 #[tactic(auto, using(crate::proofs::LastBytes::dropped, crate::proofs::LastBytes::kept))]
 fn without_last(bytes: &[u8], byte: u8) -> &[u8]
     ensures text { result.now ≡ without_last_byte byte bytes.now }
@@ -26,7 +28,19 @@ fn without_last(bytes: &[u8], byte: u8) -> &[u8]
     }
 }
 
+/// Whether a text begins with white space.
+#[inline(always)]
+pub(crate) fn begins_indented(text: &[u8]) -> bool
+    ensures { result ≡ begins_indented_of text.now }
+{
+    match text.split_first() {
+        Some((byte, _)) => byte.is_ascii_whitespace(),
+        None => false,
+    }
+}
+
 /// Whether the text of a line is white space alone.
+#[inline(always)]
 pub(crate) fn is_blank_line(line: &[u8]) -> bool
     ensures { result ≡ is_blank line.now }
 {
@@ -36,6 +50,7 @@ pub(crate) fn is_blank_line(line: &[u8]) -> bool
 }
 
 /// How many bytes the first line takes.
+#[inline(always)]
 #[tactic(auto, using(crate::proofs::FirstLines::ends_at, crate::proofs::FirstLines::ends_nowhere))]
 fn first_line_len(text: &[u8]) -> usize
     ensures is { result ≡ line_len text.now }
@@ -48,6 +63,7 @@ fn first_line_len(text: &[u8]) -> usize
 }
 
 /// A text's first line, and what stands behind it.
+#[inline(always)]
 pub(crate) fn split_line(text: &[u8]) -> Option<(&[u8], &[u8])>
     ensures { MatchOption result (text.now ≡ []) (λ it. IsFirstLine text.now it.0.now it.1.now) }
 {

@@ -3,7 +3,7 @@ ghost use Rattle.std.specs.Prelude.{◌≡◌, ◌+◌, ◌*◌, ◌<◌, ◌≤
 ghost use Rattle.gixobj_text.specs.BodyLines.{is_indented as is_indented_of, is_recognised as is_recognised_of};
 ghost use Rattle.gixobj_text.specs.TrailerBlocks.{is_trailing as is_trailing_of};
 
-use crate::commit::message::body::lines::line_text;
+use crate::commit::message::body::lines::{begins_indented, line_text};
 use crate::commit::message::body::trailer_lines::is_trailer_line;
 
 /// What is known of the lines of a run.
@@ -20,16 +20,15 @@ pub(crate) struct Run {
 }
 
 /// Whether a line's text begins with white space.
+#[inline(always)]
 pub(crate) fn is_indented(line: &[u8]) -> bool
     ensures { result ≡ is_indented_of line.now }
 {
-    match line_text(line).split_first() {
-        Some((byte, _)) => byte.is_ascii_whitespace(),
-        None => false,
-    }
+    begins_indented(line_text(line))
 }
 
 /// Whether git itself makes such a line.
+#[inline(always)]
 fn is_recognised(line: &[u8]) -> bool
     ensures { result ≡ is_recognised_of line.now }
 {
@@ -37,14 +36,8 @@ fn is_recognised(line: &[u8]) -> bool
     text.starts_with(b"Signed-off-by: ") || text.starts_with(b"(cherry picked from commit ")
 }
 
-/// Whether a line counts as a trailer.
-fn is_trailing(line: &[u8]) -> bool
-    ensures { result ≡ is_trailing_of line.now }
-{
-    is_recognised(line) || is_trailer_line(line)
-}
-
 /// How many others a line adds.
+#[inline(always)]
 fn other_of(trailing: bool, indented: bool, above: bool) -> usize
     ensures is { result ≡ cond trailing 0 (cond indented (cond above 0 1) 1) }
     ensures few { result ≤ 1 }
@@ -53,6 +46,7 @@ fn other_of(trailing: bool, indented: bool, above: bool) -> usize
 }
 
 /// How many trailers a line adds.
+#[inline(always)]
 fn trailer_of(trailing: bool) -> usize
     ensures is { result ≡ cond trailing 1 0 }
     ensures few { result ≤ 1 }
@@ -61,6 +55,7 @@ fn trailer_of(trailing: bool) -> usize
 }
 
 /// Whether the nearest line that isn't indented is a trailer, behind a line more.
+#[inline(always)]
 fn above_behind(trailing: bool, indented: bool, above: bool) -> bool
     ensures { result ≡ cond trailing true (cond indented above false) }
 {
@@ -86,6 +81,7 @@ impl Run {
     }
 
     /// With a line more.
+    #[inline(always)]
     pub(crate) fn with_line(self, line: &[u8]) -> Run
         requires trailers { self.trailers + 1 < 2 ^ 64 }
         requires others { self.others + 1 < 2 ^ 64 }
@@ -97,11 +93,12 @@ impl Run {
         ensures above { result.above ≡ cond (is_trailing_of line.now) true
             (cond (is_indented_of line.now) self.above false) }
     {
-        let (trailing, indented) = (is_trailing(line), is_indented(line));
+        let (recognised, indented) = (is_recognised(line), is_indented(line));
+        let trailing = recognised || is_trailer_line(line);
         Run {
             trailers: self.trailers + trailer_of(trailing),
             others: self.others + other_of(trailing, indented, self.above),
-            recognised: self.recognised || is_recognised(line),
+            recognised: self.recognised || recognised,
             above: above_behind(trailing, indented, self.above),
         }
     }

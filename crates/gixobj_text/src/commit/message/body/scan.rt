@@ -47,6 +47,7 @@ impl Scan {
     }
 
     /// With a blank line more.
+    #[inline(always)]
     fn with_blank(self, line: &[u8]) -> Scan
         requires blank { IsTrue (is_blank line.now) }
         requires fits { self.place + length line.now < 2 ^ 64 }
@@ -66,6 +67,7 @@ impl Scan {
     }
 
     /// With a line more that goes on with the last run.
+    #[inline(always)]
     fn with_next(self, line: &[u8]) -> Scan
         requires filled { IsFalse (is_blank line.now) }
         requires going { self.going ≡ true }
@@ -89,6 +91,7 @@ impl Scan {
     }
 
     /// With a line more that begins a run.
+    #[inline(always)]
     fn with_first(self, line: &[u8]) -> Scan
         requires filled { IsFalse (is_blank line.now) }
         requires going { self.going ≡ false }
@@ -110,6 +113,7 @@ impl Scan {
     }
 
     /// With a line more.
+    #[inline(always)]
     fn with_line(self, line: &[u8]) -> Scan
         requires some { line.now ≢ [] }
         requires fits { self.place + length line.now < 2 ^ 64 }

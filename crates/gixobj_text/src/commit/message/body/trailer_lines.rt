@@ -7,6 +7,7 @@ ghost use Rattle.gixobj_text.specs.Scanning.{behind_token as behind_token_of, re
 use crate::commit::message::body::lines::line_text;
 
 /// A letter, a digit or a `-`.
+#[inline(always)]
 fn is_token_byte(byte: u8) -> bool
     ensures { result ≡ is_token_byte_of byte }
 {
@@ -14,6 +15,7 @@ fn is_token_byte(byte: u8) -> bool
 }
 
 /// A space or a tab.
+#[inline(always)]
 fn is_gap_byte(byte: u8) -> bool
     ensures { result ≡ is_gap_byte_of byte }
 {
@@ -21,6 +23,7 @@ fn is_gap_byte(byte: u8) -> bool
 }
 
 /// What stands behind a token.
+#[inline(always)]
 #[tactic(auto, using(crate::proofs::Tokens::token_more, crate::proofs::Tokens::token_ends))]
 fn behind_token(text: &[u8]) -> &[u8]
     ensures { result.now ≡ behind_token_of text.now }
@@ -36,6 +39,7 @@ fn behind_token(text: &[u8]) -> &[u8]
 }
 
 /// What stands behind spaces and tabs and a colon.
+#[inline(always)]
 #[tactic(auto, using(crate::proofs::Tokens::gap_colon, crate::proofs::Tokens::gap_more, crate::proofs::Tokens::gap_ends))]
 fn behind_gap(text: &[u8]) -> Option<&[u8]>
     ensures { option_map (λ it. it.now) result ≡ behind_gap_of text.now }
@@ -54,6 +58,7 @@ fn behind_gap(text: &[u8]) -> Option<&[u8]>
 }
 
 /// Whether a line is a trailer's.
+#[inline(always)]
 pub(crate) fn is_trailer_line(line: &[u8]) -> bool
     ensures { result ≡ is_trailer_line_of line.now }
 {
@@ -61,6 +66,7 @@ pub(crate) fn is_trailer_line(line: &[u8]) -> bool
 }
 
 /// Whether a text is a trailer's.
+#[inline(always)]
 #[tactic(auto, using(crate::proofs::Tokens::trailer_is, crate::proofs::Tokens::none_is))]
 fn is_trailer_text(text: &[u8]) -> bool
     ensures { result ≡ is_some (trailer_parts text.now) }
@@ -72,6 +78,7 @@ fn is_trailer_text(text: &[u8]) -> bool
 }
 
 /// The token of a trailer's text, and what stands behind its colon.
+#[inline(always)]
 fn parts_behind_token<'a>(text: &'a [u8], rest: &'a [u8]) -> Option<(&'a [u8], &'a [u8])>
     requires { length rest.now ≤ length text.now }
     ensures { read_parts result ≡ with_value (take (length text.now - length rest.now) text.now)
@@ -84,6 +91,7 @@ fn parts_behind_token<'a>(text: &'a [u8], rest: &'a [u8]) -> Option<(&'a [u8], &
 }
 
 /// The token of a trailer's text, and what stands behind its colon.
+#[inline(always)]
 #[tactic(auto, using(crate::proofs::Reading::parts_is, crate::proofs::Reading::parts_none, crate::proofs::Reading::within))]
 pub(crate) fn parts_of_text(text: &[u8]) -> Option<(&[u8], &[u8])>
     ensures { read_parts result ≡ trailer_parts text.now }

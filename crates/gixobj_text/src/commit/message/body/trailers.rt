@@ -10,7 +10,7 @@ ghost use Rattle.gixobj_text.specs.Trailers.{trailers_of_text, unfolded as unfol
 ghost use Rattle.gixobj_hash.specs.Texts.{trimmed};
 ghost use Rattle.gixobj_text.specs.Unfolding.{IsNextTrailer, are_some, folded_front, with_folded, with_piece};
 
-use crate::commit::message::body::lines::{is_blank_line, line_text, split_line};
+use crate::commit::message::body::lines::{begins_indented, is_blank_line, line_text, split_line};
 use crate::commit::message::body::run::is_indented;
 use crate::commit::message::body::trailer_lines::parts_of_text;
 use bstr::{BStr, ByteSlice};
@@ -156,18 +156,23 @@ fn next_trailer(text: &[u8]) -> Option<(&[u8], &[u8], &[u8])>
 }
 
 /// Whether a line belongs to the trailer before it.
+#[inline(always)]
 pub(crate) fn is_folded_line(line: &[u8]) -> bool
     ensures { result ≡ is_folded line.now }
 {
-    !is_blank_line(line) && is_indented(line)
+    is_indented(line) && !is_blank_line(line)
 }
 
 /// What stands behind the lines that belong to a trailer.
+#[inline(always)]
 #[tactic(auto, using(crate::proofs::Reading::folded_none, crate::proofs::Reading::trailers_past, crate::proofs::Reading::shorter))]
 fn behind_folded(text: &[u8]) -> &[u8]
     ensures trailers { trailers_of_text result.now ≡ trailers_of_text text.now }
     ensures within { length result.now ≤ length text.now }
 {
+    if !begins_indented(text) {
+        return text;
+    }
     let mut rest = text;
     'lines: while let Some((line, behind)) = split_line(rest) {
         if !is_folded_line(line) {
@@ -179,10 +184,14 @@ fn behind_folded(text: &[u8]) -> &[u8]
 }
 
 /// Whether a line that belongs to a trailer comes.
-#[tactic(auto, using(crate::proofs::Reading::folded_nothing))]
+#[inline(always)]
+#[tactic(auto, using(crate::proofs::Reading::folded_nothing, crate::proofs::Folding::begins_unfolded))]
 fn begins_folded(text: &[u8]) -> bool
     ensures { result ≡ are_some (folded_front text.now) }
 {
+    if !begins_indented(text) {
+        return false;
+    }
     match split_line(text) {
         Some((line, _)) => is_folded_line(line),
         None => false,

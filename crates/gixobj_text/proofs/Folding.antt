@@ -1,0 +1,48 @@
+-- Texts that begin with no white space begin with no line that belongs to a trailer.
+use Rattle.std.proofs.Common.{◌≡◌, ◌<◌, ◌∙◌, ◌∷◌, ◌&&◌, ◌==◌, Bool, List, [], ap, arith, cond, false, not, refl, suc, take, drop, true, zero, ℕ}
+use Rattle.std.proofs.lemmas.Bool.Decides.{nat_tests}
+use Rattle.std.specs.Char.{is_ascii_whitespace}
+use Rattle.std.specs.List.{take_while}
+use Rattle.bstr.specs.Text.{line_len, lines_of}
+use Rattle.bstr.proofs.lemmas.LineLemmas.{line_len-bounds, lines-step}
+use Rattle.gixobj_text.specs.BodyLines.{begins_indented, is_blank, is_folded, is_indented, without_last_byte}
+use Rattle.gixobj_text.specs.Unfolding.{are_some}
+use Rattle.gixobj_text.proofs.Reading.{folded_nothing, taken_by}
+
+no_newline : (byte : ℕ) → is_ascii_whitespace byte ≡ false → (byte == 10) ≡ false
+no_newline byte is = grind (arith, nat_tests)
+
+no_return : (byte : ℕ) → is_ascii_whitespace byte ≡ false → (byte == 13) ≡ false
+no_return byte is = grind (arith, nat_tests)
+
+first_kept : (last byte : ℕ) (rest : List ℕ) → (byte == last) ≡ false → (left : List ℕ) × (without_last_byte last (byte ∷ rest) ≡ byte ∷ left)
+first_kept last byte [] other = ([], ap (λ (b : Bool). cond b [] (byte ∷ [])) other)
+first_kept last byte (next ∷ rest) other = (without_last_byte last (next ∷ rest), refl)
+
+unindented : (byte : ℕ) (rest : List ℕ) → is_ascii_whitespace byte ≡ false → is_indented (byte ∷ rest) ≡ false
+unindented byte rest is =
+    let inner = first_kept 10 byte rest (no_newline byte is) in
+    let outer = first_kept 13 byte inner.0 (no_return byte is) in
+    ap (λ (line : List ℕ). begins_indented (without_last_byte 13 line)) inner.1 ∙ ap begins_indented outer.1 ∙ is
+
+not_both : (a b : Bool) → b ≡ false → (not a && b) ≡ false
+not_both true b is = refl
+not_both false b is = is
+
+first_taken : (count byte : ℕ) (rest : List ℕ) → 0 < count → (left : List ℕ) × (take count (byte ∷ rest) ≡ byte ∷ left)
+first_taken zero byte rest some = absurd (omega (arith, some))
+first_taken (suc count) byte rest some = (take count rest, refl)
+
+first_unfolded : (byte : ℕ) (rest : List ℕ) → is_ascii_whitespace byte ≡ false → is_folded (take (line_len (byte ∷ rest)) (byte ∷ rest)) ≡ false
+first_unfolded byte rest is =
+    let first = first_taken (line_len (byte ∷ rest)) byte rest (line_len-bounds (byte ∷ rest) (omega arith)).0 in
+    ap is_folded first.1 ∙ not_both (is_blank (byte ∷ first.0)) (is_indented (byte ∷ first.0)) (unindented byte first.0 is)
+
+none_folded : (byte : ℕ) (rest : List ℕ) → is_ascii_whitespace byte ≡ false → take_while is_folded (lines_of (byte ∷ rest)) ≡ []
+none_folded byte rest is =
+    ap (take_while is_folded) (lines-step (byte ∷ rest) (omega arith))
+    ∙ taken_by false (take (line_len (byte ∷ rest)) (byte ∷ rest)) (lines_of (drop (line_len (byte ∷ rest)) (byte ∷ rest))) (first_unfolded byte rest is)
+
+pub begins_unfolded : (text : List ℕ) → begins_indented text ≡ false → are_some (take_while is_folded (lines_of text)) ≡ false
+begins_unfolded [] is = ap are_some (folded_nothing [] refl)
+begins_unfolded (byte ∷ rest) is = ap are_some (none_folded byte rest is)
