@@ -4,7 +4,7 @@ ghost use Rattle.std.specs.Prelude.{◌≡◌, ◌<◌, ◌≤◌, ◌+◌, ◌^
 ghost use Rattle.std.specs.Option.{SomeIff};
 ghost use Rattle.std.specs.Str.{str_to_ascii_lowercase};
 ghost use Rattle.gixobj_hash.specs.Hash.{hex_text};
-ghost use Rattle.gixobj_fields.specs.FieldWriting.{IsLastLine, RefusesField, folded};
+ghost use Rattle.gixobj_fields.specs.FieldWriting.{IsLastLine, RefusesField, folded, newlines};
 ghost use Rattle.gixobj_fields.specs.HeaderText.{field_text};
 ghost use Rattle.gixobj_fields.specs.Streams.{Puts, PutsOrFails};
 ghost use Rattle.gixobj_fields.specs.Writing.{AddsSize, RefusesNothing, RefusesWriting};
@@ -287,16 +287,56 @@ pub fn size_with_multi_line(size: u64, name: &[u8], value: &[u8]) -> Option<u64>
 }
 
 /// The size with that of the lines of a value, or none past 64 bits.
+#[inline(always)]
 fn size_with_folded(size: u64, value: &[u8]) -> Option<u64>
     ensures { AddsSize result size (folded value.now) }
 {
-    let mut size = size;
-    let mut rest = value;
-    while let Some((line, after)) = first_line(rest) {
-        size = size.checked_add(line.len() as u64)?.checked_add(2)?;
-        rest = after;
-    }
-    let end = missing_newline(rest);
-    let with_line = size.checked_add(rest.len() as u64)?;
-    with_line.checked_add(end.len() as u64)
+    let more = len_folded_in(value);
+    size.checked_add(value.len() as u64)?.checked_add(more)
 }
+
+/// How many bytes more the lines of a value take: a space for each but the first, and a newline where
+/// none stands at the end.
+#[inline(always)]
+fn len_folded_in(value: &[u8]) -> u64
+    ensures { length (folded value.now) ≡ length value.now + result }
+{
+    match value {
+        [before @ .., last] => count_newlines(before) + u64::from(*last != b'\n'),
+        [] => 1,
+    }
+}
+
+/// How many newlines the text has.
+#[inline(always)]
+#[tactic(auto, using(crate::proofs::FoldedSizes::newlines_cut, crate::proofs::FoldedSizes::newlines_within))]
+fn count_newlines(text: &[u8]) -> u64
+    ensures count { result ≡ newlines text.now }
+    ensures bound { result ≤ length text.now }
+{
+    let mut count = 0;
+    let mut rest = text;
+    while rest.len() > PART_LEN {
+        let (part, behind) = rest.split_at(PART_LEN);
+        count += u64::from(count_in_part(part));
+        rest = behind;
+    }
+    count + u64::from(count_in_part(rest))
+}
+
+/// How many newlines a part of a text has. A byte counts them, so that many bytes are compared at a time.
+#[inline(always)]
+#[tactic(auto, using(crate::proofs::FoldedSizes::newlines_more, crate::proofs::FoldedSizes::newlines_within))]
+fn count_in_part(part: &[u8]) -> u8
+    requires { length part.now ≤ 128 }
+    ensures { result ≡ newlines part.now }
+{
+    let mut count = 0u8;
+    for byte in part {
+        count += u8::from(*byte == b'\n');
+    }
+    count
+}
+
+/// How many bytes a part of a text has, whose newlines are counted in a byte.
+const PART_LEN: usize = 128;
