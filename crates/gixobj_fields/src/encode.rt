@@ -230,12 +230,14 @@ fn put_last_line<S: Sink>(line: &[u8], sink: &mut S) -> io::Result<()>
 }
 
 /// The newline, where the last line has none.
-#[tactic(auto, using(crate::proofs::FieldWrites::folded_with_newline, crate::proofs::FieldWrites::folded_without_newline))]
 fn missing_newline(line: &[u8]) -> &[u8]
     requires { IsLastLine line.now }
     ensures { folded line.now ≡ line.now ++ result.now }
 {
-    if has_byte(line, b'\n') { b"" } else { b"\n" }
+    let Some(last) = line.last() else {
+        return b"\n";
+    };
+    if *last == b'\n' { b"" } else { b"\n" }
 }
 
 /// The first line and what follows it, or none where no byte follows the first newline.
