@@ -1,12 +1,14 @@
 -- Fields as they are written.
-use Rattle.std.proofs.Common.{◌≡◌, ◌≢◌, ◌+◌, ◌<◌, ◌*◌, ℕ, suc, List, [], ◌∷◌, ◌++◌, true, false, length, arith, refl, sym, ap, ◌∙◌, inl, inr, append_assoc, length-append}
+use Rattle.std.proofs.Common.{◌≡◌, ◌≢◌, ◌+◌, ◌-◌, ◌<◌, ◌*◌, ℕ, Some, get_or, suc, List, [], ◌∷◌, ◌++◌, true, false, length, arith, refl, sym, ap, ◌∙◌, inl, inr, append_assoc, length-append}
 use Rattle.std.specs.Prelude.{Contains, ◌==◌}
-use Rattle.std.specs.List.{flat_map}
+use Rattle.std.specs.List.{flat_map, slice_get}
 use Rattle.std.proofs.lemmas.Bool.{eqb-true, true≢false}
 use Rattle.std.proofs.lemmas.List.{append-nil}
-use Rattle.std.proofs.lemmas.List.Elements.{All-contains, All-head, All-tail}
+use Rattle.std.proofs.lemmas.Option.{get_or_from_slice_get, slice_get_within}
+use Rattle.std.proofs.lemmas.List.Elements.{All-contains, All-get_or, All-head, All-tail}
+use Rattle.std.proofs.Math.Seq.{get_or-append_seam}
 use Rattle.hex.proofs.HexLemmas.{length-encode_with}
-use Rattle.hex.specs.Hex.{lower_digits}
+use Rattle.hex.specs.Hex.{encode_lower, lower_digits}
 use Rattle.gixobj_hash.specs.Hash.{hex_text, id_bytes}
 use Rattle.gixobj_hash.specs.declared.hash.object_id.ObjectId.{ObjectId}
 use Rattle.gixobj_fields.specs.HeaderText.{field_text, following_text, line_text}
@@ -61,9 +63,21 @@ folded_without_newline value free = written_so value value [] (lines_of_one valu
 pub folded_line : (line : List ℕ) → IsFree 10 line → folded (line ++ 10 ∷ []) ≡ line ++ 10 ∷ []
 folded_line line free = written_so (line ++ 10 ∷ []) line [] (lines_of_ended line free) ∙ append-nil (line_text line)
 
-pub folded_with_newline : (value : List ℕ) → IsLastLine value → Contains value 10 → folded value ≡ value ++ []
-folded_with_newline value (inl free) has = absurd (holds_none 10 value free has)
-folded_with_newline value (inr (line, is, free)) has = rw is (folded_line line free ∙ sym (append-nil (line ++ 10 ∷ [])))
+-- the last byte tells whether a last line has its newline
+pub folded_ended : (value : List ℕ) → IsLastLine value → slice_get value (length value - 1) ≡ Some 10 → folded value ≡ value
+folded_ended value (inl free) ends =
+    let place = length value - 1 in
+    absurd (All-get_or (λ (it : ℕ). it ≢ 10) value place 0 (slice_get_within value place 10 ends) free (get_or_from_slice_get value place 10 0 ends))
+folded_ended value (inr (line, is, free)) ends = rw is (folded_line line free)
+
+pub folded_open : (value : List ℕ) → IsLastLine value → (last : ℕ) → slice_get value (length value - 1) ≡ Some last → last ≢ 10 → folded value ≡ value ++ 10 ∷ []
+folded_open value (inl free) last ends other = folded_without_newline value free
+folded_open value (inr (line, is, free)) last ends other =
+    let len : length value ≡ length line + 1 = ap length is ∙ length-append line (10 ∷ []) in
+    let place : length value - 1 ≡ length line = omega arith in
+    let found : get_or value (length line) 0 ≡ last = ap (λ (it : ℕ). get_or value it 0) (sym place) ∙ get_or_from_slice_get value (length value - 1) last 0 ends in
+    let stands : get_or value (length line) 0 ≡ 10 = ap (λ (it : List ℕ). get_or it (length line) 0) is ∙ get_or-append_seam line 10 [] 0 in
+    absurd (other (sym found ∙ stands))
 
 folded_lines : (line : List ℕ) (byte : ℕ) (after : List ℕ) → IsFree 10 line → folded (line ++ 10 ∷ byte ∷ after) ≡ line ++ 10 ∷ 32 ∷ folded (byte ∷ after)
 folded_lines line byte after free =
@@ -100,6 +114,9 @@ line_front a b c value front rest line after put so_far one part =
     rw (folded_more value front rest line after so_far one, append_assoc front (line ++ 10 ∷ 32 ∷ []) (folded after)) (front_within a b c front (line ++ 10 ∷ 32 ∷ []) (folded after) put part)
 
 -- ---- sizes
+
+pub hex_len : (bytes : List ℕ) → length (encode_lower bytes) ≡ 2 * length bytes
+hex_len bytes = length-encode_with lower_digits bytes
 
 pub id_field_len : (name : List ℕ) (id : ObjectId) → length (field_text name (hex_text id)) ≡ length name + 2 + 2 * length (id_bytes id)
 id_field_len name id =

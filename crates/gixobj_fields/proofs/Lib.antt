@@ -1,4 +1,5 @@
 pub mod FieldWrites
+mod FoldedSizes
 pub mod HeaderFields
 pub mod HeadersBack
 pub mod Joins

@@ -72,3 +72,18 @@ puts_or_fails_more (Err why) a b c x y first more = front_more a b c x y first m
 
 pub puts_or_fails_behind_byte : {T E : Type 0} (r : Result T E) (a b c : SinkView) (x : List ℕ) (byte : ℕ) (z : List ℕ) → Puts a b (x ++ byte ∷ []) → PutsOrFails r b c z → PutsOrFails r a c (x ++ byte ∷ z)
 puts_or_fails_behind_byte r a b c x byte z first more = rw (← append_assoc x (byte ∷ []) z) (puts_or_fails_more r a b c (x ++ byte ∷ []) z first more)
+
+-- what is put into a sink that has more room now was put into it as it was
+pub puts_with_more_room : (a b c : SinkView) (x : List ℕ) → a.held ≡ b.held → a.room ≤ b.room → Puts b c x → Puts a c x
+puts_with_more_room a b c x same less put = record { held = rw same put.held; room = omega (arith, less, put.room) }
+
+pub front_with_more_room : (a b c : SinkView) (x : List ℕ) → a.held ≡ b.held → a.room ≤ b.room → PutsFront b c x → PutsFront a c x
+front_with_more_room a b c x same less part =
+    record {
+      front = part.front;
+      rest = part.rest;
+      joined = part.joined;
+      missing = part.missing;
+      held = rw same part.held;
+      short = omega (arith, less, part.short);
+    }

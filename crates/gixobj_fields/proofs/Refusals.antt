@@ -1,10 +1,10 @@
 -- What an error says of a part, it says of the whole.
-use Rattle.std.proofs.Common.{ℕ, List, ◌++◌, inl, inr}
+use Rattle.std.proofs.Common.{◌≡◌, ◌≤◌, ℕ, List, ◌++◌, inl, inr}
 use Rattle.gixobj_fields.specs.Streams.{Puts, PutsFront, SinkView}
 use Rattle.gixobj_fields.specs.declared.encode.Error.{Error}
 use Rattle.gixobj_fields.specs.declared.encode.Error.TheVariants as error
 use Rattle.gixobj_fields.specs.Writing.{FailsAsSink, Refused, RefusesNothing, RefusesWriting, StopsAt}
-use Rattle.gixobj_fields.proofs.Puts.{front_within, puts_more}
+use Rattle.gixobj_fields.proofs.Puts.{front_with_more_room, front_within, puts_more, puts_with_more_room}
 
 stops_behind : (R Q : Refused → List ℕ → Type 0) (a b c : SinkView) (front : List ℕ) → Puts a b front
     → ((value : Refused) (parts : List ℕ) → R value parts → Q value (front ++ parts)) → (value : Refused) → StopsAt R b c value → StopsAt Q a c value
@@ -40,6 +40,21 @@ says_why_longer R a b part whole fails (error.InvalidRefName fault) s = s
 says_why_longer R a b part whole fails (error.NullbyteInFilename name) s = s
 says_why_longer R a b part whole fails error.IllegalActor s = s
 says_why_longer R a b part whole fails error.OutOfMemory s = s
+
+stops_with_more_room : (R : Refused → List ℕ → Type 0) (a b c : SinkView) → a.held ≡ b.held → a.room ≤ b.room → (value : Refused) → StopsAt R b c value → StopsAt R a c value
+stops_with_more_room R a b c same less value s = (s.0, s.1, puts_with_more_room a b c s.0 same less s.2)
+
+-- what an error says of a sink that has more room now, it says of the sink as it was
+pub refuses_with_more_room : (R : Refused → List ℕ → Type 0) (a b c : SinkView) (text : List ℕ) → a.held ≡ b.held → a.room ≤ b.room → (e : Error) → RefusesWriting R b c text e → RefusesWriting R a c text e
+refuses_with_more_room R a b c text same less (error.Writer cause) s = front_with_more_room a b c text same less s
+refuses_with_more_room R a b c text same less (error.NewlineInHeaderValue value) s = stops_with_more_room R a b c same less _ s
+refuses_with_more_room R a b c text same less error.EmptyValue s = stops_with_more_room R a b c same less _ s
+refuses_with_more_room R a b c text same less error.StartsWithDash s = stops_with_more_room R a b c same less _ s
+refuses_with_more_room R a b c text same less (error.InvalidRefName fault) s = stops_with_more_room R a b c same less _ s
+refuses_with_more_room R a b c text same less (error.NullbyteInFilename name) s = stops_with_more_room R a b c same less _ s
+refuses_with_more_room R a b c text same less error.IllegalActor s = stops_with_more_room R a b c same less _ s
+refuses_with_more_room R a b c text same less error.OutOfMemory (value, inl s) = (value, inl (stops_with_more_room R a b c same less _ s))
+refuses_with_more_room R a b c text same less error.OutOfMemory (value, inr s) = (value, inr (stops_with_more_room R a b c same less _ s))
 
 none_stops : (R : Refused → List ℕ → Type 0) (a b : SinkView) (value : Refused) → RefusesNothing R → StopsAt R a b value → ⊥
 none_stops R a b value nothing s = nothing value s.0 s.1

@@ -1,6 +1,6 @@
 -- Header fields as they are written, and what is refused of them (gitformat-signature, "Commit signatures").
 use Rattle.std.specs.Prelude.{◌≡◌, ◌⊎◌, ℕ, List, [], ◌∷◌, ◌++◌, ◌==◌, Contains, if◌then◌else◌}
-use Rattle.std.specs.List.{flat_map}
+use Rattle.std.specs.List.{count_by, flat_map}
 use Rattle.gixobj_hash.specs.Texts.{IsFree}
 use Rattle.gixobj_fields.specs.HeaderText.{Header, following_text, line_text}
 use Rattle.gixobj_fields.specs.Writing.{Refused, empty_header, header_with_newline}
@@ -32,3 +32,7 @@ RefusesField value refused parts = RefusesValue value refused × (parts ≡ [])
 -- no byte of the value follows a newline
 abbrev pub IsLastLine : List ℕ → Type 0
 IsLastLine value = IsFree newline value ⊎ ((line : List ℕ) × (value ≡ line ++ newline ∷ []) × IsFree newline line)
+
+-- how many newlines a text has
+abbrev pub newlines : List ℕ → ℕ
+newlines text = count_by (λ byte. byte == newline) text

@@ -4,13 +4,14 @@ ghost use Rattle.std.specs.Prelude.{◌≡◌, ◌<◌, ◌≤◌, ◌+◌, ◌^
 ghost use Rattle.std.specs.Option.{SomeIff};
 ghost use Rattle.std.specs.Str.{str_to_ascii_lowercase};
 ghost use Rattle.gixobj_hash.specs.Hash.{hex_text};
-ghost use Rattle.gixobj_fields.specs.FieldWriting.{IsLastLine, RefusesField, folded};
+ghost use Rattle.gixobj_fields.specs.FieldWriting.{IsLastLine, RefusesField, folded, newlines};
 ghost use Rattle.gixobj_fields.specs.HeaderText.{field_text};
 ghost use Rattle.gixobj_fields.specs.Streams.{Puts, PutsOrFails};
 ghost use Rattle.gixobj_fields.specs.Writing.{AddsSize, RefusesNothing, RefusesWriting};
 ghost use Rattle.gixobj_hash.specs.Bytes.{newline, space};
 
-use crate::streams::{Sink, put_parts};
+use crate::short::{SHORT_NAME_LEN, ShortText};
+use crate::streams::{Sink, put_both};
 use bstr::BString;
 use gixobj_hash::hash::ObjectId;
 use gixobj_hash::texts::{has_byte, split_at_byte};
@@ -111,12 +112,14 @@ impl From<AllocError> for Error {
 /// It looks at neither, so the caller has to know that they have no newline. The error is the sink's.
 /// It takes no memory.
 #[inline(always)]
+#[tactic(auto, using(crate::proofs::Puts::front_of_byte, crate::proofs::Puts::puts_or_fails_behind_byte))]
 pub fn trusted_header_field<S: Sink>(name: &[u8], value: &[u8], sink: &mut S) -> io::Result<()>
     ensures put { PutsOrFails result (S.view sink.old) (S.view sink.new)
         (field_text name.now value.now) }
     ensures same_loan { S.loan sink.new ≡ S.loan sink.old }
 {
-    put_parts(&[name, b" ", value, b"\n"], sink)
+    put_both(name, b" ", sink)?;
+    put_both(value, b"\n", sink)
 }
 
 /// Puts the field of an id: its value is the id's 40 or 64 hex digits, in lower case (gitdatamodel,
@@ -127,8 +130,10 @@ pub fn trusted_header_id<S: Sink>(name: &[u8], id: &ObjectId, sink: &mut S) -> i
         (field_text name.now (hex_text id.now)) }
     ensures same_loan { S.loan sink.new ≡ S.loan sink.old }
 {
-    let mut buffer = [0; 64];
-    trusted_header_field(name, id.hex_to_buf(&mut buffer).as_bytes(), sink)
+    if name.len() <= SHORT_NAME_LEN {
+        return sink.put(ShortText::id_field(name, id).as_slice());
+    }
+    put_both(name, ShortText::id_field(b"", id).as_slice(), sink)
 }
 
 /// Puts the field of an id by its hex text, 64 digits at most: its value is the text in lower case
@@ -140,11 +145,10 @@ pub fn trusted_header_hex<S: Sink>(name: &[u8], hex: &[u8], sink: &mut S) -> io:
         (field_text name.now (str_to_ascii_lowercase hex.now)) }
     ensures same_loan { S.loan sink.new ≡ S.loan sink.old }
 {
-    let mut buffer = [0; 64];
-    let text = &mut buffer[..hex.len()];
-    text.copy_from_slice(hex);
-    text.make_ascii_lowercase();
-    trusted_header_field(name, text, sink)
+    if name.len() <= SHORT_NAME_LEN {
+        return sink.put(ShortText::hex_field(name, hex).as_slice());
+    }
+    put_both(name, ShortText::hex_field(b"", hex).as_slice(), sink)
 }
 
 /// Puts a field of one line: the name, a space, the value and a newline (gitdatamodel, "commits").
@@ -188,7 +192,7 @@ pub fn header_field_multi_line<S: Sink>(name: &[u8], value: &[u8], sink: &mut S)
         (name.now ++ space ∷ folded value.now) }
     ensures same_loan { S.loan sink.new ≡ S.loan sink.old }
 {
-    put_parts(&[name, b" "], sink)?;
+    put_both(name, b" ", sink)?;
     put_folded(value, sink)
 }
 
@@ -212,7 +216,7 @@ fn put_line<S: Sink>(line: &[u8], sink: &mut S) -> io::Result<()>
         (line.now ++ newline ∷ space ∷ []) }
     ensures same_loan { S.loan sink.new ≡ S.loan sink.old }
 {
-    put_parts(&[line, b"\n "], sink)
+    put_both(line, b"\n ", sink)
 }
 
 /// Puts the last line, with its newline.
@@ -222,16 +226,18 @@ fn put_last_line<S: Sink>(line: &[u8], sink: &mut S) -> io::Result<()>
     ensures same_loan { S.loan sink.new ≡ S.loan sink.old }
 {
     let end = missing_newline(line);
-    put_parts(&[line, end], sink)
+    put_both(line, end, sink)
 }
 
 /// The newline, where the last line has none.
-#[tactic(auto, using(crate::proofs::FieldWrites::folded_with_newline, crate::proofs::FieldWrites::folded_without_newline))]
 fn missing_newline(line: &[u8]) -> &[u8]
     requires { IsLastLine line.now }
     ensures { folded line.now ≡ line.now ++ result.now }
 {
-    if has_byte(line, b'\n') { b"" } else { b"\n" }
+    let Some(last) = line.last() else {
+        return b"\n";
+    };
+    if *last == b'\n' { b"" } else { b"\n" }
 }
 
 /// The first line and what follows it, or none where no byte follows the first newline.
@@ -287,16 +293,57 @@ pub fn size_with_multi_line(size: u64, name: &[u8], value: &[u8]) -> Option<u64>
 }
 
 /// The size with that of the lines of a value, or none past 64 bits.
+#[inline(always)]
 fn size_with_folded(size: u64, value: &[u8]) -> Option<u64>
     ensures { AddsSize result size (folded value.now) }
 {
-    let mut size = size;
-    let mut rest = value;
-    while let Some((line, after)) = first_line(rest) {
-        size = size.checked_add(line.len() as u64)?.checked_add(2)?;
-        rest = after;
-    }
-    let end = missing_newline(rest);
-    let with_line = size.checked_add(rest.len() as u64)?;
-    with_line.checked_add(end.len() as u64)
+    let more = len_folded_in(value);
+    size.checked_add(value.len() as u64)?.checked_add(more)
 }
+
+/// How many bytes more the lines of a value take: a space for each but the first, and a newline where
+/// none stands at the end.
+#[inline(always)]
+fn len_folded_in(value: &[u8]) -> u64
+    ensures { length (folded value.now) ≡ length value.now + result }
+{
+    match value {
+        [before @ .., last] => count_newlines(before) + u64::from(*last != b'\n'),
+        [] => 1,
+    }
+}
+
+/// How many newlines the text has.
+#[inline(always)]
+#[tactic(auto, using(crate::proofs::FoldedSizes::newlines_cut, crate::proofs::FoldedSizes::newlines_within))]
+fn count_newlines(text: &[u8]) -> u64
+    ensures count { result ≡ newlines text.now }
+    ensures bound { result ≤ length text.now }
+{
+    let mut count = 0;
+    let mut rest = text;
+    while rest.len() > PART_LEN {
+        let (part, behind) = rest.split_at(PART_LEN);
+        count += u64::from(count_in_part(part));
+        rest = behind;
+    }
+    count + u64::from(count_in_part(rest))
+}
+
+/// How many newlines a part of a text has. A byte counts them, so that many bytes are compared at a
+/// time.
+#[inline(always)]
+#[tactic(auto, using(crate::proofs::FoldedSizes::newlines_more, crate::proofs::FoldedSizes::newlines_within))]
+fn count_in_part(part: &[u8]) -> u8
+    requires { length part.now ≤ 128 }
+    ensures { result ≡ newlines part.now }
+{
+    let mut count = 0u8;
+    for byte in part {
+        count += u8::from(*byte == b'\n');
+    }
+    count
+}
+
+/// How many bytes a part of a text has, whose newlines are counted in a byte.
+const PART_LEN: usize = 128;

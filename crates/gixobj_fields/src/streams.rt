@@ -4,7 +4,7 @@
 //! Over a [`Source`] and a [`Sink`] it says that a slice is always read, and that a `Vec` refuses
 //! bytes only where it has no room for them. [`FromRead`] and [`ToWrite`] make one of any reader or
 //! writer, which may then fail at every call.
-ghost use Rattle.std.specs.Prelude.{◌≡◌, ℕ, List, Option, Some, OnErr, ⊤};
+ghost use Rattle.std.specs.Prelude.{◌≡◌, ◌++◌, ℕ, List, Option, Some, OnErr, ⊤};
 ghost use Rattle.std.specs.Io.{ReadsAtMost, WritesAtMost};
 ghost use Rattle.std.specs.Io.KnownBytes.{ReadConsumes, WriteAppends};
 ghost use Rattle.std.specs.List.{flat_map};
@@ -153,4 +153,16 @@ pub fn put_parts<S: Sink>(parts: &[&[u8]], sink: &mut S) -> io::Result<()>
         sink.put(part)?;
     }
     Ok(())
+}
+
+/// Puts a text and another behind it. Where it fails, there was no room for both, and a front of them,
+/// but not all, has been put. It takes no memory.
+#[inline(always)]
+#[tactic(auto, using(crate::proofs::Puts::front_first, crate::proofs::Puts::puts_or_fails_more))]
+pub(crate) fn put_both<S: Sink>(first: &[u8], second: &[u8], sink: &mut S) -> io::Result<()>
+    ensures put { PutsOrFails result (S.view sink.old) (S.view sink.new) (first.now ++ second.now) }
+    ensures same_loan { S.loan sink.new ≡ S.loan sink.old }
+{
+    sink.put(first)?;
+    sink.put(second)
 }

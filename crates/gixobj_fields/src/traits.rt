@@ -1,5 +1,5 @@
 //! What objects can do.
-ghost use Rattle.std.specs.Prelude.{◌≡◌, ◌↔◌, ◌<◌, ◌^◌, ◌++◌, List, length, IfErr, IfSome, IsSome, OnOk};
+ghost use Rattle.std.specs.Prelude.{◌≡◌, ◌↔◌, ◌<◌, ◌≤◌, ◌^◌, ◌++◌, List, length, vec_capacity, IfErr, IfSome, IsSome, OnOk};
 ghost use Rattle.std.specs.Io.KnownBytes.{Appends};
 ghost use Rattle.std.specs.Option.{SomeIff};
 ghost use Rattle.gixobj_hash.specs.Encode.{loose_header_text};
@@ -77,6 +77,7 @@ pub trait WriteTo {
     /// Writes the object behind the bytes of a list, which grows where it has no room.
     ///
     /// As [`WriteTo::write_to`], and `Writer` only where the list had no room for the whole text.
+    #[tactic(auto, using(crate::proofs::Refusals::refuses_with_more_room))]
     final fn write_to_vec(&self, alloc: Global, out: &mut Vec<u8>) -> Result<(), encode::Error>
         requires { can_write self.now }
         ensures written { OnOk result (out.new.items ≡ out.old.items ++ text self.now) }
@@ -84,6 +85,7 @@ pub trait WriteTo {
         ensures refusal { IfErr result (RefusesWriting (refuses self.now) (list_view out.old)
             (list_view out.new) (text self.now)) }
     {
+        make_room(self, out);
         self.write_into(alloc, out)
     }
 
@@ -120,5 +122,20 @@ impl<T: WriteTo> WriteTo for &T {
 
     fn size(&self) -> Option<u64> {
         <T as WriteTo>::size(self)
+    }
+}
+
+/// Asks for the memory of the whole text at once, for a list that has none yet. Where it is refused, the
+/// list grows as it is written to.
+fn make_room<T: WriteTo>(object: &T, list: &mut Vec<u8>)
+    requires { T.can_write object.now }
+    ensures items { list.new.items ≡ list.old.items }
+    ensures capacity { vec_capacity list.old ≤ vec_capacity list.new }
+{
+    if list.capacity() > 0 {
+        return;
+    }
+    if let Some(size) = object.size() {
+        let _ = list.reserve(size as usize);
     }
 }

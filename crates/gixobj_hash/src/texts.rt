@@ -40,12 +40,16 @@ pub fn are_digits(text: &[u8]) -> bool
 }
 
 /// The number that ASCII digits spell in decimal, or none past 64 bits.
+#[tactic(auto, using(std::proofs::lemmas::Int::Digits::digits_value_more, crate::proofs::Digits::number_of_front, crate::proofs::Digits::digit_in_place))]
 pub fn number_from_digits(digits: &[u8]) -> Option<u64>
     requires { IsNumeral 10 digits.now }
     ensures { SomeIff result (digits_value 10 digits.now < 2 ^ 64) (digits_value 10 digits.now) }
 {
-    match str::from_utf8(digits) {
-        Ok(text) => text.parse().ok(),
-        Err(_) => unreachable!(),
+    let mut number = 0u64;
+    for digit in digits {
+        number = number
+            .checked_mul(10)?
+            .checked_add(u64::from(*digit - b'0'))?;
     }
+    Some(number)
 }

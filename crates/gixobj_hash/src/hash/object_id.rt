@@ -123,7 +123,7 @@ impl ObjectId {
             (hex_text self.now)) }
     {
         let mut buffer = [0u8; 64];
-        out.write_all(self.hex_to_buf(&mut buffer).as_bytes())
+        out.write_all(self.hex_bytes(&mut buffer))
     }
 
     /// The hex digits of the id, in lower case, 40 or 64 of them. The result borrows the buffer, of
@@ -132,13 +132,21 @@ impl ObjectId {
         ensures text { result.now ≡ hex_text self.now }
         ensures short { length result.now ≤ 64 }
     {
-        let bytes = self.as_bytes();
-        let text = &mut buffer[..2 * bytes.len()];
-        let _ = hex::encode_to_slice(bytes, text);
-        match str::from_utf8(text) {
+        match str::from_utf8(self.hex_bytes(buffer)) {
             Ok(digits) => digits,
             Err(_) => unreachable!(),
         }
+    }
+
+    /// The hex digits of the id, in lower case, 40 or 64 of them, as bytes.
+    fn hex_bytes<'a>(&self, buffer: &'a mut [u8; 64]) -> &'a [u8]
+        ensures text { result.now ≡ hex_text self.now }
+        ensures short { length result.now ≤ 64 }
+    {
+        let bytes = self.as_bytes();
+        let text = &mut buffer[..2 * bytes.len()];
+        let _ = hex::encode_to_slice(bytes, text);
+        text
     }
 
     /// Refuses an id that differs from the expected one, with both.
