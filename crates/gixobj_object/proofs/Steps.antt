@@ -1,54 +1,39 @@
 -- One step into a tree.
-use Rattle.std.proofs.Common.{◌≡◌, ◌≢◌, ◌∷◌, ℕ, List, [], ap, drop, length, map, refl, subst, sym, ⊎_elim, ◌∙◌}
+use Rattle.std.proofs.Common.{◌≡◌, ◌≢◌, ◌<◌, ◌∷◌, ℕ, List, [], ap, arith, drop, length, map, nat_eq, refl, subst, sym, ⊎_elim, ◌∙◌}
+use Rattle.std.proofs.Math.Dec.{eqb-suc-zero}
 use Rattle.std.proofs.lemmas.List.{drop-map}
 use Rattle.std.specs.Option.{option_map}
-use Rattle.std.specs.Prelude.{⊤, Bool, IsSome, None, Option, Some}
+use Rattle.std.specs.Prelude.{Bool, IsSome, MatchBool, None, Option, Some}
 use Rattle.std.specs.declared.ops.ControlFlow.{ControlFlow}
 use Rattle.std.specs.declared.ops.ControlFlow.TheVariants.{Break, Continue}
 use Rattle.bstr.specs.Owned.{bstring_bytes}
 use Rattle.bstr.specs.declared.bstring.BString.{BString}
-use Rattle.gixobj_fields.specs.Readers.{Standing}
-use Rattle.gixobj_hash.specs.declared.hash.kind.Kind as hash
 use Rattle.gixobj_hash.specs.declared.hash.object_id.ObjectId.{ObjectId}
 use Rattle.gixobj_hash.specs.declared.kind.Kind.TheVariants.{Tree}
-use Rattle.gixobj_tree.specs.Entries.{EntryView}
 use Rattle.gixobj_tree.specs.TreeViews.{entry_view}
 use Rattle.gixobj_tree.specs.declared.tree.borrowed.entry_ref.EntryRef.{EntryRef}
-use Rattle.gixobj_object.proofs.Paths.{Follows, breaks_at, ends_at, follows_first, follows_on, no_path_in_none, tree_or_other}
-use Rattle.gixobj_object.specs.EntryGiving.{IsAtEntry, bytes_left}
-use Rattle.gixobj_object.specs.Lookups.{HasFirstNamed, HasNoEntryNamed, IsAtPath, IsStep, LeadsTo, Name, RefusesPath, RefusesPathText, tree_left}
+use Rattle.gixobj_object.proofs.PathTexts.{are_names, names_in, one_list}
+use Rattle.gixobj_object.proofs.Paths.{Follows, breaks_at, ends_at, no_path_in_none, tree_or_other}
+use Rattle.gixobj_object.specs.EntryGiving.{IsAtEntry}
+use Rattle.gixobj_object.specs.Lookups.{IsAtPath, IsStep, IsStepInText, LeadsTo, Name, RefusesPath, tree_left}
 use Rattle.gixobj_object.specs.Stores.{IsFound, Objects, StoredObject, named, stored}
 use Rattle.gixobj_object.specs.declared.«data».Data.{Data}
-use Rattle.gixobj_object.specs.declared.find.Error.{Error}
-use Rattle.gixobj_object.specs.declared.find.Error.TheVariants.{OutOfMemory, Store}
+use Rattle.gixobj_object.specs.declared.find.Error.TheVariants.{OutOfMemory}
 use Rattle.gixobj_object.specs.declared.tree.TreeRefIter.{TreeRefIter}
 
-pub first_name : {name : BString} {more : List BString} {names : List BString} {it : Name} {others : List Name} → names ≡ name ∷ more → map bstring_bytes names ≡ it ∷ others → bstring_bytes name ≡ it
-first_name split same = let here = sym (ap (map bstring_bytes) split) ∙ same in cc here
+-- what a reader at the start of a tree has left is the tree
+same_left : (it : Data) (reader : TreeRefIter) → it.kind ≡ Tree → IsAtEntry it.object_hash it.bytes.now reader → tree_left reader ≡ stored it
+same_left it reader is_tree start i = record { kind = sym is_tree i; object_hash = (start i).kind; bytes = (start i).bytes }
 
-pub first_of_reader : (kind : hash.Kind) (text : List ℕ) (name said : Name) (e : EntryView) (reader : TreeRefIter) → IsAtEntry kind text reader → said ≡ name → HasFirstNamed reader.hash_kind (bytes_left reader) said e → HasFirstNamed kind text name e
-first_of_reader kind text name said e reader start same first =
-    subst (λ (it : Name). HasFirstNamed kind text it e) same (subst (λ (it : Standing hash.Kind ⊤). HasFirstNamed it.kind it.bytes said e) start first)
+-- a step of such a reader is one into the tree
+pub step_into : (it : Data) (reader : TreeRefIter) (said : Name) (names others : List Name) (result : ControlFlow (Option EntryRef) ObjectId) → it.kind ≡ Tree → IsAtEntry it.object_hash it.bytes.now reader → names ≡ said ∷ others
+    → IsStep (tree_left reader) (said ∷ others) result → IsStep (stored it) names result
+step_into it reader said names others result is_tree start split step =
+    subst (λ (x : StoredObject). IsStep x names result) (same_left it reader is_tree start) (subst (λ (x : List Name). IsStep (tree_left reader) x result) (sym split) step)
 
-pub none_of_reader : (kind : hash.Kind) (text : List ℕ) (name said : Name) (reader : TreeRefIter) → IsAtEntry kind text reader → said ≡ name → HasNoEntryNamed reader.hash_kind (bytes_left reader) said → HasNoEntryNamed kind text name
-none_of_reader kind text name said reader start same none =
-    subst (λ (it : Name). HasNoEntryNamed kind text it) same (subst (λ (it : Standing hash.Kind ⊤). HasNoEntryNamed it.kind it.bytes said) start none)
-
--- why no path by its names is followed is why none in a text is
-pub in_a_text : (objects : Objects) (may_fail : ObjectId → Bool) (it : StoredObject) (names : List Name) (error : Error) → RefusesPath objects may_fail (Some it) names error → RefusesPathText objects may_fail (Some it) names error
-in_a_text objects may_fail it names (Store message) refuses = refuses
-in_a_text objects may_fail it names OutOfMemory (name, more, e, split, found) = λ none. cc (sym split ∙ none)
-
-no_items : {A : Type 0} (xs : List A) → length xs ≡ 0 → xs ≡ []
-no_items [] none = refl
-no_items (x ∷ xs) none = cc none
-
-pub no_more : (more : List BString) → length more ≡ 0 → map bstring_bytes more ≡ []
-no_more more none = ap (map bstring_bytes) (no_items more none)
-
-pub some_more : (more : List BString) → length more ≢ 0 → map bstring_bytes more ≢ []
-some_more [] some none = some refl
-some_more (x ∷ more) some none = cc none
+pub are_last : (more : List BString) → MatchBool (nat_eq (length more) 0) (map bstring_bytes more ≡ []) (map bstring_bytes more ≢ [])
+are_last [] = refl
+are_last (name ∷ more) = rw (eqb-suc-zero (length more)) (λ none. cc none)
 
 -- ---- the first step, into the tree of a reader
 
@@ -61,10 +46,6 @@ first_step it reader names result bytes kind hash step = subst (λ (x : StoredOb
 
 pub names_left : (before after : List BString) → after ≡ drop 1 before → map bstring_bytes after ≡ drop 1 (map bstring_bytes before)
 names_left before after left = ap (map bstring_bytes) left ∙ sym (drop-map bstring_bytes 1 before)
-
-pub starts_on : (objects : Objects) (reader : TreeRefIter) (before after : List BString) (id : ObjectId) → IsStep (tree_left reader) (map bstring_bytes before) (Continue id) → after ≡ drop 1 before
-    → Follows objects (Some (tree_left reader)) (map bstring_bytes before) id (map bstring_bytes after)
-starts_on objects reader before after id step left = follows_first objects (tree_left reader) (map bstring_bytes before) (map bstring_bytes after) id refl step (names_left before after left)
 
 pub starts_at : (objects : Objects) (reader : TreeRefIter) (names : List Name) (found : Option EntryRef) → IsStep (tree_left reader) names (Break found) → IsAtPath objects (Some (tree_left reader)) names (option_map entry_view found)
 starts_at objects reader names found step = breaks_at objects (tree_left reader) names found (λ other. absurd (other refl)) (λ is. step)
@@ -86,15 +67,28 @@ ends_in_none objects first path names at id found follows is same none =
 continue_breaks : (next : ObjectId) → ¬ (◌≡◌ {A = ControlFlow (Option EntryRef) ObjectId} (Continue next) (Break None))
 continue_breaks next same = cc same
 
-pub goes_on : (objects : Objects) (first : Option StoredObject) (path : List Name) (before after : List BString) (id next : ObjectId) (it : Data) → Follows objects first path id (map bstring_bytes before) → named objects id ≡ Some (stored it)
-    → (it.kind ≢ Tree → ◌≡◌ {A = ControlFlow (Option EntryRef) ObjectId} (Continue next) (Break None)) → (it.kind ≡ Tree → after ≡ drop 1 before) → (it.kind ≡ Tree → IsStep (stored it) (map bstring_bytes before) (Continue next))
-    → Follows objects first path next (map bstring_bytes after)
-goes_on objects first path before after id next it follows is other left step =
-    ⊎_elim
-    (λ is_tree. follows_on objects first path (map bstring_bytes before) (map bstring_bytes after) id next (stored it) follows is is_tree (step is_tree) (names_left before after (left is_tree)))
-    (λ is_not. absurd (continue_breaks next (other is_not))) (tree_or_other it.kind)
+-- a step that goes on is one into a tree
+pub went_on : (it : Data) (next : ObjectId) → (it.kind ≢ Tree → ◌≡◌ {A = ControlFlow (Option EntryRef) ObjectId} (Continue next) (Break None)) → it.kind ≡ Tree
+went_on it next other = ⊎_elim (λ is_tree. is_tree) (λ is_not. absurd (continue_breaks next (other is_not))) (tree_or_other it.kind)
 
 pub ends_there : (objects : Objects) (first : Option StoredObject) (path names : List Name) (id : ObjectId) (it : Data) (found : Option EntryRef) → Follows objects first path id names → named objects id ≡ Some (stored it)
     → (it.kind ≢ Tree → ◌≡◌ {A = ControlFlow (Option EntryRef) ObjectId} (Break found) (Break None)) → (it.kind ≡ Tree → IsStep (stored it) names (Break found)) → IsAtPath objects first path (option_map entry_view found)
 ends_there objects first path names id it found follows is other step =
     ends_at objects first path names id (option_map entry_view found) follows (subst (λ (x : Option StoredObject). IsAtPath objects x names (option_map entry_view found)) (sym is) (breaks_at objects (stored it) names found other step))
+
+-- ---- in a text
+
+-- what is said of a step by the names of a text is said of their list
+pub step_in_list : (tree : StoredObject) (path rest : List ℕ) (result : ControlFlow (Option EntryRef) ObjectId) → IsStepInText tree path rest result → IsStep tree (names_in path) result × (names_in rest ≡ drop 1 (names_in path))
+step_in_list tree path rest result (names, are, left, step) =
+    let same = one_list path names (names_in path) are (are_names path) in (
+      subst (λ (it : List Name). IsStep tree it result) same step,
+      one_list rest (names_in rest) (drop 1 names) (are_names rest) left ∙ ap (drop 1) same,
+    )
+
+pub fewer_names : (path rest : List ℕ) → names_in path ≢ [] → names_in rest ≡ drop 1 (names_in path) → length (names_in rest) < length (names_in path)
+fewer_names path rest some left = fewer (names_in path) (names_in rest) some left
+  where
+    fewer : (before after : List Name) → before ≢ [] → after ≡ drop 1 before → length after < length before
+    fewer [] after some left = absurd (some refl)
+    fewer (name ∷ before) after some left = rw left (omega arith)

@@ -1,5 +1,5 @@
 -- Entries of trees, looked up by their names; and paths through the trees of a store.
-use Rattle.std.specs.Prelude.{◌≡◌, ◌≢◌, ◌++◌, ◌∷◌, ℕ, Bool, IsTrue, List, [], None, Option, Some, map}
+use Rattle.std.specs.Prelude.{◌≡◌, ◌≢◌, ◌++◌, ◌∷◌, ℕ, Bool, IsTrue, List, [], None, Option, Some, drop, map}
 use Rattle.std.specs.List.{AllZip, zip}
 use Rattle.std.specs.declared.ops.ControlFlow.{ControlFlow}
 use Rattle.std.specs.declared.ops.ControlFlow.TheVariants.{Break, Continue}
@@ -68,12 +68,12 @@ IsAtPath objects first names (Some e) = LeadsTo objects first names e
 IsAtPath objects first names None = (e : EntryView) → ¬ LeadsTo objects first names e
 
 -- some first names lead to this entry, and more follow them
-abbrev pub Passes : Objects → Option StoredObject → List Name → EntryView → Type 0
-Passes objects first names e = (begun more : List Name) × (names ≡ begun ++ more) × (more ≢ []) × LeadsTo objects first begun e
+abbrev pub LeadsOn : Objects → Option StoredObject → List Name → EntryView → Type 0
+LeadsOn objects first names e = (begun more : List Name) × (names ≡ begun ++ more) × (more ≢ []) × LeadsTo objects first begun e
 
 -- why no path is followed: the lookup failed of an id of an entry on it, which may fail; or memory was wanting, which is taken where the first name is found
 abbrev pub RefusesPath : Objects → (ObjectId → Bool) → Option StoredObject → List Name → Error → Type 0
-RefusesPath objects may_fail first names (Store message) = (e : EntryView) × Passes objects first names e × IsTrue (may_fail e.id)
+RefusesPath objects may_fail first names (Store message) = (e : EntryView) × LeadsOn objects first names e × IsTrue (may_fail e.id)
 RefusesPath objects may_fail first names OutOfMemory = (name : Name) × (more : List Name) × (e : EntryView) × (names ≡ name ∷ more) × FoundIn first name e
 
 -- the object of which a reader of entries tells what it has left
@@ -92,7 +92,10 @@ named_parts ((byte ∷ bytes) ∷ parts) = (byte ∷ bytes) ∷ named_parts part
 abbrev pub AreNamesOf : List ℕ → List Name → Type 0
 AreNamesOf path names = (parts : List (List ℕ)) × IsCutAt slash path parts × (names ≡ named_parts parts)
 
--- why no path in a text is followed: why none by its names is; or memory was wanting for a name
-abbrev pub RefusesPathText : Objects → (ObjectId → Bool) → Option StoredObject → List Name → Error → Type 0
-RefusesPathText objects may_fail first names (Store message) = RefusesPath objects may_fail first names (Store message)
-RefusesPathText objects may_fail first names OutOfMemory = names ≢ []
+-- this is the first name of the path, and the others are those of the rest, which has a byte only where there are others
+abbrev pub SplitsName : List ℕ → Name → List ℕ → Type 0
+SplitsName path name rest = (others : List Name) × AreNamesOf path (name ∷ others) × AreNamesOf rest others × (rest ≢ [] → others ≢ [])
+
+-- what a step by the first name of a path answers, and what is left of the path
+abbrev pub IsStepInText : StoredObject → List ℕ → List ℕ → ControlFlow (Option EntryRef) ObjectId → Type 0
+IsStepInText tree path rest result = (names : List Name) × AreNamesOf path names × AreNamesOf rest (drop 1 names) × IsStep tree names result

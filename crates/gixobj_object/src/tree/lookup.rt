@@ -1,10 +1,11 @@
 //! Entries looked up by their names, in one tree or on a path through the trees of a store.
-ghost use Rattle.std.specs.Prelude.{◌≡◌, ◌≢◌, ◌++◌, ◌∷◌, [], IfErr, IfNone, IfOk, IfSome, IsSome, List, None, OnErr, OnOk, Some, drop, map};
+ghost use Rattle.std.specs.Prelude.{◌≡◌, ◌≢◌, ◌∷◌, ℕ, [], IfErr, IfNone, IfOk, IfSome, IsSome, List, MatchBool, None, OnErr, Some, drop, map};
 ghost use Rattle.std.specs.Option.{option_map};
 ghost use Rattle.std.specs.declared.ops.ControlFlow.TheVariants.{Break};
 ghost use Rattle.bstr.specs.Owned.{bstring_bytes};
+ghost use Rattle.gixobj_hash.specs.Bytes.{slash};
 ghost use Rattle.gixobj_object.specs.EntryGiving.{bytes_left};
-ghost use Rattle.gixobj_object.specs.Lookups.{AreNamesOf, HasFirstNamed, HasNoEntryNamed, IsAtPath, IsStep, Name, RefusesPath, RefusesPathText, named_parts, tree_left};
+ghost use Rattle.gixobj_object.specs.Lookups.{AreNamesOf, HasFirstNamed, HasNoEntryNamed, IsAtPath, IsStep, IsStepInText, Name, RefusesPath, SplitsName, tree_left};
 ghost use Rattle.gixobj_object.specs.Stores.{stored};
 ghost use Rattle.gixobj_hash.specs.declared.kind.Kind.TheVariants as object;
 ghost use Rattle.gixobj_tree.specs.TreeViews.{entry_view};
@@ -45,14 +46,7 @@ pub fn next_entry<'a>(
         return ControlFlow::Break(None);
     };
     *components = more;
-    let Some(entry) = reader.first_named(name.as_bytes()) else {
-        return ControlFlow::Break(None);
-    };
-    if more.is_empty() {
-        ControlFlow::Break(Some(entry))
-    } else {
-        ControlFlow::Continue(entry.oid.to_owned())
-    }
+    reader.step_to(name.as_bytes(), more.is_empty())
 }
 
 /// Access
@@ -73,6 +67,22 @@ impl<'a> TreeRefIter<'a> {
             }
         }
         None
+    }
+
+    /// One step of a path by this name: the entry of the last name, or the id of an entry where more names
+    /// follow; or nothing, where no entry has the name.
+    fn step_to(self, name: &[u8], is_last: bool) -> ControlFlow<Option<EntryRef<'a>>, ObjectId>
+        ensures { (others : List Name) → MatchBool is_last (others ≡ []) (others ≢ [])
+            → IsStep (tree_left self.entry) (name.now ∷ others) result }
+    {
+        let Some(entry) = self.first_named(name) else {
+            return ControlFlow::Break(None);
+        };
+        if is_last {
+            ControlFlow::Break(Some(entry))
+        } else {
+            ControlFlow::Continue(entry.oid.to_owned())
+        }
     }
 
     /// The entry to which a path leads, one name after the other: the first name is sought in this tree,
@@ -112,9 +122,8 @@ impl<'a> TreeRefIter<'a> {
     }
 
     /// As [`TreeRefIter::lookup_entry`], with the names of a path that stands in a text: what stands between
-    /// slashes. Where no byte does, there is no name; `.` is a name like others.
-    ///
-    /// `OutOfMemory` also where the path has a name.
+    /// slashes. Where no byte does, there is no name; `.` is a name like others. A name is taken where it is
+    /// sought, and so the path takes no memory.
     pub fn lookup_entry_by_path<S: Find>(
         &self,
         alloc: Global,
@@ -125,11 +134,24 @@ impl<'a> TreeRefIter<'a> {
         ensures found { IfOk result (λ found. (names : List Name) × AreNamesOf path.now names
             × IsAtPath (S.objects store.now) (Some (tree_left self.now)) names found) }
         ensures refusal { IfErr result (λ error. (names : List Name) × AreNamesOf path.now names
-            × RefusesPathText (S.objects store.now) (S.may_fail store.now)
+            × RefusesPath (S.objects store.now) (S.may_fail store.now)
             (Some (tree_left self.now)) names error) }
     {
-        let names = names_of(alloc, path)?;
-        self.lookup_entry(alloc, store, buffer, &names)
+        let mut rest = path;
+        let tree = Data::new(self.bytes, Kind::Tree, self.hash_kind);
+        let mut id = match next_entry_in_text(&mut rest, tree) {
+            ControlFlow::Continue(id) => id,
+            ControlFlow::Break(found) => return Ok(owned(alloc, found)?),
+        };
+        loop {
+            let Some(tree) = store.try_find(id.as_oid(), buffer)? else {
+                return Ok(None);
+            };
+            id = match next_entry_in_text(&mut rest, tree) {
+                ControlFlow::Continue(next) => next,
+                ControlFlow::Break(found) => return Ok(owned(alloc, found)?),
+            };
+        }
     }
 }
 
@@ -144,32 +166,51 @@ fn owned(alloc: Global, found: Option<EntryRef<'_>>) -> Result<Option<Entry>, Ou
     }
 }
 
-/// The names of a path: what stands between slashes, where a byte does.
-///
-/// `OutOfMemory` only where there is a name.
-fn names_of(alloc: Global, path: &[u8]) -> Result<Vec<BString>, OutOfMemory>
-    ensures found { IfOk result (λ names. AreNamesOf path.now (map bstring_bytes names.items)) }
-    ensures refusal { OnErr result ((names : List Name) × AreNamesOf path.now names
-        × (names ≢ [])) }
+/// One step of a path in a text, as [`next_entry`]: its first name is taken off, and its entry is sought in the tree.
+fn next_entry_in_text<'a>(
+    path: &mut &[u8],
+    tree: Data<'a>,
+) -> ControlFlow<Option<EntryRef<'a>>, ObjectId>
+    ensures no_tree { tree.entry.kind ≢ object.Tree → (result ≡ Break None)
+        × (path.new.now ≡ path.old.now) }
+    ensures step { tree.entry.kind ≡ object.Tree
+        → IsStepInText (stored tree.entry) path.old.now path.new.now result }
 {
-    let mut names = Vec::new(alloc);
-    let mut rest = path;
-    while let Some((part, behind)) = split_at_byte(rest, b'/') {
-        put_name(&mut names, alloc, part)?;
-        rest = behind;
-    }
-    put_name(&mut names, alloc, rest)?;
-    Ok(names)
+    let Some(reader) = tree.try_into_tree_iter() else {
+        return ControlFlow::Break(None);
+    };
+    let Some((name, rest)) = split_name(path) else {
+        return ControlFlow::Break(None);
+    };
+    *path = rest;
+    reader.step_to(name, rest.is_empty())
 }
 
-/// Puts a part of a path at the end, if it has a byte. Where it fails the names are as before.
-fn put_name(names: &mut Vec<BString>, alloc: Global, part: &[u8]) -> Result<(), OutOfMemory>
-    ensures put { OnOk result (map bstring_bytes names.new.items
-        ≡ map bstring_bytes names.old.items ++ named_parts (part.now ∷ [])) }
-    ensures refusal { OnErr result (part.now ≢ []) }
+/// The first name of a path in a text, and what is left behind it, which has a byte only where other names follow; or
+/// nothing of a path without names.
+fn split_name(path: &[u8]) -> Option<(&[u8], &[u8])>
+    ensures found { IfSome result (λ it. SplitsName path.now it.0.now it.1.now) }
+    ensures none { IfNone result (AreNamesOf path.now []) }
 {
-    if !part.is_empty() {
-        names.push(BString::from_slice(alloc, part)?)?;
+    let names = without_slashes(path);
+    if names.is_empty() {
+        return None;
     }
-    Ok(())
+    match split_at_byte(names, b'/') {
+        Some((name, behind)) => Some((name, without_slashes(behind))),
+        None => Some((names, b"")),
+    }
+}
+
+/// A path in a text, without the slashes in front of its first name.
+fn without_slashes(path: &[u8]) -> &[u8]
+    ensures names { (names : List Name) → AreNamesOf result.now names
+        → AreNamesOf path.now names }
+    ensures no_slash { (rest : List ℕ) → result.now ≢ slash ∷ rest }
+{
+    let mut left = path;
+    while let Some(behind) = left.strip_prefix(b"/") {
+        left = behind;
+    }
+    left
 }

@@ -1,10 +1,12 @@
-use Rattle.std.proofs.Common.{rules, ◌≡◌, map, None, Option, Some, subst, sym}
+use Rattle.std.proofs.Common.{rules, ◌≡◌, map, None, Option, Some, refl, subst, sym}
 use Rattle.std.proofs.lemmas.Result.{err_from_is_err_and}
 use Rattle.std.specs.declared.ops.ControlFlow.TheVariants.{Break, Continue}
 use Rattle.bstr.specs.Owned.{bstring_bytes}
 use Rattle.gixobj_tree.specs.Entries.{EntryView}
-use Rattle.gixobj_object.proofs.Steps.{copy_refused, ends_in_none, ends_there, first_step, found_there, goes_on, starts_at, starts_on}
+use Rattle.gixobj_object.proofs.Paths.{follows_first, follows_on}
+use Rattle.gixobj_object.proofs.Steps.{copy_refused, ends_in_none, ends_there, first_step, found_there, names_left, starts_at, went_on}
 use Rattle.gixobj_object.specs.Lookups.{IsAtPath, tree_left}
+use Rattle.gixobj_object.specs.Stores.{stored}
 use Rattle.gixobj_object.proofs.tree.TreeRefIter.lookup_entry.Goals as goal
 
 pub returns-in_err-owned-in-Break-clause-refusal : goal.returns-in_err-owned-in-Break-clause-refusal
@@ -23,7 +25,8 @@ returns-in-Break-clause-found g c =
 pub loop-tree-init : goal.loop-tree-init
 loop-tree-init g c =
     let step = first_step c.new-tree.result c.args.self.now (map bstring_bytes c.args.path.now) (Continue c.in-Continue.id) c.new-tree.ensures.content c.new-tree.ensures.kind c.new-tree.ensures.object_hash c.in-Continue.ensures.step in
-    starts_on (g.S.Store.objects c.args.store.now) c.args.self.now c.args.path.now c.next_entry.new.components.now c.in-Continue.id step (c.in-Continue.ensures.one_name c.new-tree.ensures.kind)
+    let left = names_left c.args.path.now c.next_entry.new.components.now (c.in-Continue.ensures.one_name c.new-tree.ensures.kind) in
+    follows_first (g.S.Store.objects c.args.store.now) (tree_left c.args.self.now) (map bstring_bytes c.args.path.now) (map bstring_bytes c.next_entry.new.components.now) c.in-Continue.id refl step left
 
 pub returns-in_default-clause-found : goal.returns-in_default-clause-found
 returns-in_default-clause-found g c =
@@ -33,8 +36,10 @@ returns-in_default-clause-found g c =
 pub loop-tree-preserved : goal.loop-tree-preserved
 loop-tree-preserved g c =
     let there = found_there (g.S.Store.objects c.args.store.now) _ c.loop-tree.id c.in_ok-tree.field-0 c.in-Some.tree c.in_ok-tree.ensures.found c.as_oid.ensures c.in-Some.is in
-    goes_on (g.S.Store.objects c.args.store.now) (Some (tree_left c.args.self.now)) (map bstring_bytes c.args.path.now) c.loop-tree.names.now c.next_entry-in-loop-tree.new.components.now c.loop-tree.id c.in-Continue-next_entry.next c.in-Some.tree
-    c.loop-tree.invariant there (λ other. (c.in-Continue-next_entry.ensures.no_tree other).0) c.in-Continue-next_entry.ensures.one_name c.in-Continue-next_entry.ensures.step
+    let is_tree = went_on c.in-Some.tree c.in-Continue-next_entry.next (λ other. (c.in-Continue-next_entry.ensures.no_tree other).0) in
+    let left = names_left c.loop-tree.names.now c.next_entry-in-loop-tree.new.components.now (c.in-Continue-next_entry.ensures.one_name is_tree) in
+    follows_on (g.S.Store.objects c.args.store.now) (Some (tree_left c.args.self.now)) (map bstring_bytes c.args.path.now) (map bstring_bytes c.loop-tree.names.now) (map bstring_bytes c.next_entry-in-loop-tree.new.components.now) c.loop-tree.id c.in-Continue-next_entry.next
+    (stored c.in-Some.tree) c.loop-tree.invariant there is_tree (c.in-Continue-next_entry.ensures.step is_tree) left
 
 pub returns-in-Break-next_entry-clause-found : goal.returns-in-Break-next_entry-clause-found
 returns-in-Break-next_entry-clause-found g c =
