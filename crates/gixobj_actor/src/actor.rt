@@ -16,9 +16,9 @@ ghost use Rattle.gixobj_hash.specs.Bytes.{newline};
 ghost use Rattle.gixobj_hash.specs.Texts.{IsFree, trimmed};
 
 use crate::date::{Time, TimeBuf, parse_header};
-use crate::short_text::ShortText;
 use bstr::{BStr, BString, ByteSlice};
 use gixobj_fields::encode::Error;
+use gixobj_fields::short::ShortText;
 use gixobj_fields::streams::{Sink, ToWrite, put_parts};
 use gixobj_hash::texts::{has_byte, split_at_byte, split_at_last_byte};
 use gixobj_hash::{OutOfMemory, decode};

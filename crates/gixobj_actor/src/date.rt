@@ -5,7 +5,7 @@ ghost use Rattle.std.specs.Str.Parse.{IsNumeral, starts_with_minus};
 ghost use Rattle.gixobj_actor.specs.Date.{IsOffset, IsOffsetText, IsSecondsText, IsTimeText, IsNoTimeText, offset_text, seconds_digits, signed, time_text, two_digits};
 ghost use Rattle.gixobj_hash.specs.Bytes.{space};
 
-use crate::short_text::ShortText;
+use gixobj_fields::short::ShortText;
 use gixobj_hash::texts::{are_digits, number_from_digits, split_at_byte};
 use itoa::Buffer;
 use std::marker::Model;

@@ -6,4 +6,3 @@ pub mod date;
 pub mod encode;
 pub mod laws;
 pub mod parse;
-mod short_text;

@@ -131,9 +131,9 @@ pub fn trusted_header_id<S: Sink>(name: &[u8], id: &ObjectId, sink: &mut S) -> i
     ensures same_loan { S.loan sink.new ≡ S.loan sink.old }
 {
     if name.len() <= SHORT_NAME_LEN {
-        return sink.put(ShortText::id_field(name, id).as_slice());
+        return sink.put(ShortText::id_field(name, id).as_bytes());
     }
-    put_both(name, ShortText::id_field(b"", id).as_slice(), sink)
+    put_both(name, ShortText::id_field(b"", id).as_bytes(), sink)
 }
 
 /// Puts the field of an id by its hex text, 64 digits at most: its value is the text in lower case
@@ -146,9 +146,9 @@ pub fn trusted_header_hex<S: Sink>(name: &[u8], hex: &[u8], sink: &mut S) -> io:
     ensures same_loan { S.loan sink.new ≡ S.loan sink.old }
 {
     if name.len() <= SHORT_NAME_LEN {
-        return sink.put(ShortText::hex_field(name, hex).as_slice());
+        return sink.put(ShortText::hex_field(name, hex).as_bytes());
     }
-    put_both(name, ShortText::hex_field(b"", hex).as_slice(), sink)
+    put_both(name, ShortText::hex_field(b"", hex).as_bytes(), sink)
 }
 
 /// Puts a field of one line: the name, a space, the value and a newline (gitdatamodel, "commits").

@@ -5,7 +5,7 @@
 pub mod encode;
 pub mod laws;
 pub mod parse;
-mod short;
+pub mod short;
 pub mod stream_hash;
 pub mod streams;
 pub mod traits;

@@ -1,4 +1,4 @@
-//! Short texts that are gathered and put at once.
+//! Short texts, put together without memory, so that they are put at once.
 ghost use Rattle.std.specs.Prelude.{◌≡◌, ◌≤◌, ◌+◌, ◌*◌, ◌++◌, ◌∷◌, [], length};
 ghost use Rattle.std.specs.Str.{str_to_ascii_lowercase};
 ghost use Rattle.hex.specs.Hex.{encode_lower};
@@ -12,9 +12,9 @@ use std::marker::Model;
 /// How many bytes a name has at most, with which a field of an id is short.
 pub(crate) const SHORT_NAME_LEN: usize = 14;
 
-/// A short text in the making.
+/// A text of at most 80 bytes: as much as a field of an id has, or the end of an actor's line.
 #[derive(Drop)]
-pub(crate) struct ShortText {
+pub struct ShortText {
     bytes: [u8; 80],
     len: usize,
 }
@@ -30,6 +30,17 @@ impl Model for ShortText {
 }
 
 impl ShortText {
+    /// A text without bytes.
+    #[inline(always)]
+    pub fn new() -> ShortText
+        ensures { result ≡ [] }
+    {
+        ShortText {
+            bytes: [0; 80],
+            len: 0,
+        }
+    }
+
     /// The field of an id: its hex digits, in lower case.
     #[inline(always)]
     pub(crate) fn id_field(name: &[u8], id: &ObjectId) -> ShortText
@@ -61,10 +72,7 @@ impl ShortText {
         requires { length name.now ≤ 14 }
         ensures { result ≡ name.now ++ space ∷ [] }
     {
-        let mut text = ShortText {
-            bytes: [0; 80],
-            len: 0,
-        };
+        let mut text = ShortText::new();
         text.extend(name);
         text.extend(b" ");
         text
@@ -72,8 +80,8 @@ impl ShortText {
 
     /// Puts more bytes at the end.
     #[inline(always)]
-    fn extend(&mut self, more: &[u8])
-        requires { length self.old + length more.now ≤ 80 }
+    pub fn extend(&mut self, more: &[u8])
+        requires room { length self.old + length more.now ≤ 80 }
         ensures { self.new ≡ self.old ++ more.now }
     {
         let end = self.len + more.len();
@@ -105,9 +113,9 @@ impl ShortText {
         self.len = end;
     }
 
-    /// The text.
+    /// Its bytes.
     #[inline(always)]
-    pub(crate) fn as_slice(&self) -> &[u8]
+    pub fn as_bytes(&self) -> &[u8]
         ensures { result.now ≡ self.now }
     {
         &self.bytes[..self.len]
