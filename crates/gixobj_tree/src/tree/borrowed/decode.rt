@@ -49,6 +49,7 @@ fn likely_entries(bytes: &[u8], hash_kind: Kind) -> usize
 
 /// The entry at the front of the input, which has an id of this kind, and what follows it, or none where
 /// the input begins with no entry. It takes no memory.
+#[inline(always)]
 #[tactic(auto, using(crate::proofs::OneEntry::shorter))]
 pub fn read_entry(input: &[u8], hash_kind: Kind) -> Option<(EntryRef<'_>, &[u8])>
     ensures found { IfSome result (λ it.
@@ -112,6 +113,7 @@ fn near_zero(input: &[u8]) -> Option<usize>
 }
 
 /// The id of this kind at the front of the input, and what follows it, or none where fewer bytes are left.
+#[inline(always)]
 fn read_id(input: &[u8], hash_kind: Kind) -> Option<(oid<'_>, &[u8])>
     ensures found { IfSome result (λ it.
         BeginsWithId hash_kind input.now (borrowed_id it.0) it.1.now) }
