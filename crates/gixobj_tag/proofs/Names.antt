@@ -1,13 +1,13 @@
 -- Names of tags: what searches tell of their faults, the first fault, and what a valid name is not.
 use Rattle.std.proofs.Common.{◌≡◌, ◌≢◌, ℕ, ◌+◌, Bool, true, false, List, [], ◌∷◌, ◌++◌, length, take, drop, refl, sym, ap, subst, ◌∙◌, arith, inl, inr, append_assoc, length-append}
-use Rattle.std.proofs.lemmas.Bool.{cases_eq, eqb-true, false≢true, true≢false}
+use Rattle.std.proofs.lemmas.Bool.{cases_eq, eqb-true, false≢true}
 use Rattle.std.proofs.lemmas.Bool.Decides.{Decides-eqb}
 use Rattle.std.proofs.lemmas.List.{append-nil, drop_at, get_or_default, nil_from_length, take-append-drop}
 use Rattle.std.proofs.lemmas.List.Elements.{All-append, All-cons, All-from_recursion, All-head, All-nil, All-tail}
 use Rattle.std.proofs.lemmas.List.Prefix.{at_from_reads, at_reads}
 use Rattle.std.proofs.lemmas.Slice.Eq.{ends_is, starts_is}
 use Rattle.std.specs.List.{AllByRecursion, ends_with, starts_with}
-use Rattle.std.specs.Prelude.{◌↔◌, ◌⊎◌, ◌==◌, All, MatchBool, codes, nat_eq}
+use Rattle.std.specs.Prelude.{◌↔◌, ◌⊎◌, ◌==◌, All, IsTrue, codes, nat_eq}
 use Rattle.bstr.specs.Text.{Contains as Occurs}
 use Rattle.gixobj_fields.specs.declared.encode.RefNameFault.{RefNameFault}
 use Rattle.gixobj_fields.specs.declared.encode.RefNameFault.TheVariants as fault
@@ -20,21 +20,20 @@ use Rattle.gixobj_hash.specs.Texts.{IsFree}
 
 -- ---- searches
 
--- a test that is true exactly where a fact holds tells it or its contrary
-told : (r : Bool) (P : Type 0) → (r ≡ true → P) → (P → r ≡ true) → MatchBool r P (¬ P)
-told true P found only = found refl
-told false P found only = λ holds. (let e : false ≡ true = only holds in cc)
-
 -- the tests and the search of the library, in the words of the rule
-pub begins_told : (text front : List ℕ) (r : Bool) → r ≡ starts_with nat_eq text front → MatchBool r (BeginsWith front text) (¬ BeginsWith front text)
+pub begins_told : (text front : List ℕ) (r : Bool) → r ≡ starts_with nat_eq text front → IsTrue r ↔ BeginsWith front text
 begins_told text front r is =
-    let parts = starts_is Decides-eqb text front r is in
-    told r (BeginsWith front text) (λ passes. (drop (length front) text, parts.0 passes)) (λ begins. parts.1 begins.0 begins.1)
+    let parts = starts_is Decides-eqb text front r is in (
+      λ passes. (drop (length front) text, parts.0 passes),
+      λ begins. parts.1 begins.0 begins.1,
+    )
 
-pub ends_told : (text end : List ℕ) (r : Bool) → r ≡ ends_with nat_eq text end → MatchBool r (EndsWith end text) (¬ EndsWith end text)
+pub ends_told : (text end : List ℕ) (r : Bool) → r ≡ ends_with nat_eq text end → IsTrue r ↔ EndsWith end text
 ends_told text end r is =
-    let parts = ends_is Decides-eqb text end r is in
-    told r (EndsWith end text) (λ passes. (_, parts.0 passes)) (λ ends. parts.1 ends.0 ends.1)
+    let parts = ends_is Decides-eqb text end r is in (
+      λ passes. (_, parts.0 passes),
+      λ ends. parts.1 ends.0 ends.1,
+    )
 
 holds_from_place : (text inner : List ℕ) → Occurs text inner → Holds inner text
 holds_from_place text inner (place, occurs) =
@@ -52,19 +51,21 @@ place_from_holds text inner (front, rest, joined) =
       },
     )
 
-pub holds_told : (text inner : List ℕ) (r : Bool) → ((r ≡ true) ↔ Occurs text inner) → MatchBool r (Holds inner text) (¬ Holds inner text)
-holds_told text inner r tells =
-    told r (Holds inner text) (λ passes. holds_from_place text inner (tells.0 passes)) (λ holds. tells.1 (place_from_holds text inner holds))
+pub holds_told : (text inner : List ℕ) (r : Bool) → ((r ≡ true) ↔ Occurs text inner) → IsTrue r ↔ Holds inner text
+holds_told text inner r tells = (
+  λ passes. holds_from_place text inner (tells.0 passes),
+  λ holds. tells.1 (place_from_holds text inner holds),
+)
 
 -- a fault that either of two searches finds: where the first finds it, and where the next has to
-found_first : (r : Bool) (A F : Type 0) → r ≡ true → MatchBool r A (¬ A) → (A → F) → MatchBool r F (¬ F)
-found_first true A F passes first found = found first
-found_first false A F passes first found = absurd (false≢true passes)
+found_first : (r : Bool) (A F : Type 0) → r ≡ true → (IsTrue r ↔ A) → (A → F) → IsTrue r ↔ F
+found_first r A F passes first found = (λ _. found (first.0 passes), λ _. passes)
 
-found_next : (first r : Bool) (A B F : Type 0) → first ≡ false → MatchBool first A (¬ A) → MatchBool r B (¬ B) → (A ⊎ B → F) → (F → A ⊎ B) → MatchBool r F (¬ F)
-found_next true r A B F fails other next found only = absurd (true≢false fails)
-found_next false true A B F fails other next found only = found (inr next)
-found_next false false A B F fails other next found only = λ fault. (elim (only fault) [ inl it ↦ other it | inr it ↦ next it ])
+found_next : (first r : Bool) (A B F : Type 0) → first ≡ false → (IsTrue first ↔ A) → (IsTrue r ↔ B) → (A ⊎ B → F) → (F → A ⊎ B) → IsTrue r ↔ F
+found_next first r A B F fails other next found only = (
+  λ passes. found (inr (next.0 passes)),
+  λ fault. (elim (only fault) [ inl it ↦ absurd (false≢true (sym fails ∙ other.1 it)) | inr it ↦ next.1 it ]),
+)
 
 -- ---- parts
 
@@ -130,10 +131,10 @@ dot_only name (part, is, (rest, begins)) = elim is.opens [
       inr (front, rest ++ is.behind, cc (is.joined, begins, ends, regrouped))
 ]
 
-pub dot_first : (name : List ℕ) (r : Bool) → r ≡ true → r ≡ starts_with nat_eq name (codes ".") → MatchBool r (HasFault fault.DotStart name) (¬ HasFault fault.DotStart name)
+pub dot_first : (name : List ℕ) (r : Bool) → r ≡ true → r ≡ starts_with nat_eq name (codes ".") → IsTrue r ↔ HasFault fault.DotStart name
 dot_first name r passes is = found_first r _ _ passes (begins_told name (codes ".") r is) (λ begins. dot_found name (inl begins))
 
-pub dot_later : (name : List ℕ) (first r : Bool) → first ≡ false → first ≡ starts_with nat_eq name (codes ".") → ((r ≡ true) ↔ Occurs name (codes "/.")) → MatchBool r (HasFault fault.DotStart name) (¬ HasFault fault.DotStart name)
+pub dot_later : (name : List ℕ) (first r : Bool) → first ≡ false → first ≡ starts_with nat_eq name (codes ".") → ((r ≡ true) ↔ Occurs name (codes "/.")) → IsTrue r ↔ HasFault fault.DotStart name
 dot_later name first r fails is tells =
     found_next first r _ _ _ fails (begins_told name (codes ".") first is) (holds_told name (codes "/.") r tells) (dot_found name) (dot_only name)
 
@@ -170,20 +171,20 @@ lock_only name (part, is, (front, ends)) = elim is.closes [
       inr (is.before ++ front, rest, cc (is.joined, ends, begins, regrouped))
 ]
 
-pub lock_last : (name : List ℕ) (r : Bool) → r ≡ true → r ≡ ends_with nat_eq name (codes ".lock") → MatchBool r (HasFault fault.LockSuffix name) (¬ HasFault fault.LockSuffix name)
+pub lock_last : (name : List ℕ) (r : Bool) → r ≡ true → r ≡ ends_with nat_eq name (codes ".lock") → IsTrue r ↔ HasFault fault.LockSuffix name
 lock_last name r passes is = found_first r _ _ passes (ends_told name (codes ".lock") r is) (λ ends. lock_found name (inl ends))
 
-pub lock_earlier : (name : List ℕ) (first r : Bool) → first ≡ false → first ≡ ends_with nat_eq name (codes ".lock") → ((r ≡ true) ↔ Occurs name (codes ".lock/")) → MatchBool r (HasFault fault.LockSuffix name) (¬ HasFault fault.LockSuffix name)
+pub lock_earlier : (name : List ℕ) (first r : Bool) → first ≡ false → first ≡ ends_with nat_eq name (codes ".lock") → ((r ≡ true) ↔ Occurs name (codes ".lock/")) → IsTrue r ↔ HasFault fault.LockSuffix name
 lock_earlier name first r fails is tells =
     found_next first r _ _ _ fails (ends_told name (codes ".lock") first is) (holds_told name (codes ".lock/") r tells) (lock_found name) (lock_only name)
 
 -- ---- slashes
 
 -- a slash that is last, and the search for two in a row where none is first or last
-pub slash_last : (name : List ℕ) (r last : Bool) → r ≡ true → r ≡ last → last ≡ ends_with nat_eq name (codes "/") → MatchBool r (HasFault fault.BadSlash name) (¬ HasFault fault.BadSlash name)
+pub slash_last : (name : List ℕ) (r last : Bool) → r ≡ true → r ≡ last → last ≡ ends_with nat_eq name (codes "/") → IsTrue r ↔ HasFault fault.BadSlash name
 slash_last name r last passes same is = found_first r _ _ passes (ends_told name (codes "/") r (same ∙ is)) (λ ends. inr (inl ends))
 
-pub slash_doubled : (name : List ℕ) (outer first last r : Bool) → outer ≡ false → first ≡ starts_with nat_eq name (codes "/") → first ≡ false → outer ≡ last → last ≡ ends_with nat_eq name (codes "/") → ((r ≡ true) ↔ Occurs name (codes "//")) → MatchBool r (HasFault fault.BadSlash name) (¬ HasFault fault.BadSlash name)
+pub slash_doubled : (name : List ℕ) (outer first last r : Bool) → outer ≡ false → first ≡ starts_with nat_eq name (codes "/") → first ≡ false → outer ≡ last → last ≡ ends_with nat_eq name (codes "/") → ((r ≡ true) ↔ Occurs name (codes "//")) → IsTrue r ↔ HasFault fault.BadSlash name
 slash_doubled name outer first last r fails is other same ends tells =
     found_next first r _ _ _ other (begins_told name (codes "/") first is)
     (found_next outer r _ _ (EndsWith (codes "/") name ⊎ Holds (codes "//") name) fails (ends_told name (codes "/") outer (same ∙ ends)) (holds_told name (codes "//") r tells) (λ it. it) (λ it. it))
@@ -223,6 +224,18 @@ first_so name here none has = record {
   none = All-from_recursion (λ it. ¬ HasFault it name) _ none;
   here = has;
 }
+
+-- the name has none of them
+pub none_has : (name : List ℕ) → AllByRecursion (λ it. ¬ HasFault it name) faults → (each : RefNameFault) → ¬ HasFault each name
+none_has name none fault.Empty = none.0
+none_has name none fault.DotStart = none.1.0
+none_has name none fault.LockSuffix = none.1.1.0
+none_has name none fault.DoubleDot = none.1.1.1.0
+none_has name none fault.AtBrace = none.1.1.1.1.0
+none_has name none fault.Backslash = none.1.1.1.1.1.0
+none_has name none fault.InvalidByte = none.1.1.1.1.1.1.0
+none_has name none fault.BadSlash = none.1.1.1.1.1.1.1.0
+none_has name none fault.DotEnd = none.1.1.1.1.1.1.1.1.0
 
 pub empty_so : (name : List ℕ) (r : Bool) → r ≡ true → r ≡ (length name == 0) → HasFault fault.Empty name
 empty_so name r passes is = nil_from_length name (eqb-true (length name) 0 (sym is ∙ passes))

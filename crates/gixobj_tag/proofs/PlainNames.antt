@@ -4,12 +4,11 @@ use Rattle.std.proofs.lemmas.Bool.{and_parts, cases_eq, false≢true, or_parts}
 use Rattle.std.proofs.lemmas.Bool.Decides.{Decides-eqb, Decides-not, nat_tests}
 use Rattle.std.proofs.lemmas.List.{append-nil, at_drop_all, at_drop_more}
 use Rattle.std.proofs.lemmas.List.Elements.{All-cons, All-contains, All-from_recursion, All-head, All-nil, All-tail, Contains-append_left, Contains-append_right}
-use Rattle.std.proofs.lemmas.Slice.Eq.{ends_is}
 use Rattle.std.specs.List.{ends_with}
 use Rattle.std.specs.Prelude.{◌↔◌, ◌⊎◌, ◌==◌, ◌&&◌, ◌||◌, All, Contains, IsTrue, codes, nat_eq, not}
 use Rattle.gixobj_fields.specs.declared.encode.RefNameFault.TheVariants as fault
 use Rattle.gixobj_hash.specs.Bytes.{slash}
-use Rattle.gixobj_tag.proofs.Names.{dot_only, lock_only}
+use Rattle.gixobj_tag.proofs.Names.{dot_only, ends_told, lock_only}
 use Rattle.gixobj_tag.specs.NameRule.{EndsWith, HasNoFault, Holds, IsForbidden, backslash}
 use Rattle.gixobj_tag.specs.PlainNames.{IsDotted, IsDottedBehind, IsPlainName, dot, is_plain_byte, may_follow}
 
@@ -100,9 +99,7 @@ dotted_all name k before past sofar =
 
 -- a test of the end that has to fail
 pub not_ends : (text end : List ℕ) (r : Bool) → r ≡ ends_with nat_eq text end → IsTrue (not r) ↔ (¬ EndsWith end text)
-not_ends text end r is =
-    let parts = ends_is Decides-eqb text end r is in
-    Decides-not r (λ passes. (_, parts.0 passes), λ ends. parts.1 ends.0 ends.1)
+not_ends text end r is = Decides-not r (ends_told text end r is)
 
 -- ---- no fault
 

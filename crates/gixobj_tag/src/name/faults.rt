@@ -1,5 +1,5 @@
 //! The faults of a name (git-check-ref-format, "DESCRIPTION"). No test takes memory.
-ghost use Rattle.std.specs.Prelude.{◌≡◌, ◌↔◌, IsTrue, MatchBool, MatchOption};
+ghost use Rattle.std.specs.Prelude.{◌≡◌, ◌↔◌, IsTrue, MatchOption};
 ghost use Rattle.gixobj_fields.specs.declared.encode.RefNameFault.TheVariants as fault;
 ghost use Rattle.gixobj_tag.specs.NameRule.{HasFault, HasNoFault, IsFirstFault, IsForbidden};
 ghost use Rattle.gixobj_tag.specs.PlainNames.{IsDotted, IsPlainName, is_plain_byte as is_plain_byte_of, may_follow as may_follow_of};
@@ -87,77 +87,67 @@ fn is_plain_byte(byte: u8) -> bool
 }
 
 /// Whether a part begins with `.`: the first one, or one behind a slash.
-#[tactic(auto, using(crate::proofs::Names::dot_first, crate::proofs::Names::dot_later))]
+#[tactic(auto, using(crate::proofs::Names::dot_first))]
 fn has_dot_start(name: &[u8]) -> bool
-    ensures { MatchBool result (HasFault fault.DotStart name.now)
-        (¬ HasFault fault.DotStart name.now) }
+    ensures { IsTrue result ↔ HasFault fault.DotStart name.now }
 {
     name.starts_with(b".") || name.contains_str(b"/.")
 }
 
 /// Whether a part ends with `.lock`: the last one, or one before a slash.
-#[tactic(auto, using(crate::proofs::Names::lock_last, crate::proofs::Names::lock_earlier))]
+#[tactic(auto, using(crate::proofs::Names::lock_last))]
 fn has_lock_suffix(name: &[u8]) -> bool
-    ensures { MatchBool result (HasFault fault.LockSuffix name.now)
-        (¬ HasFault fault.LockSuffix name.now) }
+    ensures { IsTrue result ↔ HasFault fault.LockSuffix name.now }
 {
     name.ends_with(b".lock") || name.contains_str(b".lock/")
 }
 
 /// Whether two dots follow each other.
-#[tactic(auto, using(crate::proofs::Names::holds_told))]
 fn has_double_dot(name: &[u8]) -> bool
-    ensures { MatchBool result (HasFault fault.DoubleDot name.now)
-        (¬ HasFault fault.DoubleDot name.now) }
+    ensures { IsTrue result ↔ HasFault fault.DoubleDot name.now }
 {
     name.contains_str(b"..")
 }
 
 /// Whether `@{` stands in the name.
-#[tactic(auto, using(crate::proofs::Names::holds_told))]
 fn has_at_brace(name: &[u8]) -> bool
-    ensures { MatchBool result (HasFault fault.AtBrace name.now)
-        (¬ HasFault fault.AtBrace name.now) }
+    ensures { IsTrue result ↔ HasFault fault.AtBrace name.now }
 {
     name.contains_str(b"@{")
 }
 
 /// Whether there is a backslash.
 fn has_backslash(name: &[u8]) -> bool
-    ensures { MatchBool result (HasFault fault.Backslash name.now)
-        (¬ HasFault fault.Backslash name.now) }
+    ensures { IsTrue result ↔ HasFault fault.Backslash name.now }
 {
     has_byte(name, b'\\')
 }
 
 /// Whether there is a byte that no name may have.
 fn has_invalid_byte(name: &[u8]) -> bool
-    ensures { MatchBool result (HasFault fault.InvalidByte name.now)
-        (¬ HasFault fault.InvalidByte name.now) }
+    ensures { IsTrue result ↔ HasFault fault.InvalidByte name.now }
 {
     name.iter().any(|byte| is_forbidden(*byte))
 }
 
 /// Whether no name may have this byte.
 fn is_forbidden(byte: u8) -> bool
-    ensures { MatchBool result (IsForbidden byte) (¬ IsForbidden byte) }
+    ensures { IsTrue result ↔ IsForbidden byte }
 {
     byte.is_ascii_control() || has_byte(b" ~^:?*[", byte)
 }
 
 /// Whether a slash is first or last, or two follow each other.
-#[tactic(auto, using(crate::proofs::Names::slash_last, crate::proofs::Names::slash_doubled))]
+#[tactic(auto, using(crate::proofs::Names::slash_last))]
 fn has_bad_slash(name: &[u8]) -> bool
-    ensures { MatchBool result (HasFault fault.BadSlash name.now)
-        (¬ HasFault fault.BadSlash name.now) }
+    ensures { IsTrue result ↔ HasFault fault.BadSlash name.now }
 {
     name.starts_with(b"/") || name.ends_with(b"/") || name.contains_str(b"//")
 }
 
 /// Whether the last byte is `.`.
-#[tactic(auto, using(crate::proofs::Names::ends_told))]
 fn has_dot_end(name: &[u8]) -> bool
-    ensures { MatchBool result (HasFault fault.DotEnd name.now) (¬ HasFault fault.DotEnd name.now) }
+    ensures { IsTrue result ↔ HasFault fault.DotEnd name.now }
 {
     name.ends_with(b".")
 }
