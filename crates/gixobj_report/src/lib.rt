@@ -1,4 +1,4 @@
-//! What verifiers report of a signature, and whether it is accepted (gnupg, doc/DETAILS; ssh-keygen(1), `-Y verify`;
+//! What verifiers report of a signature, and whether it is accepted (gnupg, doc/DETAILS; ssh-keygen, `-Y verify`;
 //! git-config, `gpg.minTrustLevel`).
 #![tactic(auto)]
 

@@ -8,6 +8,8 @@ use Rattle.gixobj_signature.specs.declared.signature.verify.Options.{Options}
 use Rattle.gixobj_signature.specs.declared.signature.verify.Options.TheVariants as options
 use Rattle.gixobj_signature.specs.declared.signature.verify.Program.{Program}
 use Rattle.gixobj_signature.specs.declared.signature.verify.SshProgram.{SshProgram}
+use Rattle.gixobj_signature.specs.declared.signature.verify.Verifier.{Verifier}
+use Rattle.gixobj_signature.specs.declared.signature.verify.Verifier.TheVariants as verifier
 
 -- a program, the words before those that are fixed, what is set for it, and the least trust that is asked for
 pub record ProgramView : Type 0 where
@@ -81,3 +83,8 @@ ssh_of it = record {
   seconds = it.verify_time.seconds;
   offset = it.verify_time.offset;
 }
+
+abbrev pub verifier_view : Verifier → OptionsView
+verifier_view (verifier.OpenPgp it) = by_open_pgp (program_of it)
+verifier_view (verifier.X509 it) = by_x509 (program_of it)
+verifier_view (verifier.Ssh it) = by_ssh (ssh_program_of it) (ssh_of it)

@@ -1,7 +1,7 @@
 //! Signatures, verified by programs that a runner runs.
 ghost use Rattle.std.specs.Prelude.{◌≡◌, Some};
 ghost use Rattle.gixobj_signature.specs.SignedBytes.{signed_bytes};
-ghost use Rattle.gixobj_signature.specs.Verifiers.{by_open_pgp, by_ssh, by_x509, options_view, program_of, ssh_of, ssh_program_of};
+ghost use Rattle.gixobj_signature.specs.Verifiers.{by_open_pgp, by_ssh, by_x509, options_view, program_of, ssh_of, ssh_program_of, verifier_view};
 ghost use Rattle.gixobj_signature.specs.Verifying.{Asked, ComesOf, Verifies, verify_plan};
 ghost use Rattle.gixobj_signature.specs.Calls.{call_view};
 
@@ -143,6 +143,17 @@ pub(crate) struct SshProgram {
     pub(crate) minimum_trust: TrustLevel,
 }
 
+/// Who verifies: the options, with their parts taken out.
+#[derive(Debug, Drop)]
+pub(crate) enum Verifier {
+    /// A program of OpenPGP.
+    OpenPgp(Program),
+    /// A program of X.509.
+    X509(Program),
+    /// A program of SSH.
+    Ssh(SshProgram),
+}
+
 impl SignedData<'_> {
     /// Has a signature of these bytes verified by the program of the options, and tells what comes of it.
     ///
@@ -182,6 +193,17 @@ fn verify_as<R: Runner>(
     ensures { ComesOf R.runs (verify_plan (options_view options) signature.now
         (signed_bytes signed.now) (Some format)) runner.old result runner.new }
 {
+    match verifier_of(options) {
+        Verifier::OpenPgp(by) => verify_open_pgp(alloc, &by, format, signature, signed, runner),
+        Verifier::X509(by) => verify_x509(alloc, &by, format, signature, signed, runner),
+        Verifier::Ssh(by) => verify_if_ssh(alloc, &by, format, signature, signed, runner),
+    }
+}
+
+/// The program of the options, with all that it is told.
+fn verifier_of(options: Options) -> Verifier
+    ensures { verifier_view result ≡ options_view options }
+{
     match options {
         Options::OpenPgp {
             program,
@@ -189,13 +211,8 @@ fn verify_as<R: Runner>(
             environment,
             minimum_trust,
         } => {
-            let by = Program {
-                program,
-                program_arguments,
-                environment,
-                minimum_trust,
-            };
-            verify_open_pgp(alloc, &by, format, signature, signed, runner)
+            let by = program_with(program, program_arguments, environment, minimum_trust);
+            Verifier::OpenPgp(by)
         }
         Options::X509 {
             program,
@@ -203,13 +220,8 @@ fn verify_as<R: Runner>(
             environment,
             minimum_trust,
         } => {
-            let by = Program {
-                program,
-                program_arguments,
-                environment,
-                minimum_trust,
-            };
-            verify_x509(alloc, &by, format, signature, signed, runner)
+            let by = program_with(program, program_arguments, environment, minimum_trust);
+            Verifier::X509(by)
         }
         Options::Ssh {
             program,
@@ -219,18 +231,37 @@ fn verify_as<R: Runner>(
             revocation_file,
             verify_time,
             minimum_trust,
-        } => {
-            let by = SshProgram {
-                program,
-                program_arguments,
-                environment,
-                allowed_signers,
-                revocation_file,
-                verify_time,
-                minimum_trust,
-            };
-            verify_if_ssh(alloc, &by, format, signature, signed, runner)
-        }
+        } => Verifier::Ssh(SshProgram {
+            program,
+            program_arguments,
+            environment,
+            allowed_signers,
+            revocation_file,
+            verify_time,
+            minimum_trust,
+        }),
+    }
+}
+
+/// A program of these parts.
+fn program_with(
+    program: BString,
+    program_arguments: Vec<BString>,
+    environment: Vec<(BString, BString)>,
+    minimum_trust: TrustLevel,
+) -> Program
+    ensures { result ≡ (record {
+      program = program;
+      program_arguments = program_arguments;
+      environment = environment;
+      minimum_trust = minimum_trust;
+    }) }
+{
+    Program {
+        program,
+        program_arguments,
+        environment,
+        minimum_trust,
     }
 }
 
