@@ -1,5 +1,5 @@
 -- The content stands behind the header, and is as long as that says.
-use Rattle.std.proofs.Common.{◌≤◌, length, refl}
+use Rattle.std.proofs.Common.{refl}
 use Rattle.gixobj_hash.proofs.Contents.{content_follows, header_begins}
 use Rattle.gixobj_hash.proofs.decode.loose_content.Goals as goal
 
