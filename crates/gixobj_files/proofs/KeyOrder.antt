@@ -8,7 +8,7 @@ use Rattle.gixobj_tree.specs.Entries.{ComesBefore, EntryView, entry_key, key_of}
 use Rattle.gixobj_tree.specs.Mode.{is_tree_mode}
 use Rattle.gixobj_hash.specs.Texts.{IsFree}
 use Rattle.gixobj_files.specs.Editing.{comes_before}
-use Rattle.gixobj_tree.proofs.WellFormed.{comes_trans, slash_ends}
+use Rattle.gixobj_tree.proofs.WellFormed.{slash_ends}
 
 less : (o : Ordering) → is_lt o ≡ true → o ≡ Less
 less Less h = refl

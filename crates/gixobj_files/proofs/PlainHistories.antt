@@ -1,5 +1,5 @@
 -- The files that steps make of none need no table, where no tree is put in and no root but the empty one is set.
-use Rattle.std.proofs.Common.{◌≡◌, ◌∙◌, ◌↔◌, ◌≤◌, inl, inr, ⊎_elim, ℕ, ◌-◌, Bool, false, cond, List, [], ◌∷◌, ◌++◌, All, length, refl, sym, ap, subst, arith, None}
+use Rattle.std.proofs.Common.{◌≡◌, ◌∙◌, ◌↔◌, ◌≤◌, inl, inr, ⊎_elim, ℕ, ◌-◌, Bool, false, cond, List, [], ◌∷◌, ◌++◌, All, length, refl, sym, ap, subst, None}
 use Rattle.std.specs.Prelude.{MatchOption, IsFalse}
 use Rattle.std.specs.List.{AllByRecursion}
 use Rattle.std.proofs.lemmas.List.Elements.{recursion_from_All}

@@ -1,6 +1,6 @@
 -- The files that steps make of none, where no tree is put in and no root but the empty one is set: they need no table, and no bound
 -- on their paths.
-use Rattle.std.specs.Prelude.{◌≡◌, ◌⊎◌, List, [], ◌∷◌, All, ℕ, ⊤, IsFalse, false}
+use Rattle.std.specs.Prelude.{◌≡◌, ◌⊎◌, List, [], ◌∷◌, ℕ, ⊤, IsFalse, false}
 use Rattle.gixobj_hash.specs.declared.hash.object_id.ObjectId.{ObjectId}
 use Rattle.gixobj_tree.specs.Mode.{is_tree_mode}
 use Rattle.gixobj_files.specs.Files.{Assured, Begins, FileSet, Path, Removed, is_null}

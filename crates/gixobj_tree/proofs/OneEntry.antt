@@ -1,9 +1,9 @@
 -- A text begins with one entry at most, and an entry has at least 22 bytes.
-use Rattle.std.proofs.Common.{◌≡◌, ◌≢◌, ◌<◌, ◌≤◌, ◌+◌, ℕ, List, [], ◌∷◌, ◌++◌, ap, append_assoc, arith, length, length-append, refl, subst, sym, ◌∙◌}
+use Rattle.std.proofs.Common.{◌≡◌, ◌≢◌, ◌<◌, ◌≤◌, ℕ, List, [], ◌∷◌, ◌++◌, ap, append_assoc, arith, length, length-append, refl, subst, sym, ◌∙◌}
 use Rattle.std.proofs.lemmas.List.{get_or_append_left}
 use Rattle.std.specs.Prelude.{get_or}
 use Rattle.gixobj_fields.specs.HeaderText.{EndsHeader}
-use Rattle.gixobj_hash.specs.Hash.{hash_len, id_bytes, id_kind}
+use Rattle.gixobj_hash.specs.Hash.{hash_len, id_bytes}
 use Rattle.gixobj_hash.specs.declared.hash.kind.Kind.{Kind}
 use Rattle.gixobj_hash.specs.declared.hash.kind.Kind.TheVariants as hash
 use Rattle.gixobj_hash.specs.declared.hash.object_id.ObjectId.{ObjectId}
@@ -12,8 +12,8 @@ use Rattle.gixobj_hash.proofs.Splits.{free_of_cut, one_cut}
 use Rattle.gixobj_hash.specs.Texts.{IsFree, SplitsAt}
 use Rattle.gixobj_tree.proofs.ModeTexts.{octal_free, one_ending}
 use Rattle.gixobj_tree.specs.Entries.{EntryView, entry_of}
-use Rattle.gixobj_tree.specs.Mode.{BeginsWithMode, EndsMode, KeepsByteSix, ReadsAsMode, mode_of_digits}
-use Rattle.gixobj_tree.specs.TreeReading.{BeginsWithEntry, BeginsWithId, BeginsWithNoEntry, IsEntryText, IsIdOf}
+use Rattle.gixobj_tree.specs.Mode.{BeginsWithMode, KeepsByteSix, ReadsAsMode, mode_of_digits}
+use Rattle.gixobj_tree.specs.TreeReading.{BeginsWithEntry, BeginsWithId, BeginsWithNoEntry, IsIdOf}
 
 -- ---- ids
 
