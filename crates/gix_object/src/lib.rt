@@ -1,6 +1,6 @@
 //! Git's objects as plain bytes, and an editor of trees.
 //!
-//! It hands on what the crates below have for users: ids, kinds, loose headers, actors and times, trees, blobs,
+//! It re-exports what the crates below have for users: ids, kinds, loose headers, actors and times, trees, blobs,
 //! commits, tags and objects of any kind, how they are read and written, how they are looked up in stores and kept
 //! by them, in [`signature`] how they are signed and verified by other programs, in [`tree::editor`] the editor of nested
 //! trees, with whole runs of it, and in [`import`] histories imported from lists of edits.

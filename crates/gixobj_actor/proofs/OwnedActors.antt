@@ -1,4 +1,4 @@
--- Actors of lines that are made owned, and written.
+-- Actors of lines that are copied, and written.
 use Rattle.std.proofs.Common.{ℕ, List, refl}
 use Rattle.bstr.specs.Owned.{bstring_bytes}
 use Rattle.gixobj_actor.specs.Actor.{IsOwnedActor}

@@ -1,7 +1,7 @@
 //! Git's objects as bytes, the ground floor: object ids, the kinds of objects, the header of a loose
 //! object, actors and times, read and written; trees and blobs, written.
 //!
-//! It has no code: it hands on what the crates below it have, under the names by which users know it.
+//! It has no code: it re-exports what the crates below it have, under the names by which users know it.
 //! Their modules are [`gixobj_hash`], [`gixobj_fields`], [`gixobj_actor`] and [`gixobj_tree`].
 #![tactic(auto)]
 

@@ -1,4 +1,4 @@
-//! Want of memory, in the errors of calls that meet it in another one.
+//! Out of memory, in the errors of calls that meet it in another one.
 
 use gixobj_base::decode::LooseHeaderDecodeError;
 use gixobj_base::{decode, encode, kind};

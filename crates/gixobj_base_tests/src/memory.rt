@@ -1,4 +1,4 @@
-//! Want of memory, and the texts of errors.
+//! Out of memory, and the texts of errors.
 
 use gixobj_base::tree::Tree;
 use gixobj_base::{Kind, OutOfMemory, decode, kind, stream_hash};

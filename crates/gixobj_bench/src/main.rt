@@ -1,5 +1,5 @@
 //! Measures the public calls. `gixobj_bench bench FILE ROUNDS` over the objects of a file, a row for each piece of
-//! work and each kind of object: read whole, told piece by piece, written, sized, made owned, digested, looked up, and
+//! work and each kind of object: read whole, piece by piece, written, sized, copied, digested, looked up, and
 //! the messages of commits. `gixobj_bench bodies ROUNDS` over bodies of messages that it makes, of up to a million
 //! lines. `gixobj_bench editor ROUNDS` over trees that it makes: files put in, and the trees written.
 #![tactic(auto)]

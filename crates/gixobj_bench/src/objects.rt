@@ -40,7 +40,7 @@ pub(crate) fn measure_all<R: Clock + Print + AllocGlobal>(
     Ok(())
 }
 
-/// Measures all work on the objects of a kind. All are read before any is made owned.
+/// Measures all work on the objects of a kind. All are read before any is copied.
 fn measure_kind<R: Clock + Print + AllocGlobal>(
     rt: &R,
     rounds: u32,

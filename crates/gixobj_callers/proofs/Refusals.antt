@@ -19,7 +19,7 @@ use Rattle.gix_object.specs.hash.hash.object_id.ObjectId.{ObjectId}
 use Rattle.gixobj_callers.specs.Copies.{FailsForPart, FailsForRoom}
 use Rattle.gixobj_callers.specs.declared.store.CopyError.TheVariants.{Read, Write}
 
--- what refuses a commit's text is want of memory
+-- what refuses a commit's text is out of memory
 pub unread : (kind : Kind) (text : List ℕ) (commit : CommitLines) (error : Error) → RefusesCommit kind text error → IsCommitText kind text commit → FailsForRoom (Read error)
 unread kind text commit Malformed refused is = refused commit is
 unread kind text commit OutOfMemory refused is = tt
@@ -49,7 +49,7 @@ part_refused commit before after text (written.NullbyteInFilename name) fails = 
 part_refused commit before after text written.IllegalActor fails = fails
 part_refused commit before after text written.OutOfMemory fails = fails
 
--- what refuses a message that is there is want of memory
+-- what refuses a message that is there is out of memory
 pub message_refused : (reader : CommitRefIter) (error : Error) → (FindsTokenFault IsMessageToken reader Malformed → ⊥) → FindsTokenFault IsMessageToken reader error → error ≡ OutOfMemory
 message_refused reader Malformed has fault = absurd (has fault)
 message_refused reader OutOfMemory has fault = refl
@@ -72,7 +72,7 @@ same_id a b same = cc same
 pub no_error : (error : Error) (id : ObjectId) → ◌≡◌ {A = Result ObjectId Error} (Err error) (Ok id) → ⊥
 no_error error id same = cc same
 
--- what refuses a tree's text is want of memory
+-- what refuses a tree's text is out of memory
 pub tree_unread : (kind : Kind) (text : List ℕ) (entries : List EntryView) (error : Error) → RefusesTreeText kind text error → IsTreeText kind text entries → FailsForRoom (Read error)
 tree_unread kind text entries Malformed refused is = refused entries is
 tree_unread kind text entries OutOfMemory refused is = tt

@@ -42,7 +42,7 @@ pub fn is_tree(text: &[u8], kind: Kind) -> bool
 }
 
 /// A tree that was written and read again: the same one. Where each of its entries is read as it is
-/// written, it is refused only for want of memory or room.
+/// written, it is refused only because memory or room ran out.
 pub fn read_back(alloc: Global, tree: &Tree, kind: Kind) -> Result<Tree, CopyError>
     ensures same { IfOk result (λ back. All (ReadsBack kind) tree.now → back ≡ tree.now) }
     ensures room { IfErr result (λ error. All (ReadsBack kind) tree.now → FailsForRoom error) }

@@ -56,7 +56,7 @@ pub enum AuditError {
     /// It is neither a commit nor a tag. No call was made.
     #[error("neither a commit nor a tag")]
     NoRelease,
-    /// No signature is found, since a line before it can't be read, or for want of memory. No call was made.
+    /// No signature is found, since a line before it can't be read, or because memory ran out. No call was made.
     #[error("not read: {0}")]
     Read(decode::Error),
     /// The signature isn't verified.

@@ -34,7 +34,7 @@ pub enum CopyError {
 }
 
 /// Reads a commit and writes it: a text whose ids are in lower case comes back as it was. Of the text of a
-/// commit whose encoding isn't empty it is refused only for want of memory or room.
+/// commit whose encoding isn't empty it is refused only because memory or room ran out.
 pub fn copy_of(alloc: Global, text: &[u8], kind: Kind) -> Result<Vec<u8>, CopyError>
     ensures same { IfOk result (λ copy. (commit : CommitLines) → IsCommitText kind text.now commit
         → AllPass is_lower_hex_digit commit.tree
@@ -57,7 +57,7 @@ pub fn copy_of(alloc: Global, text: &[u8], kind: Kind) -> Result<Vec<u8>, CopyEr
 }
 
 /// Reads a tree and writes it: a text in which each mode stands as it is written comes back as it was. Of
-/// the text of a tree it is refused only for want of memory or room.
+/// the text of a tree it is refused only because memory or room ran out.
 pub fn tree_copy_of(alloc: Global, text: &[u8], kind: Kind) -> Result<Vec<u8>, CopyError>
     ensures same { IfOk result (λ copy. (entries : List EntryView)
         → HasOwnModes kind text.now entries → copy.items ≡ text.now) }

@@ -26,7 +26,7 @@ pub struct Upload {
 /// What has to be uploaded for the files of an editor. `out` answers the id of each tree that goes out. The editor goes on
 /// with these files, and its root alone is open then.
 ///
-/// `Out` where `out` refused a tree, `OutOfMemory` where memory was wanting, which is taken for what goes out. A refusal
+/// `Out` where `out` refused a tree, `OutOfMemory` where memory ran out, which is taken for what goes out. A refusal
 /// leaves the editor as it was, and what `out` was asked so far stands.
 pub fn upload_of<S, E, F: FnMut(&Tree) -> Result<ObjectId, E>>(
     editor: &mut Editor<S>,

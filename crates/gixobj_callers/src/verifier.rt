@@ -24,7 +24,7 @@ pub struct BothReadings<'a> {
     pub name: BStr<'a>,
 }
 
-/// Reads a tag whole, and has its target and its name told token by token: both readers agree on them, and
+/// Reads a tag whole, and has its target and its name read token by token: both readers agree on them, and
 /// there is no answer exactly where the text is no tag's. It takes no memory.
 pub fn read_both_ways(text: &[u8], kind: Kind) -> Option<BothReadings<'_>>
     ensures tag { IfSome result (λ it. IsTagText kind text.now (tag_lines it.tag)) }

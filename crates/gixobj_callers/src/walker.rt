@@ -35,7 +35,7 @@ pub fn parents_of(alloc: Global, text: &[u8], kind: Kind) -> Result<Vec<ObjectId
     Ok(ids)
 }
 
-/// The message of a commit. Of a commit's text it is refused only for want of memory.
+/// The message of a commit. Of a commit's text it is refused only because memory ran out.
 pub fn message_of<'a>(alloc: Global, text: &'a [u8], kind: Kind) -> Result<BStr<'a>, Error>
     ensures message { IfOk result (λ message. (commit : CommitLines)
         → IsCommitText kind text.now commit → bstr_bytes message ≡ commit.message) }

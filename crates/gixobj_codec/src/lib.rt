@@ -1,7 +1,7 @@
-//! Git's trees, commits and tags, read and written: whole, or told piece by piece (gitdatamodel, "trees",
+//! Git's trees, commits and tags, read and written: whole, or read piece by piece (gitdatamodel, "trees",
 //! "commits", "tag objects"); objects of any kind; and what a store of objects is.
 //!
-//! It has no code: it hands on what the crates below it have, under the names by which users know it.
+//! It has no code: it re-exports what the crates below it have, under the names by which users know it.
 #![tactic(auto)]
 
 pub mod commit;

@@ -1,4 +1,4 @@
-//! Commits, read whole and told token by token, and written. What is read, told and written of texts is
+//! Commits, read whole and token by token, and written. What is read, told and written of texts is
 //! compared by `gixobj_replay`.
 
 mod growths;

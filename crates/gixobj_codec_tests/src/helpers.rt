@@ -52,7 +52,7 @@ pub(crate) fn stops<T: WriteTo>(alloc: Global, object: &T, text: &[u8]) -> bool
 pub(crate) enum Answer {
     /// The answer with ample memory.
     Whole,
-    /// Want of memory, where it may be answered.
+    /// Out of memory, where it may be answered.
     WithoutMemory,
     /// Another answer.
     Other,

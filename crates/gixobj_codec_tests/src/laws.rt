@@ -1,4 +1,4 @@
-//! A commit read, told, made owned and written, by the calls of which laws speak.
+//! A commit read, told, copied and written, by the calls of which laws speak.
 
 use crate::commit::SIGNED;
 use gixobj_base::WriteTo;

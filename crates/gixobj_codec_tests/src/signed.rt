@@ -58,7 +58,7 @@ fn runner_of(alloc: Global, payload: &[u8], signature: &[u8]) -> Result<Played, 
     Ok(Played { alloc, steps })
 }
 
-/// What a refused signing is: for want of memory it is refused as that, or the object wasn't made owned or written.
+/// What a refused signing is: where memory ran out it is refused as that, or the object wasn't copied or written.
 fn of_refusal(error: &Error) -> Answer {
     match error {
         Error::OutOfMemory

@@ -70,7 +70,7 @@ module _ (commit other : Commit) (others : other ≡ record commit { extra_heade
       subst (λ (it : List ℕ). RefusesWriting (RefusesOwnedCommit other) before after it cause) (ap commit_text kept_lines) why in
       inr (cause, refl, (before, after, subst (λ (it : Refused → List ℕ → Type 0). RefusesWriting it before after (payload_of_commit (id_kind commit.tree) (owned_commit_lines commit)) cause) refuses_same of_text), refl)
 
--- what comes of signing a commit that was made owned
+-- what comes of signing a commit that was copied
 module _ {S : Type 0} (runs : S → CallView → Answer → S → Type 0) (options : Options) (lines : CommitLines) (commit : Commit) (owned : IsOwnedFormOfCommit lines commit) (old new : S) where
   pub signed_copy : (result : Result Commit Error) → IfOk result (IsSignedCommit runs options commit old new) → IfOk result (IsSignedCommitCopy runs options lines old new)
   signed_copy (Ok it) is = (commit, owned, is)

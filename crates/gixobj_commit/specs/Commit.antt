@@ -85,7 +85,7 @@ pub record ReachesSecondParent (kind : Kind) (text : List ℕ) : Type 0 where
 abbrev pub ReachesHeader : Kind → List ℕ → Type 0
 ReachesHeader kind text = (commit : CommitLines) × (rest : List ℕ) × BeginsCommit kind text commit rest × (commit.extra_headers ≢ [])
 
--- why no commit is read: the text is none's, or memory was wanting, which a second parent and extra headers alone take
+-- why no commit is read: the text is none's, or memory ran out, which a second parent and extra headers alone take
 abbrev pub RefusesCommit : Kind → List ℕ → Error → Type 0
 RefusesCommit kind text Malformed = IsNoCommitText kind text
 RefusesCommit kind text OutOfMemory = ReachesSecondParent kind text ⊎ ReachesHeader kind text

@@ -30,7 +30,7 @@ pub record IsOwnedFormOfCommit (lines : CommitLines) (commit : Commit) : Type 0 
   pub message : bstring_bytes commit.message ≡ lines.message
   pub extra_headers : map owned_header_of commit.extra_headers.items ≡ lines.extra_headers
 
--- why a commit gets no parts of its own: a line of an actor is none, or memory was wanting
+-- why a commit gets no parts of its own: a line of an actor is none, or memory ran out
 abbrev pub RefusesOwningCommit : CommitLines → Error → Type 0
 RefusesOwningCommit lines Malformed = IsNoActor lines.author ⊎ IsNoActor lines.committer
 RefusesOwningCommit lines OutOfMemory = NamesActor lines.author × NamesActor lines.committer

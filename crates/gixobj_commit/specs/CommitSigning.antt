@@ -67,7 +67,7 @@ RefusesSigningCommit runs options commit old new error =
     ⊎ ((cause : encode.Error) × (error ≡ sign.Encode cause)
     × RefusesWritingCommit commit (payload_of_commit (id_kind commit.tree) (owned_commit_lines commit)) cause × (new ≡ old))
 
--- the same of a commit that is first made owned
+-- the same of a commit that is first copied
 abbrev pub IsSignedCommitCopy : {S : Type 0} → (S → CallView → Answer → S → Type 0) → Options → CommitLines → S → S → Commit → Type 0
 IsSignedCommitCopy runs options lines old new signed = (commit : Commit) × IsOwnedFormOfCommit lines commit × IsSignedCommit runs options commit old new signed
 

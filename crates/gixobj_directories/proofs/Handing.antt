@@ -119,7 +119,7 @@ stopped_after gave refused P Q old mid new ps calls goes write.OutOfMemory s =
     joined : (before rest more : List Pair) → ps ++ ((before ++ rest) ++ more) ≡ (ps ++ before) ++ (rest ++ more)
     joined before rest more = rw (append_assoc, append_assoc) refl
 
--- memory was wanting after these calls
+-- memory ran out after these calls
 pub stopped_here : {F E : Type 0} (gave : F → Pair → F → Type 0) (refused : F → List EntryView → E → F → Type 0) (Q : List Pair → Type 0) (old new : F) (ps rest : List Pair)
     → FoldsTo gave old ps new → Q (ps ++ rest) → (error : WriteError E) → error ≡ write.OutOfMemory → Stopped gave refused Q old new error
 stopped_here {F} {E} gave refused Q old new ps rest calls goes error is = subst (Stopped gave refused Q old new) (sym is) (ps, rest, calls, goes)

@@ -24,7 +24,7 @@ abbrev pub kept_with : EntryView → Option ObjectId → List EntryView
 kept_with e None = []
 kept_with e (Some id) = entry_with e id
 
--- a write stopped: calls were answered for the first pairs of what goes out, and then one was refused, or memory was wanting
+-- a write stopped: calls were answered for the first pairs of what goes out, and then one was refused, or memory ran out
 abbrev pub Stopped : {F E : Type 0} → (F → Pair → F → Type 0) → (F → List EntryView → E → F → Type 0) → (List Pair → Type 0) → F → F → WriteError E → Type 0
 Stopped {F} gave refused goes_out old new (write.Out e) =
     (before : List Pair) × (tree : List EntryView) × (asked : F) × FoldsTo gave old before asked × refused asked tree e new

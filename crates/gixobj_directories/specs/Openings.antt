@@ -38,7 +38,7 @@ OfTrees objects P = (trees : Trees) → AreTreesOf objects trees → P trees
 abbrev pub NamesMalformed : Objects → ObjectId → Type 0
 NamesMalformed objects id = (entries : List EntryView) × NamesSuch objects id Tree (λ hash text. IsTreeText hash text entries) × (¬ IsWellFormed entries)
 
--- a refused lookup, where want of memory stands apart
+-- a refused lookup, where out of memory stands apart
 abbrev pub refusal_of : found.Error → Error
 refusal_of (object.Find (find.Store message)) = opening.FindExistingObject (object.Find (find.Store message))
 refusal_of (object.Find find.OutOfMemory) = opening.OutOfMemory
@@ -47,13 +47,13 @@ refusal_of (object.Decode id decode.OutOfMemory) = opening.OutOfMemory
 refusal_of (object.NotFound id) = opening.FindExistingObject (object.NotFound id)
 refusal_of (object.ObjectKind id actual expected) = opening.FindExistingObject (object.ObjectKind id actual expected)
 
--- why the directory of an id isn't opened: its lookup was refused, or its tree isn't well-formed, or memory was wanting
+-- why the directory of an id isn't opened: its lookup was refused, or its tree isn't well-formed, or memory ran out
 abbrev pub RefusesDirectory : Objects → (ObjectId → Bool) → ObjectId → Error → Type 0
 RefusesDirectory objects may_fail id (opening.FindExistingObject cause) = RefusesObject objects may_fail Tree id cause × (refusal_of cause ≡ opening.FindExistingObject cause)
 RefusesDirectory objects may_fail id opening.MalformedTree = NamesMalformed objects id
 RefusesDirectory objects may_fail id opening.OutOfMemory = ⊤
 
--- why an opening came to a halt: for the id that was asked for in vain, or for want of memory
+-- why an opening came to a halt: for the id that was asked for in vain, or because memory ran out
 abbrev pub RefusesAt : Objects → (ObjectId → Bool) → Option ObjectId → Error → Type 0
 RefusesAt objects may_fail (Some id) error = RefusesDirectory objects may_fail id error
 RefusesAt objects may_fail None error = error ≡ opening.OutOfMemory

@@ -182,7 +182,7 @@ impl Open {
     /// Each lookup is counted in `lookups`, which stays at the greatest `u64`.
     ///
     /// `FindExistingObject` or `MalformedTree` for the first directory that the store doesn't have as a
-    /// well-formed tree, or whose lookup fails; `OutOfMemory` where memory was wanting. What was opened on
+    /// well-formed tree, or whose lookup fails; `OutOfMemory` where memory ran out. What was opened on
     /// the way stays open.
     pub fn open_along<S: Find>(
         &mut self,

@@ -260,7 +260,7 @@ fn keep_subtree(
 /// and none for an unchanged directory below it.
 ///
 /// `Out` with its refusal where `out` refused a tree, and then it is asked for no other;
-/// `OutOfMemory` where memory was wanting. A refusal leaves what is open as it was; `out` may have
+/// `OutOfMemory` where memory ran out. A refusal leaves what is open as it was; `out` may have
 /// been called by then.
 pub fn write_all<E, F: FnMut(&Tree) -> Result<ObjectId, E>>(
     alloc: Global,

@@ -34,7 +34,7 @@ from_root prefix [] = []
 from_root prefix (name ∷ path) = prefix ++ name ∷ path
 
 -- why no cursor is made at a path: for the first name that no entry may have; else for an unopened directory at or above the path,
--- which the store doesn't have as a well-formed tree, or whose lookup fails; or for want of memory, where there are names
+-- which the store doesn't have as a well-formed tree, or whose lookup fails; or because memory ran out, where there are names
 abbrev pub RefusesCursor : Objects → (ObjectId → Bool) → Trees → Dirs → Path → Error → Type 0
 RefusesCursor objects may_fail trees dirs path error.EmptyPathComponent = RefusesNames path error.EmptyPathComponent
 RefusesCursor objects may_fail trees dirs path error.SlashInPathComponent = RefusesNames path error.SlashInPathComponent

@@ -35,7 +35,7 @@ abbrev pub RefusesOnTheWay : Objects → (ObjectId → Bool) → Trees → Dirs 
 RefusesOnTheWay objects may_fail trees dirs path cause = (it : ObjectId) × (h : IsUnopenedAbove trees dirs path it) × AreNames h.place × RefusesDirectory objects may_fail it cause
 
 -- why a removal is refused, in the order of its way from the root: for a name that no entry may have; for an unopened directory,
--- which the store doesn't have as a well-formed tree, or whose lookup fails; or for want of memory, where a directory is to be opened
+-- which the store doesn't have as a well-formed tree, or whose lookup fails; or because memory ran out, where a directory is to be opened
 abbrev pub RefusesRemoval : (EntryView → Type 0) → Objects → (ObjectId → Bool) → Trees → Dirs → Path → Error → Type 0
 RefusesRemoval Ends objects may_fail trees dirs path error.EmptyPathComponent = RefusesOne Ends trees dirs path error.EmptyPathComponent
 RefusesRemoval Ends objects may_fail trees dirs path error.SlashInPathComponent = RefusesOne Ends trees dirs path error.SlashInPathComponent

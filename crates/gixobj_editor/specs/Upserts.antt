@@ -60,7 +60,7 @@ abbrev pub RefusesAbove : Objects → (ObjectId → Bool) → Trees → Dirs →
 RefusesAbove objects may_fail trees dirs path cause = AreNames path × RefusesUnopened objects may_fail trees dirs path cause
 
 -- why an upsert is refused: for the first name that no entry may have; else for an unopened directory above the path, which the
--- store doesn't have as a well-formed tree, or whose lookup fails; or for want of memory
+-- store doesn't have as a well-formed tree, or whose lookup fails; or because memory ran out
 abbrev pub RefusesUpsert : Objects → (ObjectId → Bool) → Trees → Dirs → Path → Error → Type 0
 RefusesUpsert objects may_fail trees dirs path error.EmptyPathComponent = RefusesNames path error.EmptyPathComponent
 RefusesUpsert objects may_fail trees dirs path error.SlashInPathComponent = RefusesNames path error.SlashInPathComponent

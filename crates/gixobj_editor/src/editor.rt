@@ -204,7 +204,7 @@ impl<S: Find> Editor<S> {
     ///
     /// `EmptyPathComponent` or `SlashInPathComponent` for the first name that no entry may have;
     /// else `FindExistingObject` or `MalformedTree` for the first directory that the store doesn't
-    /// have as a well-formed tree, or whose lookup fails; `OutOfMemory` where memory was wanting.
+    /// have as a well-formed tree, or whose lookup fails; `OutOfMemory` where memory ran out.
     /// A refusal leaves the files as they were; what was opened on the way stays open.
     pub fn try_upsert(
         &mut self,
@@ -245,7 +245,7 @@ impl<S: Find> Editor<S> {
     /// `EmptyPathComponent` or `SlashInPathComponent` for a name that no entry may have, and
     /// `FindExistingObject` or `MalformedTree` for a directory that the store doesn't have as a
     /// well-formed tree, or whose lookup fails, whichever comes first on the way from the root;
-    /// `OutOfMemory` where memory was wanting, which is taken only where a directory is opened. A
+    /// `OutOfMemory` where memory ran out, which is taken only where a directory is opened. A
     /// refusal leaves the files as they were; what was opened on the way stays open.
     pub fn try_remove(&mut self, path: &[BString]) -> Result<(), Error>
         ensures removed { OnOk result (OfTrees (S.objects self.old.store)
@@ -312,7 +312,7 @@ impl<S: Clone> Editor<S> {
     /// the next write.
     ///
     /// It takes memory for each open directory, for its entries and those that it was opened with,
-    /// and for the names of the newest cursor's path. `OutOfMemory` where memory was wanting.
+    /// and for the names of the newest cursor's path. `OutOfMemory` where memory ran out.
     pub fn clone(&self) -> Result<Editor<S>, OutOfMemory>
         requires { (copied : S) → S.is_clone self.now.store copied → copied ≡ self.now.store }
         ensures { IfOk result (λ it. it ≡ self.now) }
@@ -363,7 +363,7 @@ impl<S> Editor<S> {
     /// It takes memory for the trees that go out, for the list of them and for a copy of the
     /// root's, and none for an unchanged directory. It looks nothing up.
     ///
-    /// `Out` where `out` refused a tree, `OutOfMemory` where memory was wanting; the editor is as
+    /// `Out` where `out` refused a tree, `OutOfMemory` where memory ran out; the editor is as
     /// it was, and what `out` was asked so far stands.
     pub fn try_write<E, F: FnMut(&Tree) -> Result<ObjectId, E>>(
         &mut self,

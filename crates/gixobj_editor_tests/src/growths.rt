@@ -12,7 +12,7 @@ use gixobj_find::Memory;
 use std::alloc::Global;
 use std::test::Fail;
 
-/// Puts a file in, and once more where memory was wanting.
+/// Puts a file in, and once more where memory ran out.
 fn put(editor: &mut Editor<Memory>, path: &[BString]) -> Result<(), Error> {
     match samples::put(editor, path, FILE) {
         Err(Error::OutOfMemory) => samples::put(editor, path, FILE),
@@ -71,7 +71,7 @@ fn try_put_at(
     cursor.try_remove(&[])
 }
 
-/// The same, and once more where memory was wanting.
+/// The same, and once more where memory ran out.
 fn put_at(
     editor: &mut Editor<Memory>,
     directory: &[BString],
@@ -83,7 +83,7 @@ fn put_at(
     }
 }
 
-/// Whether a cursor at a stored directory keeps its file beside a new one. None for want of memory before its edits.
+/// Whether a cursor at a stored directory keeps its file beside a new one. None where memory ran out before its edits.
 fn cursor_keeps(alloc: Global) -> Option<bool> {
     let mut editor = stored_file(alloc, &[b"a", b"b"]).ok()?;
     let directory = path_of(alloc, b"a").ok()?;

@@ -58,7 +58,7 @@ pub(crate) fn empty_editor(alloc: Global) -> Editor<Memory> {
     Editor::new(Tree::empty(alloc), Memory::new(alloc), HashKind::Sha1)
 }
 
-/// A tree of one entry, put into a store with its id. None for want of memory.
+/// A tree of one entry, put into a store with its id. None where memory ran out.
 fn stored_tree(
     alloc: Global,
     store: &mut Memory,

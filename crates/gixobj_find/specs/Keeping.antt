@@ -23,7 +23,7 @@ abbrev pub with_trees : List Pair → Objects → Objects
 with_trees [] objects = objects
 with_trees (it ∷ trees) objects = with_trees trees (with_tree it objects)
 
--- why a tree isn't kept: the store failed, and lookups of this id may fail, or the tree can't be written; or memory was wanting
+-- why a tree isn't kept: the store failed, and lookups of this id may fail, or the tree can't be written; or memory ran out
 abbrev pub RefusesKeep : (ObjectId → Bool) → ObjectId → List EntryView → KeepError → Type 0
 RefusesKeep may_fail id entries (Store message) = IsTrue (may_fail id) ⊎ HasNoText entries
 RefusesKeep may_fail id entries OutOfMemory = ⊤
@@ -46,7 +46,7 @@ commit_object id bytes = record { kind = Commit; object_hash = id_kind id; bytes
 abbrev pub with_commit : ObjectId → List ℕ → Objects → Objects
 with_commit id bytes objects = map.insert objects id (commit_object id bytes)
 
--- why a commit isn't kept: the store failed, and lookups of this id may fail; or memory was wanting
+-- why a commit isn't kept: the store failed, and lookups of this id may fail; or memory ran out
 abbrev pub RefusesKeepCommit : (ObjectId → Bool) → ObjectId → KeepError → Type 0
 RefusesKeepCommit may_fail id (Store message) = IsTrue (may_fail id)
 RefusesKeepCommit may_fail id OutOfMemory = ⊤

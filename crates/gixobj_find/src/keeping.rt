@@ -62,7 +62,7 @@ pub trait Keep: Find {
     /// what the id named before.
     ///
     /// `Store` only for an id whose lookup may fail, or for a tree that can't be written, with the store's own
-    /// message, and `OutOfMemory` where memory was wanting; the store means what it did. For which ids a lookup may
+    /// message, and `OutOfMemory` where memory ran out; the store means what it did. For which ids a lookup may
     /// fail never changes.
     fn keep(&mut self, id: ObjectId, tree: &Tree) -> Result<(), KeepError>
         ensures kept { OnOk result (Self.objects self.new
@@ -80,7 +80,7 @@ pub trait KeepCommit: Find {
     /// what the id named before. The bytes aren't judged.
     ///
     /// `Store` only for an id whose lookup may fail, with the store's own message, and
-    /// `OutOfMemory` where memory was wanting; the store means what it did. For which ids a lookup
+    /// `OutOfMemory` where memory ran out; the store means what it did. For which ids a lookup
     /// may fail never changes.
     fn keep_commit(&mut self, id: ObjectId, bytes: &[u8]) -> Result<(), KeepError>
         ensures kept { OnOk result (Self.objects self.new

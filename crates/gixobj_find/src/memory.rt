@@ -78,7 +78,7 @@ impl Store for Memory {
     ghost may_fail = { λ store id. false };
 }
 
-/// No lookup fails, but for want of memory to copy an object that is there.
+/// No lookup fails, but where memory ran out to copy an object that is there.
 impl Find for Memory {
     #[tactic(auto, using(crate::proofs::Objects::kept))]
     fn try_find<'a>(
@@ -127,7 +127,7 @@ impl Exists for Memory {
     }
 }
 
-/// Only a tree with a zero byte in a name can't be kept, but for want of memory.
+/// Only a tree with a zero byte in a name can't be kept, but where memory ran out.
 impl Keep for Memory {
     fn keep(&mut self, id: ObjectId, tree: &Tree) -> Result<(), KeepError> {
         let mut bytes = Vec::new(self.alloc);
@@ -145,7 +145,7 @@ impl Keep for Memory {
     }
 }
 
-/// A commit is kept, but for want of memory.
+/// A commit is kept, but where memory ran out.
 impl KeepCommit for Memory {
     fn keep_commit(&mut self, id: ObjectId, bytes: &[u8]) -> Result<(), KeepError> {
         let commit = Stored {
@@ -158,7 +158,7 @@ impl KeepCommit for Memory {
     }
 }
 
-/// Why a tree that wasn't written isn't kept: for a name of it, or else for want of memory.
+/// Why a tree that wasn't written isn't kept: for a name of it, or else because memory ran out.
 fn unwritten(alloc: Global, error: encode::Error) -> KeepError
     ensures { IsForAValue error ⊎ (result ≡ KeepError.OutOfMemory) }
 {

@@ -1,4 +1,4 @@
-//! Lookups where a growth is refused on the way: they answer want of memory inside the fault of their own, and what
+//! Lookups where a growth is refused on the way: they answer out of memory inside the fault of their own, and what
 //! they answer with memory when they are asked again.
 
 use crate::existing::{Answer, found, found_reader, store_of};

@@ -1,4 +1,4 @@
-//! Want of memory, where nothing else is refused.
+//! Out of memory, where nothing else is refused.
 use std::alloc::{AllocError, AllocFailed};
 
 /// There was no memory. It is the error of calls that refuse nothing else.

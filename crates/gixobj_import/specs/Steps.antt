@@ -32,7 +32,7 @@ over_store importer store = record importer { editor = with_store importer.edito
 abbrev pub HaveHex : hash.Kind → List ObjectId → Type 0
 HaveHex hash ids = All (λ id. IsHexOf hash (hex_text id)) ids
 
--- why a step's commit has no written bytes: an actor can't be written, or memory was wanting
+-- why a step's commit has no written bytes: an actor can't be written, or memory ran out
 abbrev pub RefusesStepText : Step → ImportError → Type 0
 RefusesStepText step (import.Commit error) = (error ≡ IllegalActor) × (¬ (IsLegal step.author) ⊎ ¬ (IsLegal step.committer))
 RefusesStepText step import.OutOfMemory = ⊤

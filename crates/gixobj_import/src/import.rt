@@ -64,7 +64,7 @@ pub enum ImportError {
         /// Why it was refused.
         error: Error,
     },
-    /// The trees weren't written: one has a name with a zero byte, or memory was wanting.
+    /// The trees weren't written: one has a name with a zero byte, or memory ran out.
     #[error("not written: {0}")]
     Write(WriteError<encode::Error>),
     /// The store didn't keep a tree, or the commit.

@@ -68,7 +68,7 @@ IsOwnedObject (object.Commit commit) (own.Commit copy) = IsOwnedCommit (commit_l
 IsOwnedObject (object.Tag tag) (own.Tag copy) = IsOwnedTag (tag_lines tag) copy
 IsOwnedObject _ _ = ⊥
 
--- why an object gets no parts of its own: why its commit or its tag gets none, or memory was wanting, which a tree without entries doesn't take
+-- why an object gets no parts of its own: why its commit or its tag gets none, or memory ran out, which a tree without entries doesn't take
 abbrev pub RefusesOwningObject : ObjectRef → Error → Type 0
 RefusesOwningObject (object.Tree tree) error = (error ≡ OutOfMemory) × (tree_entries tree ≢ [])
 RefusesOwningObject (object.Blob blob) error = error ≡ OutOfMemory

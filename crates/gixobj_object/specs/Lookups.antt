@@ -71,7 +71,7 @@ IsAtPath objects first names None = (e : EntryView) → ¬ LeadsTo objects first
 abbrev pub LeadsOn : Objects → Option StoredObject → List Name → EntryView → Type 0
 LeadsOn objects first names e = (begun more : List Name) × (names ≡ begun ++ more) × (more ≢ []) × LeadsTo objects first begun e
 
--- why no path is followed: the lookup failed of an id of an entry on it, which may fail; or memory was wanting, which is taken where the first name is found
+-- why no path is followed: the lookup failed of an id of an entry on it, which may fail; or memory ran out, which is taken where the first name is found
 abbrev pub RefusesPath : Objects → (ObjectId → Bool) → Option StoredObject → List Name → Error → Type 0
 RefusesPath objects may_fail first names (Store message) = (e : EntryView) × LeadsOn objects first names e × IsTrue (may_fail e.id)
 RefusesPath objects may_fail first names OutOfMemory = (name : Name) × (more : List Name) × (e : EntryView) × (names ≡ name ∷ more) × FoundIn first name e

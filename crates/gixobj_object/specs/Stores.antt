@@ -45,7 +45,7 @@ IsFound objects id found = option_map stored found ≡ named objects id
 abbrev pub IsHeaderFound : Objects → ObjectId → Option Header → Type 0
 IsHeaderFound objects id found = found ≡ option_map header (named objects id)
 
--- why a lookup finds nothing: the store failed, and it may fail for this id; or memory was wanting
+-- why a lookup finds nothing: the store failed, and it may fail for this id; or memory ran out
 abbrev pub RefusesFind : (ObjectId → Bool) → ObjectId → Error → Type 0
 RefusesFind may_fail id (Store message) = IsTrue (may_fail id)
 RefusesFind may_fail id OutOfMemory = ⊤

@@ -1,5 +1,5 @@
 //! Objects of any kind, owned and borrowed: read by their kind or as loose objects, taken apart, written. Objects whose
-//! content is not yet read, trees told entry by entry, and what a store of objects is.
+//! content is not yet read, trees read entry by entry, and what a store of objects is.
 #![tactic(auto)]
 
 pub mod data;

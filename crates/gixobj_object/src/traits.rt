@@ -31,7 +31,7 @@ pub trait Find: Store {
     /// The object that the id names, whose content is put into `buffer`, or none where it names none.
     ///
     /// `Store` only for an id whose lookup may fail, with the store's own message, and `OutOfMemory` where
-    /// memory was wanting. Behind an error the buffer may hold anything.
+    /// memory ran out. Behind an error the buffer may hold anything.
     fn try_find<'a>(&self, id: oid<'_>, buffer: &'a mut Vec<u8>) -> Result<Option<Data<'a>>, Error>
         ensures found { IfOk result (IsFound (Self.objects self.now) (borrowed_id id.entry)) }
         ensures refusal { IfErr result (RefusesFind (Self.may_fail self.now)
@@ -43,7 +43,7 @@ pub trait FindHeader: Store {
     /// The kind and the size of the object that the id names, or none where it names none.
     ///
     /// `Store` only for an id whose lookup may fail, with the store's own message, and `OutOfMemory` where
-    /// memory was wanting.
+    /// memory ran out.
     fn try_header(&self, id: oid<'_>) -> Result<Option<Header>, Error>
         ensures found { IfOk result (IsHeaderFound (Self.objects self.now) (borrowed_id id.entry)) }
         ensures refusal { IfErr result (RefusesFind (Self.may_fail self.now)

@@ -1,4 +1,4 @@
-//! Trees told entry by entry (gitdatamodel, "trees").
+//! Trees read entry by entry (gitdatamodel, "trees").
 ghost use Rattle.std.specs.Prelude.{◌≡◌, ◌-◌, [], IfErr, IfOk, length, map};
 ghost use Rattle.gixobj_object.specs.EntryGiving.{GivesEntry, IsAtEntry, IsTail, bytes_left, entries_left};
 ghost use Rattle.gixobj_tree.specs.TreeReading.{IsTreeText, RefusesTreeText};

@@ -1,4 +1,4 @@
-//! The commands `show [sha256]` and `tree [sha256]` of the program `gixobj` alone, which stand on few of its
+//! The commands `show [sha256]` and `tree [sha256]` of the program `gixobj` alone, which depend on few of its
 //! crates and so are soon built.
 #![tactic(auto)]
 

@@ -1,4 +1,4 @@
--- Commits told token by token.
+-- Commits read token by token.
 use Rattle.std.specs.Prelude.{ℕ, List, []}
 use Rattle.bstr.specs.BStr.{bstr_bytes}
 use Rattle.gixobj_actor.specs.Actor.{ActorView, IsActorOf, actor_view}

@@ -1,4 +1,4 @@
--- Tags told token by token.
+-- Tags read token by token.
 use Rattle.std.specs.Prelude.{◌≡◌, ◌≢◌, ℕ, List, [], Option, Some, None, codes}
 use Rattle.bstr.specs.BStr.{bstr_bytes}
 use Rattle.gixobj_actor.specs.Actor.{ActorView, IsActorLineOf, actor_view}

@@ -1,4 +1,4 @@
-//! Commits told token by token.
+//! Commits read token by token.
 ghost use Rattle.std.specs.Prelude.{◌≡◌, MatchOption, None, Some};
 ghost use Rattle.gixobj_hash.specs.Hash.Borrowed.{borrowed_id};
 ghost use Rattle.gixobj_commit.specs.Lines.{HasHex, IsParsedLine, line_view};

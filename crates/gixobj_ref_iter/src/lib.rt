@@ -1,4 +1,4 @@
-//! Commits and tags told token by token, with their signatures found on the way (gitdatamodel, "commits", "tag objects").
+//! Commits and tags read token by token, with their signatures found on the way (gitdatamodel, "commits", "tag objects").
 //! They stand on what reads a line of a commit and a part of a tag, as the readers of whole ones do.
 #![tactic(auto)]
 

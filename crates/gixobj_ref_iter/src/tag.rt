@@ -1,4 +1,4 @@
-//! Tags told token by token.
+//! Tags read token by token.
 ghost use Rattle.std.specs.Prelude.{◌≡◌, ◌≢◌, [], IfErr, IfNone, IfOk, IfSome, MatchOption, None, Some};
 ghost use Rattle.gixobj_fields.specs.Runs.{Ending, HasNoPiece};
 ghost use Rattle.gixobj_hash.specs.Hash.Borrowed.{borrowed_id};

@@ -15,7 +15,7 @@ use gixobj_codec::{Commit, CommitRef};
 use std::alloc::{AllocError, Global};
 pub(crate) use told::token_answer;
 
-/// What the public calls say of a commit that is read whole, written and made owned.
+/// What the public calls say of a commit that is read whole, written and copied.
 pub(crate) fn commit_answer(alloc: Global, question: &[u8]) -> Result<Vec<u8>, AllocError> {
     let bytes = bytes_of(alloc, question);
     let mut columns = Columns::new(alloc);

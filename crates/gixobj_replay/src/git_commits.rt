@@ -1,4 +1,4 @@
-//! Answers about commits in readable words: read whole, told token by token, written and made owned.
+//! Answers about commits in readable words: read whole, token by token, written and copied.
 ghost use Rattle.gixobj_codec.specs.CommitViews.{commit_lines};
 ghost use Rattle.gixobj_codec.specs.CommitWriting.{HasIds};
 

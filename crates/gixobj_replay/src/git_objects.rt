@@ -1,4 +1,4 @@
-//! Answers about loose objects in readable words: read, written, made owned, and read again by their kinds.
+//! Answers about loose objects in readable words: read, written, copied, and read again by their kinds.
 
 use crate::git_commits::{put_written, text_and_ids};
 use crate::loose_objects::case_of;

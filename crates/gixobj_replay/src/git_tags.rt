@@ -18,7 +18,7 @@ use gixobj_text::signature;
 use std::alloc::{AllocError, Global};
 use told::{Told, put_told};
 
-/// What the public calls say of a tag that is read whole, told, written and made owned. The question is
+/// What the public calls say of a tag that is read whole, told, written and copied. The question is
 /// the kind of its ids and its text.
 pub(crate) fn git_tag_answer(alloc: Global, question: &[u8]) -> Result<Vec<u8>, AllocError> {
     let (word, text) = split_at_byte(question, b' ').unwrap_or((question, b""));

@@ -13,7 +13,7 @@ use gixobj_codec::{TreeRef, TreeRefIter};
 use std::alloc::{AllocError, Global};
 use told::{put_beginnings, put_refused, tells};
 
-/// What the public calls say of a text that is read as a tree, told, sought, made owned and written, and of
+/// What the public calls say of a text that is read as a tree, told, sought, copied and written, and of
 /// its beginnings. The question is the text and the kind of its ids.
 pub(crate) fn git_tree_answer(alloc: Global, question: &[u8]) -> Result<Vec<u8>, AllocError> {
     let (bytes, hash_kind) = text_and_kind(alloc, question);

@@ -45,7 +45,7 @@ pub(crate) enum Table {
     Commits,
     /// Sizes of commits.
     CommitSizes,
-    /// Commits told token by token.
+    /// Commits read token by token.
     CommitTokens,
     /// Messages cut into titles and bodies, and their summaries.
     Messages,
@@ -57,7 +57,7 @@ pub(crate) enum Table {
     GitTrailers,
     /// Tags read whole and written.
     Tags,
-    /// Tags told token by token.
+    /// Tags read token by token.
     TagTokens,
     /// Names of tags judged.
     TagNames,
@@ -83,7 +83,7 @@ pub(crate) enum Table {
     Programs,
     /// Trees read whole and written.
     Trees,
-    /// Trees told entry by entry.
+    /// Trees read entry by entry.
     TreeTokens,
     /// Loose objects read and written.
     Objects,

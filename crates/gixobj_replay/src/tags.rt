@@ -19,7 +19,7 @@ use gixobj_text::signature::Format;
 use std::alloc::{AllocError, Global};
 pub(crate) use told::tag_token_answer;
 
-/// What the public calls say of a tag that is read whole, written and made owned.
+/// What the public calls say of a tag that is read whole, written and copied.
 pub(crate) fn tag_answer(alloc: Global, question: &[u8]) -> Result<Vec<u8>, AllocError> {
     let (bytes, hash_kind) = text_and_kind(alloc, question);
     let mut columns = Columns::new(alloc);

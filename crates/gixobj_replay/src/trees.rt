@@ -10,7 +10,7 @@ use gixobj_codec::tree::EntryRef;
 use std::alloc::{AllocError, Global};
 pub(crate) use told::tree_token_answer;
 
-/// What the public calls say of a tree that is read whole, written and made owned.
+/// What the public calls say of a tree that is read whole, written and copied.
 pub(crate) fn tree_answer(alloc: Global, question: &[u8]) -> Result<Vec<u8>, AllocError> {
     let (bytes, hash_kind) = text_and_kind(alloc, question);
     let mut columns = Columns::new(alloc);

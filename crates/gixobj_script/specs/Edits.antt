@@ -51,7 +51,7 @@ pub record IsEdit (hash : hash.Kind) (script text : List ℕ) : Type 0 where
   pub begun : IsNewEditor hash old
   pub told : IsTold memory_means (IsAnsweredDigest hash) hash script old text new
 
--- why nothing is told of a script: its first bad line has this number; or memory was wanting, for a command before any bad line, or where
+-- why nothing is told of a script: its first bad line has this number; or memory ran out, for a command before any bad line, or where
 -- no line is bad
 abbrev pub RefusesEdit : hash.Kind → List ℕ → ScriptError → Type 0
 RefusesEdit hash text (script.BadLine number) = IsFirstBad hash text number

@@ -21,7 +21,7 @@ abbrev pub Edited : List (List ℕ) → Option (List ℕ) → Option (List ℕ) 
 Edited words rest rest' out out' = (text : List ℕ) × IsToldOfInput words rest rest' text × Puts out out' text
 
 -- why nothing is told: the first bad line of the input; the input failed; the output failed, and a front of the text that tells was put; or
--- memory was wanting
+-- memory ran out
 abbrev pub RefusesEditing : List (List ℕ) → Option (List ℕ) → Option (List ℕ) → Type 0 → SinkView → SinkView → Fault → Type 0
 RefusesEditing words rest rest' may_fail out out' (fault.BadLine number) =
     (hash : hash.Kind) × (text : List ℕ) × AsksForEdit words hash × ReadsAll rest rest' text × RefusesEdit hash text (script.BadLine number)

@@ -33,7 +33,7 @@ IsBadLine hash line = (line ≢ []) × HasNoCommand hash line
 abbrev pub PutsLine : hash.Kind → List ℕ → List CommandView → List CommandView → Type 0
 PutsLine hash line old new = (own : List CommandView) × AllZip (IsCommandText hash) (filled_lines (line ∷ [])) own × (new ≡ old ++ own)
 
--- why the line of this number isn't put: it is bad; or memory was wanting for its command
+-- why the line of this number isn't put: it is bad; or memory ran out for its command
 abbrev pub RefusesScriptLine : hash.Kind → ℕ → List ℕ → ScriptError → Type 0
 RefusesScriptLine hash number line (BadLine bad) = (bad ≡ number) × IsBadLine hash line
 RefusesScriptLine hash number line OutOfMemory = HasCommand hash line
@@ -50,7 +50,7 @@ pub record IsReached (hash : hash.Kind) (text : List ℕ) (number : ℕ) (line :
 abbrev pub IsFirstBad : hash.Kind → List ℕ → ℕ → Type 0
 IsFirstBad hash text number = (line : List ℕ) × IsReached hash text number line × IsBadLine hash line
 
--- why a text isn't read: a line is bad; or memory was wanting, which is taken for a command before any bad line
+-- why a text isn't read: a line is bad; or memory ran out, which is taken for a command before any bad line
 abbrev pub RefusesScript : hash.Kind → List ℕ → ScriptError → Type 0
 RefusesScript hash text (BadLine number) = IsFirstBad hash text number
 RefusesScript hash text OutOfMemory = (number : ℕ) × (line : List ℕ) × IsReached hash text number line × HasCommand hash line

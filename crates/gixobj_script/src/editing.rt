@@ -38,7 +38,7 @@ pub fn edit(alloc: Global, script: &[u8], hash: Kind) -> Result<Vec<u8>, ScriptE
 /// has made.
 ///
 /// `BadLine` says which line is the first that is neither empty nor a command's: then nothing is run. `OutOfMemory`
-/// where memory was wanting: for a command before any bad line, or, where no line is bad, for the replies and what
+/// where memory ran out: for a command before any bad line, or, where no line is bad, for the replies and what
 /// is told of them. After that nothing was run, or the whole script was, and there was no memory to tell it.
 pub fn edit_on<S: Keep, E: Drop, F: Fn(&Tree) -> Result<ObjectId, E> + Drop>(
     alloc: Global,

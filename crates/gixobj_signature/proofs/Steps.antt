@@ -23,7 +23,7 @@ answered : {S R : Type 0} (runs : S → CallView → Answer → S → Type 0) (c
 answered runs call next answer s m u whole run left (Some r) t goes = left (Some r) t (answer, m, run, goes)
 answered runs call next answer s m u whole run left None t goes = left None t (inr (answer, m, run, goes))
 
--- a call alone, of which only a failure or a want of memory counts
+-- a call alone, of which only a failure or out of memory counts
 abbrev pub call_alone : CallView → Plan Verified
 call_alone call = ask call (λ answer. on_output answer (λ it. no_more))
 
@@ -88,7 +88,7 @@ module _ {S : Type 0} (runs : S → CallView → Answer → S → Type 0) (by : 
   item_accepted it m outcome run yes_so same =
       tries_accepted runs by ssh signature signed (bstring_bytes item) (map bstring_bytes (drop (k + 1) ps)) last whole s u opened it m run yes_so (Some outcome) m (same, refl)
 
-  -- it was answered, and then memory was wanting
+  -- it was answered, and then memory ran out
   pub item_no_memory : (it : OutputView) (m : S) → runs s (principal_call by ssh signature signed (bstring_bytes item)) (ran it) m → Goes runs whole u None m
   item_no_memory it m run =
       behind_call runs by ssh signature signed (bstring_bytes item) (map bstring_bytes (drop (k + 1) ps)) last whole s u opened it m run None m (begins_at_once runs _ m)

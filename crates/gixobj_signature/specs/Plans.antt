@@ -2,7 +2,7 @@
 use Rattle.std.specs.Prelude.{◌≡◌, ◌⊎◌, Option, Some, None}
 use Rattle.gixobj_signature.specs.Calls.{CallView, Answer}
 
--- what is to be done: nothing, with this outcome; or a call, and then what its answer chooses; or nothing more, for want of memory
+-- what is to be done: nothing, with this outcome; or a call, and then what its answer chooses; or nothing more, because memory ran out
 pub data Plan (R : Type 0) : Type 0 where
   done : R → Plan R
   ask : CallView → (Answer → Plan R) → Plan R
@@ -20,7 +20,7 @@ BeginsPlan runs (done outcome) s t = t ≡ s
 BeginsPlan {S} runs (ask call next) s t = (t ≡ s) ⊎ ((answer : Answer) × (m : S) × runs s call answer m × BeginsPlan runs (next answer) m t)
 BeginsPlan runs no_more s t = t ≡ s
 
--- the plan is carried out where there is an outcome, and begun where memory was wanting
+-- the plan is carried out where there is an outcome, and begun where memory ran out
 abbrev pub Goes : {S R : Type 0} → (S → CallView → Answer → S → Type 0) → Plan R → S → Option R → S → Type 0
 Goes runs plan s (Some r) t = Carries runs plan s r t
 Goes runs plan s None t = BeginsPlan runs plan s t

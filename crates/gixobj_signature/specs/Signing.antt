@@ -157,7 +157,7 @@ sign_plan it payload = with_key it.key it payload
 
 -- ---- as the code says it
 
--- why nothing is signed, or none for want of memory
+-- why nothing is signed, or none because memory ran out
 abbrev pub signer_refusal : Error → Option Signed
 signer_refusal (sign.Decode error) = Some (not_owned error)
 signer_refusal (sign.Encode error) = Some (not_written error)
@@ -178,7 +178,7 @@ sign_view (Err error) = signer_refusal error
 abbrev pub Signs : {S : Type 0} → (S → CallView → Answer → S → Type 0) → Plan Signed → S → Result BString Error → S → Type 0
 Signs runs plan old result new = Goes runs plan old (sign_view result) new
 
--- the refusal of a program that didn't run to its end, or none for want of memory
+-- the refusal of a program that didn't run to its end, or none because memory ran out
 abbrev pub not_run_view : Answer → Option Signed
 not_run_view (ran it) = None
 not_run_view (failed why) = Some (not_run (sign_fails why))

@@ -111,7 +111,7 @@ verify_plan (by_ssh by ssh) signature signed (Some other) = done (mismatch forma
 
 -- ---- as the code says it
 
--- what comes of verifying, or none for want of memory
+-- what comes of verifying, or none because memory ran out
 abbrev pub verify_view : Result Outcome Error → Option Verified
 verify_view (Ok it) = Some (reported (outcome_view it))
 verify_view (Err verify.UnsupportedFormat) = Some unsupported

@@ -51,7 +51,7 @@ refused_signing runs options tag without same payload text writable old new (Err
           (text ∙ ap (λ (of : Tag). tag_text (owned_tag_lines of) ++ newline ∷ []) same) why,
     )
 
--- what comes of signing a tag that was made owned
+-- what comes of signing a tag that was copied
 module _ {S : Type 0} (runs : S → CallView → Answer → S → Type 0) (options : Options) (lines : TagLines) (tag : Tag) (owned : IsOwnedFormOfTag lines tag) (old new : S) where
   pub signed_copy : (result : Result Tag Error) → IfOk result (IsSignedTag runs options tag old new) → IfOk result (IsSignedTagCopy runs options lines old new)
   signed_copy (Ok it) is = (tag, owned, is)

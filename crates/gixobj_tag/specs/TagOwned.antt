@@ -51,7 +51,7 @@ pub record IsOwnedFormOfTag (lines : TagLines) (tag : Tag) : Type 0 where
   pub message : bstring_bytes tag.message ≡ lines.message
   pub signature : owned_bytes_if_some tag.signature ≡ lines.signature
 
--- why a tag gets no parts of its own: its tagger's line is no actor to its end, or memory was wanting
+-- why a tag gets no parts of its own: its tagger's line is no actor to its end, or memory ran out
 abbrev pub RefusesOwningTag : TagLines → Error → Type 0
 RefusesOwningTag lines Malformed = IsBadTagger lines.tagger
 RefusesOwningTag lines OutOfMemory = IsGoodTagger lines.tagger

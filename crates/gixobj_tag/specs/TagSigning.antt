@@ -57,7 +57,7 @@ RefusesSigningTag runs options tag old new error =
     (RefusesNothing (RefusesOwnedTag tag) × Goes runs (sign_plan (options_view options) (payload_of_tag (owned_tag_lines tag))) old (signer_refusal error) new)
     ⊎ ((cause : encode.Error) × (error ≡ sign.Encode cause) × RefusesWritingTag (unsigned tag) cause × (new ≡ old))
 
--- the same of a tag that is first made owned
+-- the same of a tag that is first copied
 abbrev pub IsSignedTagCopy : {S : Type 0} → (S → CallView → Answer → S → Type 0) → Options → TagLines → S → S → Tag → Type 0
 IsSignedTagCopy runs options lines old new signed = (tag : Tag) × IsOwnedFormOfTag lines tag × IsSignedTag runs options tag old new signed
 

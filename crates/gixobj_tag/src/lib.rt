@@ -1,4 +1,4 @@
-//! Tags, read whole, made owned, signed and written; and the names that they may have (gitdatamodel,
+//! Tags, read whole, copied, signed and written; and the names that they may have (gitdatamodel,
 //! "tag objects"; git-check-ref-format, "DESCRIPTION").
 #![tactic(auto)]
 

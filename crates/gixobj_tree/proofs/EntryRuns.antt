@@ -1,4 +1,4 @@
--- Trees told entry by entry: one run at most, and where it is complete the text is a tree's.
+-- Trees read entry by entry: one run at most, and where it is complete the text is a tree's.
 use Rattle.std.proofs.Common.{◌≡◌, ◌≢◌, ℕ, List, [], ◌∷◌, ◌++◌, ap, arith, length, map, refl}
 use Rattle.std.proofs.lemmas.List.{map-append}
 use Rattle.std.specs.List.{AllZip, concat}

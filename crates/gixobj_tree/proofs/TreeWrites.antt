@@ -83,6 +83,6 @@ pub id_put : (a b c d : SinkView) (mode : ℕ) (name : List ℕ) (id : ObjectId)
 id_put a b c d mode name id put named last =
     puts_more a c d ((mode_text mode ++ 32 ∷ []) ++ name) (0 ∷ id_bytes id) (puts_more a b c (mode_text mode ++ 32 ∷ []) name put named) last
 
--- a name with a zero byte is not copied for want of memory
+-- a name with a zero byte is not copied because memory ran out
 pub no_copy : (a b : SinkView) (mode : ℕ) (name : List ℕ) (id : ObjectId) → Contains name 0 → Puts a b (mode_text mode ++ 32 ∷ []) → RefusesWriting (RefusesEntry (entry_of mode name id)) a b (entry_text (entry_of mode name id)) OutOfMemory
 no_copy a b mode name id has put = (name, inr (before_name (entry_of mode name id), (has, refl, refl), put))

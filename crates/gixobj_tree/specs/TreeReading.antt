@@ -46,7 +46,7 @@ BeginsWithNoEntry kind input = (e : EntryView) (rest : List ℕ) → ¬ BeginsWi
 abbrev pub BeginsWithId : Kind → List ℕ → ObjectId → List ℕ → Type 0
 BeginsWithId kind input id rest = (input ≡ id_bytes id ++ rest) × IsIdOf kind id
 
--- why no tree is read: the text is that of none, or an entry was read, for which memory was wanting
+-- why no tree is read: the text is that of none, or an entry was read, for which memory ran out
 abbrev pub RefusesTreeText : Kind → List ℕ → Error → Type 0
 RefusesTreeText kind text Malformed = IsNoTreeText kind text
 RefusesTreeText kind text OutOfMemory = (e : EntryView) × (rest : List ℕ) × BeginsWithEntry kind text e rest

@@ -10,7 +10,7 @@ use gix_object::tree::editor::{Error, WriteError};
 use gix_object::{KeepError, Memory, encode};
 use std::test::Fail;
 
-/// Whether it is told that memory was wanting, where it may be.
+/// Whether it is told that memory ran out, where it may be.
 fn is_for_memory(error: &ImportError) -> bool {
     match error {
         ImportError::Edit { error, .. } => matches!(error, Error::OutOfMemory),
@@ -22,7 +22,7 @@ fn is_for_memory(error: &ImportError) -> bool {
     }
 }
 
-/// Whether an import stopped for want of memory alone, behind commits that are as ever.
+/// Whether an import stopped only because memory ran out, behind commits that are as ever.
 fn is_cut_off(stopped: &Stopped) -> bool {
     let before = stopped.done.len();
     before <= COMMITS.len()

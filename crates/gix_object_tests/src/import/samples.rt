@@ -88,7 +88,7 @@ pub(crate) fn number(error: &ImportError) -> u8 {
     }
 }
 
-/// The size of the commit that the store has under this id, whose digest it is. None for want of memory too.
+/// The size of the commit that the store has under this id, whose digest it is. None where memory ran out too.
 pub(crate) fn kept_commit<S: Find>(alloc: Global, store: &S, id: ObjectId) -> Option<usize> {
     let mut buffer = Vec::new(alloc);
     let Ok(Some(found)) = store.try_find(id.as_oid(), &mut buffer) else {

@@ -1,4 +1,4 @@
-//! Objects, made owned.
+//! Objects, copied.
 
 use super::Work;
 use super::reading::{first_byte, sum_of_lengths};

@@ -1,4 +1,4 @@
-//! Objects, told piece by piece.
+//! Objects, read piece by piece.
 
 use super::Work;
 use super::reading::{first_byte, sum_of_lengths};

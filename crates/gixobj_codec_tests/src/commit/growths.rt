@@ -1,4 +1,4 @@
-//! Commits where a growth is refused on the way: each call answers want of memory in an error of its own, behind which a
+//! Commits where a growth is refused on the way: each call answers out of memory in an error of its own, behind which a
 //! reader has nothing, and what it answers with memory when it is made again.
 
 use super::{PLAIN, SIGNED, owned_form};
@@ -47,7 +47,7 @@ fn of_read(alloc: Global, text: &[u8]) -> Answer {
     }
 }
 
-/// What comes of it, made owned and written.
+/// What comes of it, copied and written.
 fn of_owned(alloc: Global, text: &[u8]) -> Answer {
     match owned_form(alloc, text, Kind::Sha1) {
         Ok(commit) => of_written(alloc, &commit, text),

@@ -1,4 +1,4 @@
-//! Messages where a growth is refused on the way: want of memory is an answer of its own, behind which a reader has
+//! Messages where a growth is refused on the way: out of memory is an answer of its own, behind which a reader has
 //! nothing, and with memory the same call answers all.
 
 use crate::helpers::Answer;

@@ -64,7 +64,7 @@ pub(crate) fn runner_of_row(alloc: Global, row: &Row) -> Result<Played, OutOfMem
 
 /// Whether this came, a text or a refusal, by all calls that were expected.
 ///
-/// `OutOfMemory` where memory was wanting for it.
+/// `OutOfMemory` where memory ran out for it.
 pub(crate) fn is_so(
     came: &Result<Vec<u8>, Error>,
     comes: Comes,

@@ -147,7 +147,7 @@ fn ssh_step(row: (&'static str, &'static [&'static [u8]], usize), told: Told) ->
 
 /// Whether signing comes to this, by exactly these calls.
 ///
-/// `OutOfMemory` where memory was wanting for it, and that wasn't what a runner told.
+/// `OutOfMemory` where memory ran out for it, and that wasn't what a runner told.
 fn comes_to(
     alloc: Global,
     options: Options,

@@ -274,7 +274,7 @@ fn steps_of(alloc: Global, row: &Row) -> Result<Vec<Step>, AllocError> {
 
 /// Whether verifying this signature comes to this, by exactly these calls.
 ///
-/// `OutOfMemory` where memory was wanting for it, and that wasn't what a runner told.
+/// `OutOfMemory` where memory ran out for it, and that wasn't what a runner told.
 fn comes_to(
     alloc: Global,
     signature: &[u8],

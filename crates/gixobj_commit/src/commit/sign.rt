@@ -45,9 +45,9 @@ impl Commit {
 
 /// Signing
 impl CommitRef<'_> {
-    /// The commit made owned, and signed as [`Commit::sign`] does.
+    /// The commit copied, and signed as [`Commit::sign`] does.
     ///
-    /// `Decode` where it can't be made owned, as [`CommitRef::into_owned`] says, before any call; else what
+    /// `Decode` where it can't be copied, as [`CommitRef::into_owned`] says, before any call; else what
     /// [`Commit::sign`] refuses.
     pub fn sign<R: Runner>(
         self,

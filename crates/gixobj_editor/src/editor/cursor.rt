@@ -89,7 +89,7 @@ impl<S: Find> Editor<S> {
     ///
     /// `EmptyPathComponent` or `SlashInPathComponent` for the first name that no entry may have;
     /// else `FindExistingObject` or `MalformedTree` for the first directory that the store doesn't
-    /// have as a well-formed tree, or whose lookup fails; `OutOfMemory` where memory was wanting,
+    /// have as a well-formed tree, or whose lookup fails; `OutOfMemory` where memory ran out,
     /// which is taken for the directories that aren't open, twice for one that is looked up, and
     /// for a copy of the names. A refusal leaves the files as they were; what was opened on the
     /// way stays open.
@@ -400,7 +400,7 @@ impl<S> Cursor<'_, S> {
     /// What the directory was opened with stays, since its entry above has its old id still: where
     /// it is a changed one then, the next write of the root hands it out once more.
     ///
-    /// `Out` where `out` refused a tree, `OutOfMemory` where memory was wanting; the editor is as
+    /// `Out` where `out` refused a tree, `OutOfMemory` where memory ran out; the editor is as
     /// it was, and what `out` was asked so far stands.
     pub fn try_write<E, F: FnMut(&Tree) -> Result<ObjectId, E>>(
         &mut self,

@@ -1,5 +1,5 @@
 //! A script of three files and a write, whatever growth is refused on the way: in place of what is told of one line
-//! stands that memory was wanting for it, and what is told of the others follows from what was done. Ids are those that
+//! stands that memory ran out for it, and what is told of the others follows from what was done. Ids are those that
 //! `git mktree --missing` answers.
 
 use super::{NESTED, NESTED_LINES, answer_of, tells};

@@ -1,4 +1,4 @@
-//! The script of ten lines, whatever growth is refused on the way: want of memory is answered where it comes, the other
+//! The script of ten lines, whatever growth is refused on the way: out of memory is answered where it comes, the other
 //! answers stay, and what is given again with memory gets the answer that it gets with ample memory.
 
 use crate::runs::samples::{TEN_LINES, commands_of, editor_over, run_on};
@@ -50,7 +50,7 @@ pub(crate) const AMPLE: [Ample; 10] = [
 pub(crate) enum Outcome {
     /// The answer with ample memory.
     Ample,
-    /// Want of memory, before anything was handed out or changed.
+    /// Out of memory, before anything was handed out or changed.
     Wanting,
     /// Another answer.
     Other,
@@ -87,7 +87,7 @@ pub(crate) fn outcome_of(reply: &EditReply<encode::Error>, ample: Ample) -> Outc
     }
 }
 
-/// What comes of trees that went out and weren't all kept for want of memory: the caller has the rest kept.
+/// What comes of trees that went out and weren't all kept because memory ran out: the caller has the rest kept.
 fn kept_after_all(
     editor: &mut Editor<Failing>,
     written: &Written,
@@ -149,7 +149,7 @@ fn comes_of(
     }
 }
 
-/// Whether the command of a line gets its answer, at once or when it is given again for want of memory.
+/// Whether the command of a line gets its answer, at once or when it is given again because memory ran out.
 fn gets(
     alloc: Global,
     editor: &mut Editor<Failing>,

@@ -68,7 +68,7 @@ fn outcome_of_command(reply: &Reply<encode::Error>, ample: Ample) -> Outcome {
     }
 }
 
-/// The reply of a write whose trees weren't all kept for want of memory: the number that were.
+/// The reply of a write whose trees weren't all kept because memory ran out: the number that were.
 fn kept_in_part(reply: &Reply<encode::Error>) -> Option<usize> {
     let reply = match reply {
         Reply::Edit(reply) => reply,

@@ -1,4 +1,4 @@
-//! Why no object is found that is told piece by piece.
+//! Why no object is found that is read piece by piece.
 use gixobj_hash::Kind;
 use gixobj_hash::hash::ObjectId;
 use gixobj_object::find;

@@ -30,7 +30,7 @@ pub trait Write {
 
     /// Writes an object, and answers its id: its text is put into memory, and handed on as a stream.
     ///
-    /// `Encode` where it can't be written, and then nothing is handed on; its `Writer` is want of memory for
+    /// `Encode` where it can't be written, and then nothing is handed on; its `Writer` is out of memory for
     /// the text. Any other error is that of [`Write::write_stream`].
     fn write<T: WriteTo>(&self, alloc: Global, object: &T) -> Result<ObjectId, Error>
         requires { T.can_write object.now }

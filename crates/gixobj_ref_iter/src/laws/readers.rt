@@ -67,7 +67,7 @@ pub fn ids_are_found()
 {}
 
 /// Of the text of a commit a reader at its start finds the commit's author and committer, and refuses
-/// them but for want of memory.
+/// them but where memory ran out.
 pub fn actors_are_found()
     ensures author { (kind : Kind) (text : List ℕ) (commit : CommitLines) (reader : CommitRefIter)
         (actor : ActorView) → IsCommitText kind text commit → IsAtStartOfCommit kind text reader
@@ -85,7 +85,7 @@ pub fn actors_are_found()
 {}
 
 /// Of the text of a commit a reader at its start finds the commit's message, and refuses it but for
-/// want of memory.
+/// out of memory.
 pub fn message_is_found()
     ensures message { (kind : Kind) (text : List ℕ) (commit : CommitLines) (reader : CommitRefIter)
         (message : List ℕ) → IsCommitText kind text commit → IsAtStartOfCommit kind text reader

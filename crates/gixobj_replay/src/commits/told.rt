@@ -1,4 +1,4 @@
-//! Answers about commits that are told token by token, as the recorded ones are written.
+//! Answers about commits that are read token by token, as the recorded ones are written.
 
 use crate::actors::{actor_after, actor_text, borrowed_text};
 use crate::objects::told_id;

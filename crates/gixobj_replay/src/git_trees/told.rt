@@ -1,4 +1,4 @@
-//! Trees told entry by entry, and the beginnings of their texts.
+//! Trees read entry by entry, and the beginnings of their texts.
 
 use crate::recorded::texts::{Columns, fault};
 use gixobj_base::hash;

@@ -1,4 +1,4 @@
-//! Answers about tags that are told token by token, as the recorded ones are written.
+//! Answers about tags that are read token by token, as the recorded ones are written.
 
 use super::tagger_text;
 use crate::actors::actor_after;

@@ -1,4 +1,4 @@
-//! Answers about trees that are told entry by entry, as the recorded ones are written.
+//! Answers about trees that are read entry by entry, as the recorded ones are written.
 
 use super::entry_text;
 use crate::recorded::texts::{Columns, fault, text_and_kind, text_of};

@@ -33,7 +33,7 @@ pub struct Options {
 /// Why nothing is signed.
 #[derive(Debug, Drop, thiserror::Error)]
 pub enum Error {
-    /// A borrowed object couldn't be made owned. No call was made.
+    /// A borrowed object couldn't be copied. No call was made.
     #[error("not made owned: {0}")]
     Decode(decode::Error),
     /// What is to be signed couldn't be written. No call was made.

@@ -45,9 +45,9 @@ impl Tag {
 
 /// Signing
 impl TagRef<'_> {
-    /// The tag made owned, and signed as [`Tag::sign`] does.
+    /// The tag copied, and signed as [`Tag::sign`] does.
     ///
-    /// `Decode` where it can't be made owned, as [`TagRef::into_owned`] says, before any call; else what
+    /// `Decode` where it can't be copied, as [`TagRef::into_owned`] says, before any call; else what
     /// [`Tag::sign`] refuses.
     pub fn sign<R: Runner>(
         self,

@@ -67,7 +67,7 @@ impl<'a> ObjectRef<'a> {
     /// it says. Bytes behind these are ignored.
     ///
     /// `InvalidHeader` where the input begins with no header, or fewer bytes follow than it says;
-    /// `InvalidContent` where the bytes are no object of its kind, or memory was wanting for one.
+    /// `InvalidContent` where the bytes are no object of its kind, or memory ran out for one.
     pub fn from_loose(
         alloc: Global,
         input: &'a [u8],

@@ -23,7 +23,7 @@ returns-in_err-output g c =
     (option_map output_view c.loop-principal.last) whole c.loop-principal.runner c.args.runner.now c.loop-principal-test.true c.principal-item.is c.loop-principal.invariant
     (refusal_view c.in_err-output.field-0.0) c.ask_for.new.runner c.in_err-output.ensures)
 
--- one was accepted, and then memory was wanting
+-- one was accepted, and then memory ran out
 pub returns-in_err-accepted_by : goal.returns-in_err-accepted_by
 returns-in_err-accepted_by g c =
     let whole = tries (ssh_program_of c.args.by.now) (ssh_of c.args.by.now) c.args.signature.now (signed_bytes c.args.signed.now) (map bstring_bytes c.args.principals.now) None in

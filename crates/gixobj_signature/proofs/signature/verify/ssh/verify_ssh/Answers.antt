@@ -20,7 +20,7 @@ returns-in_err-found g c =
     (λ it. tries (ssh_program_of c.args.by.now) (ssh_of c.args.by.now) c.args.signature.now (signed_bytes c.args.signed.now) (cond it.success (principals_in it.stdout) []) None)
     (refusal_view c.in_err-found.field-0.0) c.args.runner.now c.ask_principals.new.runner c.in_err-found.ensures)
 
--- they were, and then memory was wanting
+-- they were, and then memory ran out
 pub returns-in_err-principals : goal.returns-in_err-principals
 returns-in_err-principals g c =
     let same : c.from_residual-in_err-principals.result ≡ Err verify.OutOfMemory = search rules in
