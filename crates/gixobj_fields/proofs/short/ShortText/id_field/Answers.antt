@@ -4,7 +4,7 @@ use Rattle.hex.specs.Hex.{encode_lower}
 use Rattle.gixobj_fields.proofs.FieldWrites.{hex_len}
 use Rattle.gixobj_fields.proofs.short.ShortText.id_field.Goals as goal
 
-pub extend-requires-room : goal.extend-requires-room
-extend-requires-room c =
+pub extend-requires : goal.extend-requires
+extend-requires c =
     let bytes = c.as_bytes.result.now in
     omega (arith, ap length c.extend_hex.ensures, ap length c.named-field.ensures, length-append c.named-field.result (encode_lower bytes), hex_len bytes, length-append c.args.name.now (32 ∷ []))
