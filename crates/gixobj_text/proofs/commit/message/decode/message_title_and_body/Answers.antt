@@ -1,5 +1,8 @@
+use Rattle.std.proofs.Common.{None, rules, ◌∷◌, ◌≡◌}
 use Rattle.bstr.specs.BStr.{bstr_bytes}
+use Rattle.gixobj_text.specs.Breaks.{behind_two}
 use Rattle.gixobj_text.proofs.Cuts.{all_title, cut_here, empty_is, some_or_none}
+use Rattle.gixobj_text.proofs.Plain.{uncut_next}
 use Rattle.gixobj_text.proofs.commit.message.decode.message_title_and_body.Goals as goal
 
 pub returns-in-Some-behind_two : goal.returns-in-Some-behind_two
@@ -9,3 +12,9 @@ returns-in-Some-behind_two c =
 
 pub returns : goal.returns
 returns c = all_title c.args.message.now c.places.rest.now (bstr_bytes c.new-2.result) c.places.invariant (empty_is c.places.rest.now c.in_default.ensures.cases) c.new-2.ensures
+
+pub places-preserved : goal.places-preserved
+places-preserved c =
+    let is : c.places.rest.now ≡ c.in-Some.field-0-0.now ∷ c.in-Some.behind.now = search rules in
+    let none : None ≡ behind_two c.places.rest.now = search rules in
+    uncut_next c.args.message.now c.places.rest.now c.in-Some.field-0-0.now c.in-Some.behind.now c.from_break-rest-in-Some.result.now c.places.invariant is none c.from_break-rest-in-Some.ensures.is
