@@ -1,7 +1,7 @@
 use Rattle.std.proofs.Common.{rules}
 use Rattle.gixobj_fields.specs.declared.encode.RefNameFault.TheVariants as fault
 use Rattle.gixobj_tag.proofs.Names.{empty_so, first_so, none_has}
-use Rattle.gixobj_tag.proofs.name.faults.first_fault.Goals as goal
+use Rattle.gixobj_tag.proofs.name.faults.first_found.Goals as goal
 
 pub returns-then-is_empty : goal.returns-then-is_empty
 returns-then-is_empty c = first_so c.args.name.now fault.Empty tt (empty_so c.args.name.now c.is_empty.result c.if-is_empty.true c.is_empty.ensures)
