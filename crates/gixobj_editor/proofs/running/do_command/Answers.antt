@@ -18,4 +18,4 @@ returns-in-At g c =
 
 pub returns-then-is_well_formed : goal.returns-then-is_well_formed
 returns-then-is_well_formed g c =
-    record { replied = rw c.in-SetRoot.is (root_set c.args.editor.now _ c.set_root.result.now c.in-SetRoot.root (search rules) (c.if-is_well_formed.ensures {u = tt}) c.set_root.ensures.state c.set_root.ensures.files c.set_root.ensures.has_bases) }
+    record { replied = rw c.in-SetRoot.is (root_set c.args.editor.now _ c.set_root.result.now c.in-SetRoot.root (search rules) (c.is_well_formed.ensures.0 c.if-is_well_formed.true) c.set_root.ensures.state c.set_root.ensures.files c.set_root.ensures.has_bases) }
