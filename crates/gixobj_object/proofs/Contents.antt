@@ -1,5 +1,5 @@
 -- What refuses the content of a loose object refuses the object.
-use Rattle.std.proofs.Common.{◌≡◌, ℕ, List, inl, inr, subst, sym}
+use Rattle.std.proofs.Common.{ℕ, List, inl, inr, subst, sym}
 use Rattle.gixobj_hash.specs.Decode.{RefusesLooseContent}
 use Rattle.gixobj_hash.specs.declared.decode.LooseContentError.{LooseContentError}
 use Rattle.gixobj_hash.specs.declared.decode.LooseContentError.TheVariants as content
