@@ -1,5 +1,5 @@
 -- A stored root, an editor of it, and the files of what is named once an entry was put in.
-use Rattle.std.proofs.Common.{◌≡◌, ◌≢◌, ◌⊎◌, ◌∙◌, ℕ, true, false, List, [], Some, ⊎_elim, ap, inl, inr, refl, subst, sym}
+use Rattle.std.proofs.Common.{◌≡◌, ◌≢◌, ◌⊎◌, ◌∙◌, ℕ, List, [], Some, ⊎_elim, ap, subst, sym}
 use Rattle.std.specs.Prelude.{IsFalse, MatchOption, Option}
 use Rattle.gix_object.specs.Entries.{Pair, EntryView}
 use Rattle.gix_object.specs.Bases.{HasBases}

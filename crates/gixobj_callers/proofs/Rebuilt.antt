@@ -1,5 +1,5 @@
 -- Two writes of a run that starts with no files.
-use Rattle.std.proofs.Common.{◌≡◌, ◌≢◌, ◌<◌, ◌≤◌, ◌↔◌, ◌⊎◌, ℕ, zero, suc, Bool, IsTrue, List, [], ◌∷◌, All, None, Option, Some, ap, arith, get_or, inl, inr, length, max, refl, subst, sym, take, ◌∙◌}
+use Rattle.std.proofs.Common.{◌≡◌, ◌<◌, ◌≤◌, ◌↔◌, ℕ, zero, suc, Bool, IsTrue, List, [], ◌∷◌, None, Option, Some, ap, arith, get_or, inl, inr, length, refl, subst, sym, take, ◌∙◌}
 use Rattle.gix_object.specs.Commands.{accepted_steps, written_at, written_by}
 use Rattle.gix_object.specs.Files.{SameFiles, Table}
 use Rattle.gix_object.specs.History.{Step}

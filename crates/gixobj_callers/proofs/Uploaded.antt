@@ -1,5 +1,5 @@
 -- Which open directories a write hands out, and which it spares.
-use Rattle.std.proofs.Common.{◌≡◌, ◌≢◌, ◌<◌, ◌+◌, ◌∙◌, ◌⊎◌, ⊎_elim, inl, inr, ℕ, All, Contains, List, [], ◌∷◌, ◌++◌, None, Option, Some, ap, append_assoc, arith, length, length-append, map, refl, subst, sym}
+use Rattle.std.proofs.Common.{◌≡◌, ◌≢◌, ◌<◌, ◌+◌, ◌∙◌, ⊎_elim, inl, inr, ℕ, All, Contains, List, [], ◌∷◌, ◌++◌, None, Option, Some, ap, append_assoc, arith, length, length-append, map, refl, subst, sym}
 use Rattle.std.proofs.lemmas.List.{append-nil, get_or-map, length-map, map-append}
 use Rattle.std.proofs.lemmas.List.Elements.{All-append, All-cons, All-map, All-nil, All-weaker, Contains-append_left, Contains-append_right}
 use Rattle.std.specs.List.{AllByRecursion}

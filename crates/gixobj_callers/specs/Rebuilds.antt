@@ -5,7 +5,7 @@ use Rattle.gix_object.specs.Files.{SameFiles, Table}
 use Rattle.gix_object.specs.OneId.{IsPlainRun, files_before}
 use Rattle.gix_object.specs.Replies.{Answers, IsRun}
 use Rattle.gix_object.specs.State.{State}
-use Rattle.gix_object.specs.Stores.{Objects, Meaning}
+use Rattle.gix_object.specs.Stores.{Meaning}
 use Rattle.gix_object.specs.directories.write.Written.{Written}
 use Rattle.gix_object.specs.editor.command.Command.{Command}
 use Rattle.gix_object.specs.editor.reply.Reply.{Reply}

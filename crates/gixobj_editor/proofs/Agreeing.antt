@@ -1,5 +1,5 @@
 -- Tables that agree with runs.
-use Rattle.std.proofs.Common.{◌≡◌, ◌≢◌, ◌⊎◌, ⊎_elim, All, List, [], ◌∷◌, ◌∙◌, Some, ap, subst, sym, take}
+use Rattle.std.proofs.Common.{◌≡◌, ◌≢◌, ⊎_elim, All, List, [], ◌∷◌, ◌∙◌, Some, ap, subst, sym, take}
 use Rattle.std.proofs.lemmas.List.Elements.{All-head, All-tail, All-take}
 use Rattle.gixobj_object.proofs.Keeping.{elsewhere, there}
 use Rattle.gixobj_object.specs.Stores.{Objects, StoredObject, named}

@@ -1,5 +1,5 @@
 -- Calls of a closure without a state, by reference.
-use Rattle.std.proofs.Common.{ℕ, ◌≡◌, ◌∙◌, List, [], ◌∷◌, Err, Ok, Result, refl, subst, sym}
+use Rattle.std.proofs.Common.{◌≡◌, ◌∙◌, List, [], ◌∷◌, Err, Ok, Result, refl, subst, sym}
 use Rattle.std.specs.Fn.{Called, CalledAt, FnReturnsAt, Mut, Shared}
 use Rattle.std.specs.List.{FoldsTo}
 use denote.Ref.{Bor}

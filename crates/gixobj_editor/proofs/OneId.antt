@@ -1,8 +1,8 @@
 -- Two writes of a run that puts in no tree, and starts with nothing, name one id exactly where their files are equal.
-use Rattle.std.proofs.Common.{◌≡◌, ◌∙◌, ◌↔◌, ◌≤◌, ⊎_elim, ℕ, zero, suc, true, false, List, [], ◌∷◌, ◌++◌, All, Contains, Some, refl, sym, ap, subst, take, arith}
+use Rattle.std.proofs.Common.{◌≡◌, ◌∙◌, ⊎_elim, ℕ, zero, suc, List, [], ◌∷◌, ◌++◌, Contains, Some, refl, sym, ap, subst, take}
 use Rattle.std.specs.FinMap as map
 use Rattle.std.specs.List.{AllByRecursion, flat_map}
-use Rattle.std.proofs.lemmas.List.Elements.{All-contains_itself, All-head, All-tail, Contains-append_left, Contains-append_right, Contains-push, recursion_from_All}
+use Rattle.std.proofs.lemmas.List.Elements.{All-contains_itself, Contains-append_left, Contains-append_right, Contains-push, recursion_from_All}
 use Rattle.gixobj_directories.specs.Openings.{OfTrees}
 use Rattle.gixobj_editor.specs.declared.command.Command.{Command}
 use Rattle.gixobj_editor.specs.declared.command.Command.TheVariants as command
@@ -20,21 +20,16 @@ use Rattle.gixobj_files.proofs.Formed.{opened_root}
 use Rattle.gixobj_files.proofs.PlainHistories.{IsUpTo}
 use Rattle.gixobj_files.proofs.Plain.{HasBuilt, Plain, all_joined, all_left, all_right}
 use Rattle.gixobj_files.specs.Bases.{HasBases}
-use Rattle.gixobj_files.specs.Files.{NamedFiles, Path, SameFiles, Table, Trees}
-use Rattle.gixobj_files.specs.History.{History, Step}
+use Rattle.gixobj_files.specs.Files.{NamedFiles, Path, Table, Trees}
 use Rattle.gixobj_files.specs.Opening.{Dirs, HasAt, IsOpened}
-use Rattle.gixobj_files.specs.State.{DirMap, EditorFiles, State, open_bases, open_dirs, root_alone}
+use Rattle.gixobj_files.specs.State.{DirMap, State, open_bases, open_dirs, root_alone}
 use Rattle.gixobj_files.specs.Tables.{AgreesWithPairs, AgreesWithStore}
-use Rattle.gixobj_hash.specs.Hash.{null_id}
-use Rattle.gixobj_tree.specs.Entries.{EntryView, IsWellFormed, Pair}
-use Rattle.gixobj_tree.specs.Mode.{is_tree_mode, mode_of_kind}
-use Rattle.gixobj_tree.specs.declared.tree.entry_kind.EntryKind.{EntryKind}
-use Rattle.gixobj_tree.specs.declared.tree.entry_kind.EntryKind.TheVariants as kind
+use Rattle.gixobj_tree.specs.Entries.{EntryView, Pair}
 use Rattle.gixobj_editor.proofs.Keeping.{AgreesThroughout, throughout_first, throughout_then}
 use Rattle.gixobj_editor.proofs.Named.{agrees_front, agrees_later, agrees_written, assured_keeps, command_keeps, edit_keeps, names_history}
 use Rattle.gixobj_editor.proofs.Told.{no_tree_mode, plain_before, told_by_trees, up_to_like}
 use Rattle.gixobj_editor.proofs.Plainly.{AreBuilt, IsPlainState, Within, plain_assured, plain_below, plain_refused, plain_removed, plain_root, plain_upserted}
-use Rattle.gixobj_editor.specs.Commands.{Place, accepted_steps, at_cursor, at_root, kept_of, kept_of_edit, pairs_handed_out, pairs_kept, pairs_of, pairs_of_edit, written_at, written_by}
+use Rattle.gixobj_editor.specs.Commands.{Place, at_cursor, at_root, kept_of, kept_of_edit, pairs_handed_out, pairs_kept, pairs_of, pairs_of_edit, written_at, written_by}
 use Rattle.gixobj_editor.specs.OneId.{IdsTellFiles, IsPlainRun, NamesNoTree, PutsNoTree, files_before}
 use Rattle.gixobj_editor.specs.Replies.{Answers, AreEditReplies, GivesTreeId, IsEditReply, IsReply, IsReplyAt, IsRun, IsWriteKept, IsWrittenAt}
 use Rattle.gixobj_editor.specs.RunTables.{AgreesWithObjects, AgreesWithRun}

@@ -1,23 +1,18 @@
 -- In a run that puts in no tree, and starts with nothing, each tree that goes out is built up from what went out.
 use mathlib.Core.Bool.{true≢false}
-use Rattle.std.proofs.Common.{append-nil, ◌≡◌, ◌≢◌, ◌∙◌, inl, inr, ⊎_elim, ℕ, zero, suc, true, false, List, [], ◌∷◌, ◌++◌, All, Contains, Some, None, refl, sym, ap, subst}
+use Rattle.std.proofs.Common.{append-nil, ◌≡◌, ◌≢◌, ◌∙◌, inl, inr, ℕ, false, List, [], ◌∷◌, ◌++◌, Contains, Some, None, refl, sym, ap, subst}
 use Rattle.std.specs.FinMap as map
 use Rattle.std.specs.Prelude.{IsFalse}
-use Rattle.std.specs.List.{AllByRecursion, flat_map}
-use Rattle.std.proofs.lemmas.List.Elements.{All-head, All-tail, recursion_from_All}
-use Rattle.gixobj_editor.specs.declared.command.Command.{Command}
-use Rattle.gixobj_editor.specs.declared.command.Command.TheVariants as command
-use Rattle.gixobj_editor.specs.declared.command.Edit.{Edit}
-use Rattle.gixobj_editor.specs.declared.command.Edit.TheVariants as edit
-use Rattle.gixobj_object.specs.Stores.{Objects}
-use Rattle.gixobj_directories.specs.Calls.{IsStorable, names_of}
+use Rattle.std.specs.List.{AllByRecursion}
+use Rattle.std.proofs.lemmas.List.Elements.{recursion_from_All}
+use Rattle.gixobj_directories.specs.Calls.{IsStorable}
 use Rattle.gixobj_directories.specs.declared.write.Written.{Written}
-use Rattle.gixobj_editor.specs.Cursors.{IsAssured, IsWrittenBelow, prefix_of}
+use Rattle.gixobj_editor.specs.Cursors.{IsAssured, IsWrittenBelow}
 use Rattle.gixobj_editor.specs.Removals.{IsRemoved}
 use Rattle.gixobj_editor.specs.Upserts.{IsRefused, IsUpserted, directory_of}
 use Rattle.gixobj_editor.specs.Writes.{IsWrittenEditor}
 use Rattle.gixobj_files.proofs.AssuredFiles.{opens_along}
-use Rattle.gixobj_files.proofs.Canonical.{IsBuilt, IsClean}
+use Rattle.gixobj_files.proofs.Canonical.{IsClean}
 use Rattle.gixobj_files.proofs.EditedFiles.{root_open, root_shut}
 use Rattle.gixobj_files.proofs.Lasting.{everywhere_at}
 use Rattle.gixobj_files.proofs.Everywhere.{Everywhere, everywhere_assured, everywhere_opened, everywhere_removed, everywhere_upserted, everywhere_written}

@@ -1,5 +1,5 @@
 -- What ids tell of files, of trees that are built up from pairs; and the steps of a run that puts in no tree.
-use Rattle.std.proofs.Common.{◌≡◌, ◌↔◌, ◌≤◌, ℕ, zero, suc, true, false, List, [], ◌∷◌, ◌++◌, Contains, Option, Some, refl, sym, subst, length, take, arith}
+use Rattle.std.proofs.Common.{◌≡◌, ◌↔◌, ℕ, zero, suc, false, List, [], ◌∷◌, ◌++◌, Contains, Option, Some, refl, sym, subst, length, take, arith}
 use Rattle.std.specs.FinMap as map
 use Rattle.std.specs.List.{AllByRecursion}
 use Rattle.std.specs.Prelude.{MatchOption}

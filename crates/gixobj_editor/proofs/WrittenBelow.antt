@@ -15,7 +15,6 @@ use Rattle.gixobj_files.specs.Tables.{AgreesWithPairs}
 use Rattle.gixobj_files.proofs.BelowPrefix.{at_prefix, opened_replaced}
 use Rattle.gixobj_files.proofs.CursorFiles.{written_below_files, written_same_files}
 use Rattle.gixobj_hash.specs.declared.hash.kind.Kind.{Kind}
-use Rattle.gixobj_hash.specs.declared.hash.object_id.ObjectId.{ObjectId}
 use Rattle.gixobj_tree.specs.Entries.{EntryView, Pair}
 use Rattle.gixobj_directories.specs.declared.write.Written.{Written}
 use Rattle.gixobj_editor.specs.Cursors.{IsWrittenBelow}

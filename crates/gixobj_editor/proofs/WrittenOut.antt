@@ -5,7 +5,6 @@ use Rattle.std.specs.List.{AllByRecursion, FoldsTo}
 use Rattle.std.proofs.lemmas.List.Elements.{All-from_recursion, recursion_from_All}
 use Rattle.gixobj_tree.specs.Entries.{EntryView, Pair}
 use Rattle.gixobj_hash.specs.declared.hash.kind.Kind.{Kind}
-use Rattle.gixobj_hash.specs.declared.hash.object_id.ObjectId.{ObjectId}
 use Rattle.gixobj_files.specs.Files.{Files, Path, SameFiles, Table}
 use Rattle.gixobj_files.specs.HandingOut.{Leaves, Saves}
 use Rattle.gixobj_files.specs.Opening.{Dirs, OpenFiles}

@@ -5,7 +5,7 @@ use Rattle.gixobj_commit.specs.CommitWriting.{commit_text}
 use Rattle.gixobj_commit.specs.ExtraHeaders.{signature_field}
 use Rattle.gixobj_fields.proofs.HeaderFields.{one_header}
 use Rattle.gixobj_fields.specs.FieldWriting.{header_text}
-use Rattle.gixobj_fields.specs.HeaderText.{EndsHeader, HasHeader, HasNoHeader, Header, IsHeaderName, IsHeaderText}
+use Rattle.gixobj_fields.specs.HeaderText.{EndsHeader, HasHeader, HasNoHeader, Header, IsHeaderText}
 use Rattle.gixobj_fields.specs.Runs.{Tells, broken, complete, tells_end, tells_error, tells_piece}
 use Rattle.gixobj_hash.specs.declared.decode.Error.TheVariants.{Malformed}
 use Rattle.gixobj_hash.specs.declared.hash.kind.Kind.{Kind}

@@ -1,5 +1,5 @@
 -- What the run of a script on no files tells of two of its writes.
-use Rattle.std.proofs.Common.{◌∙◌, ◌≡◌, List, [], Result, ap, subst}
+use Rattle.std.proofs.Common.{◌∙◌, List, [], Result, ap}
 use Rattle.std.specs.Fn.{FnReturnsAt}
 use Rattle.gix_object.specs.Entries.{EntryView}
 use Rattle.gix_object.specs.State.{root_alone}

@@ -1,6 +1,6 @@
 use Rattle.std.proofs.Common.{◌≡◌, ◌∙◌, List, None, Ok, Option, Result, ap, filter, map, subst}
 use Rattle.std.specs.Iterator.{Yields}
-use Rattle.gix_object.specs.Filters.{GivesKept, all_of, filter_of, is_kept, kept_left}
+use Rattle.gix_object.specs.Filters.{GivesKept, all_of, is_kept, kept_left}
 use Rattle.gix_object.specs.GivingTrailers.{trailer_view, trailers_left}
 use Rattle.gix_object.specs.Trailers.{TrailerView}
 use Rattle.gix_object.specs.hash.memory.OutOfMemory.{OutOfMemory}
