@@ -24,4 +24,6 @@ mod run_scripts;
 #[cfg(test)]
 mod samples;
 #[cfg(test)]
+mod tasks;
+#[cfg(test)]
 mod told_by_callers;

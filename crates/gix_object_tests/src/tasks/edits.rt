@@ -1,0 +1,31 @@
+//! A tree edited.
+
+use bstr::BString;
+use gix_object::Find;
+use gix_object::hash::ObjectId;
+use gix_object::tree::EntryKind;
+use gix_object::tree::editor::{Editor, Error};
+
+/// Moves a file to another path.
+pub fn rename<S: Find>(
+    editor: &mut Editor<S>,
+    from: &[BString],
+    to: &[BString],
+    blob: ObjectId,
+) -> Result<(), Error> {
+    editor.try_remove_leaf(from)?;
+    editor.try_upsert(to, EntryKind::Blob, blob)
+}
+
+/// Puts files into one directory, which is made if need be.
+pub fn fill<S: Find>(
+    editor: &mut Editor<S>,
+    directory: &[BString],
+    files: &[(Vec<BString>, ObjectId)],
+) -> Result<(), Error> {
+    let mut cursor = editor.cursor_at(directory)?;
+    for (path, blob) in files {
+        cursor.try_upsert(path, EntryKind::Blob, *blob)?;
+    }
+    Ok(())
+}

@@ -1,0 +1,22 @@
+//! Many edits, kept by a store.
+
+use gix_object::hash::Kind as HashKind;
+use gix_object::tree::editor::{Command, Edit, Editor, Reply, run};
+use gix_object::{Keep, OutOfMemory, Tree, encode};
+use std::alloc::Global;
+
+/// Does the edits, and then writes, and has the store keep what went out.
+pub fn keep_edits<S: Keep>(
+    alloc: Global,
+    editor: &mut Editor<S>,
+    edits: Vec<Edit>,
+) -> Result<Vec<Reply<encode::Error>>, OutOfMemory> {
+    let mut commands: Vec<Command> = edits.into_iter().map(Command::Edit).collect(alloc)?;
+    commands.push(Command::Edit(Edit::Write))?;
+    run(
+        alloc,
+        editor,
+        commands,
+        |tree: &Tree| tree.compute_id(alloc, HashKind::Sha1),
+    )
+}
