@@ -142,7 +142,7 @@ fn is_kept(entry: &Entry) -> bool
 pub(crate) fn copies(alloc: Global, entries: &[Entry]) -> Result<Vec<Entry>, AllocError>
     ensures { IfOk result (λ copied. copied.items ≡ entries.now) }
 {
-    let mut copied = Vec::new(alloc);
+    let mut copied = Vec::with_capacity(alloc, entries.len())?;
     for entry in entries {
         copied.push(copy(alloc, entry)?)?;
     }
