@@ -12,5 +12,6 @@ pub mod Ordered
 pub mod OwnTrees
 pub mod Replacing
 pub mod SameTrees
+pub mod SiftedEntries
 pub mod Steps
 pub mod StorablePairs

@@ -6,3 +6,4 @@ pub mod LookedUp
 pub mod Nested
 pub mod Openings
 pub mod OwnTrees
+pub mod Sifted

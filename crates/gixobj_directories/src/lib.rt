@@ -8,4 +8,5 @@ pub mod open;
 pub mod opening;
 mod own_tree;
 mod places;
+mod sifted;
 pub mod write;

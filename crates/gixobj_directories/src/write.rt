@@ -1,5 +1,5 @@
 //! Open directories handed out, those in a directory before the directory itself.
-ghost use Rattle.std.specs.Prelude.{◌≡◌, ◌≢◌, ◌↔◌, ◌+◌, ◌++◌, ◌∷◌, [], ℕ, IsTrue, Some, IfErr, IfOk, List, None, Ok, OnErr, OnOk, ◌==◌, length};
+ghost use Rattle.std.specs.Prelude.{◌≡◌, ◌≢◌, ◌↔◌, ◌+◌, ◌++◌, ◌∷◌, [], ℕ, IsTrue, Some, IfErr, IfOk, List, None, Ok, OnErr, OnOk, ◌==◌, ◌<◌, length, vec_capacity, vec_len};
 ghost use Rattle.std.specs.Fn.{CalledAt};
 ghost use Rattle.std.specs.List.{FoldsTo};
 ghost use Rattle.std.specs.Option.{option_copied};
@@ -14,8 +14,9 @@ ghost use Rattle.gixobj_directories.specs.Handing.{Stopped, Visits, pairs_behind
 ghost use Rattle.gixobj_directories.specs.Nested.{base_side, bases_of, dirs_of, entries_side, opened};
 ghost use Rattle.gixobj_directories.specs.OwnTrees.{IsBeside, so_far};
 
-use crate::open::{Child, Open, child_at, copy_tree};
+use crate::open::{Child, Open, child_at};
 use crate::own_tree::OwnTree;
+use crate::sifted::become_tree;
 use bstr::BString;
 use gixobj_hash::hash::ObjectId;
 use gixobj_tree::Tree;
@@ -212,12 +213,28 @@ fn hand<E, F: FnMut(&Tree) -> Result<ObjectId, E>>(
     ensures stopped { IfErr result (Stopped (answered F.FnMut) (denied F.FnMut)
         (λ ps. (id : ObjectId) × (ps ≡ (id, tree) ∷ [])) out.old out.new) }
 {
+    let id = ask(&tree, out, pairs)?;
+    let _ = pairs.push((id, tree));
+    Ok(id)
+}
+
+/// Hands a tree out, and answers the id that it got. There is room for its pair then.
+fn ask<E, F: FnMut(&Tree) -> Result<ObjectId, E>>(
+    tree: &Tree,
+    out: &mut F,
+    pairs: &mut Vec<(ObjectId, Tree)>,
+) -> Result<ObjectId, WriteError<E>>
+    requires callable { IsCallableOnTrees F.pre (answered F.FnMut) out.old }
+    requires storable { IsStorable tree.now }
+    ensures ok { IfOk result (λ id. CalledAt F.FnMut out.old tree.now (Ok id) out.new) }
+    ensures room { OnOk result (vec_len pairs.new < vec_capacity pairs.new) }
+    ensures items { pairs.new.items ≡ pairs.old.items }
+    ensures stopped { IfErr result (Stopped (answered F.FnMut) (denied F.FnMut)
+        (λ ps. (id : ObjectId) × (ps ≡ (id, tree.now) ∷ [])) out.old out.new) }
+{
     pairs.reserve(1)?;
-    match out(&tree) {
-        Ok(id) => {
-            let _ = pairs.push((id, tree));
-            Ok(id)
-        }
+    match out(tree) {
+        Ok(id) => Ok(id),
         Err(error) => Err(WriteError::Out(error)),
     }
 }
@@ -256,8 +273,8 @@ fn keep_subtree(
 /// counted, and entries with null ids are left out. `out` may be called on every well-formed tree
 /// without null ids, whatever it was called on before.
 ///
-/// It takes memory for the trees that go out, for the list of them and for a copy of its own tree,
-/// and none for an unchanged directory below it.
+/// It takes memory for the trees that go out and for the list of them, and none for an unchanged
+/// directory below it. Its own tree it keeps without a copy.
 ///
 /// `Out` with its refusal where `out` refused a tree, and then it is asked for no other;
 /// `OutOfMemory` where memory was wanting. A refusal leaves what is open as it was; `out` may have
@@ -283,10 +300,10 @@ pub fn write_all<E, F: FnMut(&Tree) -> Result<ObjectId, E>>(
     let mut trees = Vec::new(alloc);
     let mut saved = 0;
     let own = leaves_copied(alloc, node, out, &mut trees, &mut saved)?;
-    let root = copy_tree(alloc, &own)?;
-    let id = hand(own, out, &mut trees)?;
-    node.tree = root;
+    let id = ask(&own, out, &mut trees)?;
+    become_tree(&mut node.tree, &own);
     node.children = Vec::new(alloc);
+    let _ = trees.push((id, own));
     Ok(Written { id, trees, saved })
 }
 
