@@ -15,3 +15,4 @@ pub mod SameTrees
 pub mod SiftedEntries
 pub mod Steps
 pub mod StorablePairs
+pub mod WholeTrees

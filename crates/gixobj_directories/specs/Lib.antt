@@ -7,3 +7,4 @@ pub mod Nested
 pub mod Openings
 pub mod OwnTrees
 pub mod Sifted
+pub mod Wholes

@@ -9,4 +9,5 @@ pub mod opening;
 mod own_tree;
 mod places;
 mod sifted;
+mod wholes;
 pub mod write;
