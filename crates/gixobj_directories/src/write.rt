@@ -101,7 +101,7 @@ fn leaves<E, F: FnMut(&Tree) -> Result<ObjectId, E>>(
         let (child, behind) = next_of(left, entry);
         left = behind;
         let id = visit(alloc, entry, child, out, pairs, saved)?;
-        keep_subtree(alloc, &mut own, base, entry, id)?;
+        keep_subtree(alloc, &mut own, base, entry, id, node.tree.entries.len())?;
     }
     Ok(own)
 }
@@ -269,13 +269,14 @@ fn ask<E, F: FnMut(&Tree) -> Result<ObjectId, E>>(
     }
 }
 
-/// Adds the entry with the id that it gets, unless there is none or it is null.
+/// Adds the entry with the id that it gets, unless there is none or it is null. So many entries may come in all.
 fn keep_subtree(
     alloc: Global,
     own: &mut OwnTree,
     base: &[Entry],
     entry: &Entry,
     id: Option<ObjectId>,
+    room: usize,
 ) -> Result<(), AllocError>
     requires { IsBeside base.now own.old }
     ensures entries { OnOk result (so_far base.now own.new
@@ -290,7 +291,7 @@ fn keep_subtree(
     if id.is_null() {
         return Ok(());
     }
-    own.push(alloc, base, entry, id)
+    own.push(alloc, base, entry, id, room)
 }
 
 /// Hands out the changed directories that are open in this one, each behind those in it, and then
