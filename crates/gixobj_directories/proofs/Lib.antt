@@ -12,5 +12,7 @@ pub mod Ordered
 pub mod OwnTrees
 pub mod Replacing
 pub mod SameTrees
+pub mod SiftedEntries
 pub mod Steps
 pub mod StorablePairs
+pub mod WholeTrees

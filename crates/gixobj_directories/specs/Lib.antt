@@ -6,3 +6,5 @@ pub mod LookedUp
 pub mod Nested
 pub mod Openings
 pub mod OwnTrees
+pub mod Sifted
+pub mod Wholes

@@ -111,7 +111,7 @@ fn first_of(entries: &[Entry], name: &[u8]) -> Option<usize>
     entries.iter().position(|entry| is_named(entry, name))
 }
 
-fn is_named(entry: &Entry, name: &[u8]) -> bool
+pub(crate) fn is_named(entry: &Entry, name: &[u8]) -> bool
     ensures { result ≡ same_name entry.now.name name.now }
 {
     entry.filename.as_bytes() == name
@@ -130,7 +130,7 @@ fn place_for(entries: &[Entry], entry: &Entry) -> usize
 }
 
 /// Whether the entry's id isn't null.
-fn is_kept(entry: &Entry) -> bool
+pub(crate) fn is_kept(entry: &Entry) -> bool
     ensures { result ≡ not (is_null entry.now.id) }
 {
     !entry.oid.is_null()
@@ -142,7 +142,7 @@ fn is_kept(entry: &Entry) -> bool
 pub(crate) fn copies(alloc: Global, entries: &[Entry]) -> Result<Vec<Entry>, AllocError>
     ensures { IfOk result (λ copied. copied.items ≡ entries.now) }
 {
-    let mut copied = Vec::new(alloc);
+    let mut copied = Vec::with_capacity(alloc, entries.len())?;
     for entry in entries {
         copied.push(copy(alloc, entry)?)?;
     }

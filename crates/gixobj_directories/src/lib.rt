@@ -8,4 +8,6 @@ pub mod open;
 pub mod opening;
 mod own_tree;
 mod places;
+mod sifted;
+mod wholes;
 pub mod write;

@@ -32,13 +32,15 @@ impl OwnTree {
 
     /// Adds the entry with this id.
     ///
-    /// It takes no memory, and so doesn't fail, where the base goes on with that entry.
+    /// It takes no memory, and so doesn't fail, where the base goes on with that entry. Where the
+    /// tree first goes off, it takes room for so many entries in all.
     pub(crate) fn push(
         &mut self,
         alloc: Global,
         base: &[Entry],
         entry: &Entry,
         id: ObjectId,
+        room: usize,
     ) -> Result<(), AllocError>
         requires { IsBeside base.now self.old }
         ensures entries { OnOk result (so_far base.now self.new
@@ -53,7 +55,7 @@ impl OwnTree {
                     *same += 1;
                     return Ok(());
                 }
-                let own = behind(alloc, &base[..*same], entry, id)?;
+                let own = behind(alloc, &base[..*same], entry, id, room)?;
                 *self = OwnTree::Own(own);
                 Ok(())
             }
@@ -115,16 +117,18 @@ fn is_same(entry: &Entry, other: &Entry, id: ObjectId) -> bool
     entry.mode == other.mode && entry.filename == other.filename && entry.oid.cmp(&id).is_eq()
 }
 
-/// Copies of these entries, and behind them one of the entry with this id.
+/// Copies of these entries, and behind them one of the entry with this id, with room for so many in all.
 fn behind(
     alloc: Global,
     front: &[Entry],
     entry: &Entry,
     id: ObjectId,
+    room: usize,
 ) -> Result<Vec<Entry>, AllocError>
     ensures { IfOk result (λ it. it.items ≡ front.now ++ with_id entry.now id ∷ []) }
 {
     let mut own = copies(alloc, front)?;
+    own.reserve(room.saturating_sub(front.len()))?;
     push_copy(alloc, &mut own, entry, id)?;
     Ok(own)
 }

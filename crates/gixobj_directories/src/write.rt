@@ -1,5 +1,5 @@
 //! Open directories handed out, those in a directory before the directory itself.
-ghost use Rattle.std.specs.Prelude.{◌≡◌, ◌≢◌, ◌↔◌, ◌+◌, ◌++◌, ◌∷◌, [], ℕ, IsTrue, Some, IfErr, IfOk, List, None, Ok, OnErr, OnOk, ◌==◌, length};
+ghost use Rattle.std.specs.Prelude.{◌≡◌, ◌≢◌, ◌↔◌, ◌+◌, ◌++◌, ◌∷◌, [], ℕ, IsTrue, Some, IfErr, IfOk, List, None, Ok, OnErr, OnOk, ◌==◌, ◌<◌, length, vec_capacity, vec_len};
 ghost use Rattle.std.specs.Fn.{CalledAt};
 ghost use Rattle.std.specs.List.{FoldsTo};
 ghost use Rattle.std.specs.Option.{option_copied};
@@ -7,21 +7,25 @@ ghost use Rattle.gixobj_tree.specs.Entries.{EntryView, Pair};
 ghost use Rattle.gixobj_files.specs.Bases.{edited_bases};
 ghost use Rattle.gixobj_files.specs.Edits.{only, raised, with_path};
 ghost use Rattle.gixobj_files.specs.Files.{Path};
-ghost use Rattle.gixobj_files.specs.HandingOut.{HandsOutSome, Leaves, Saves, entry_with};
+ghost use Rattle.gixobj_files.specs.HandingOut.{HandsOutSome, Leaves, Saves};
 ghost use Rattle.gixobj_files.specs.Opening.{in_path};
 ghost use Rattle.gixobj_directories.specs.Calls.{IsCallableOnTrees, IsStorable, names_of, answered, denied};
 ghost use Rattle.gixobj_directories.specs.Handing.{Stopped, Visits, pairs_behind_next, child_side, kept_with, next_child};
 ghost use Rattle.gixobj_directories.specs.Nested.{base_side, bases_of, dirs_of, entries_side, opened};
 ghost use Rattle.gixobj_directories.specs.OwnTrees.{IsBeside, so_far};
+ghost use Rattle.gixobj_directories.specs.Wholes.{Adds, child_wholes, inside_of, wholes};
 
-use crate::open::{Child, Open, child_at, copy_tree};
+use crate::open::{Child, Open, child_at};
 use crate::own_tree::OwnTree;
+use crate::sifted::become_tree;
+use crate::wholes::{fill, take_wholes};
 use bstr::BString;
 use gixobj_hash::hash::ObjectId;
 use gixobj_tree::Tree;
 use gixobj_tree::tree::Entry;
 use std::alloc::{AllocError, AllocFailed, Global};
 use std::fmt::Display;
+use std::mem;
 
 /// What a write handed out: the changed trees, and that of the directory that was written.
 #[derive(Debug, Drop)]
@@ -68,7 +72,8 @@ impl<E, T: Drop> From<AllocFailed<T>> for WriteError<E> {
     }
 }
 
-/// Hands out what is open in a directory, and answers its own tree, which is made beside a base.
+/// Hands out what is open in a directory, and answers its own tree, which is made beside a base. The trees that
+/// go out as they stand stay where they are, and the pairs have empty ones for them.
 #[cycle(walk)]
 fn leaves<E, F: FnMut(&Tree) -> Result<ObjectId, E>>(
     alloc: Global,
@@ -82,7 +87,8 @@ fn leaves<E, F: FnMut(&Tree) -> Result<ObjectId, E>>(
     ensures beside { IfOk result (IsBeside base.now) }
     ensures ok { IfOk result (λ own. (below : List Pair) × (count : ℕ)
         × Leaves (dirs_of node.now) (bases_of node.now) below (so_far base.now own) count
-        × (saved.new ≡ raised saved.old count) × (pairs.new.items ≡ pairs.old.items ++ below)
+        × (saved.new ≡ raised saved.old count)
+        × Adds pairs.old.items pairs.new.items (wholes (inside_of node.now)) below
         × FoldsTo (answered F.FnMut) out.old below out.new) }
     ensures storable { IfOk result (λ own. IsStorable (so_far base.now own)) }
     ensures stopped { IfErr result (Stopped (answered F.FnMut) (denied F.FnMut)
@@ -95,7 +101,7 @@ fn leaves<E, F: FnMut(&Tree) -> Result<ObjectId, E>>(
         let (child, behind) = next_of(left, entry);
         left = behind;
         let id = visit(alloc, entry, child, out, pairs, saved)?;
-        keep_subtree(alloc, &mut own, base, entry, id)?;
+        keep_subtree(alloc, &mut own, base, entry, id, node.tree.entries.len())?;
     }
     Ok(own)
 }
@@ -128,7 +134,8 @@ fn visit<E, F: FnMut(&Tree) -> Result<ObjectId, E>>(
     ensures ok { IfOk result (λ id. (inner : List Pair) × (count : ℕ)
         × Visits (child_side entries_side (option_copied child.entry))
         (child_side base_side (option_copied child.entry)) entry.now inner (kept_with entry.now id)
-        count × (saved.new ≡ raised saved.old count) × (pairs.new.items ≡ pairs.old.items ++ inner)
+        count × (saved.new ≡ raised saved.old count)
+        × Adds pairs.old.items pairs.new.items (child_wholes (option_copied child.entry)) inner
         × FoldsTo (answered F.FnMut) out.old inner out.new) }
     ensures stopped { IfErr result (Stopped (answered F.FnMut) (denied F.FnMut)
         (λ inner. (kept : List EntryView) × (count : ℕ)
@@ -139,6 +146,10 @@ fn visit<E, F: FnMut(&Tree) -> Result<ObjectId, E>>(
     let Some(child) = child else {
         return Ok(Some(entry.oid));
     };
+    if let Some(tree) = child.open.whole() {
+        let given = hand_whole(alloc, tree, out, pairs)?;
+        return Ok(Some(given));
+    }
     let base = base_of(&child.open);
     let own = leaves(alloc, &child.open, base, out, pairs, saved)?;
     if own.is_bare() {
@@ -165,7 +176,8 @@ fn leaves_copied<E, F: FnMut(&Tree) -> Result<ObjectId, E>>(
     requires callable { IsCallableOnTrees F.pre (answered F.FnMut) out.old }
     ensures ok { IfOk result (λ own. (below : List Pair) × (count : ℕ)
         × Leaves (dirs_of node.now) (bases_of node.now) below own count
-        × (saved.new ≡ raised saved.old count) × (pairs.new.items ≡ pairs.old.items ++ below)
+        × (saved.new ≡ raised saved.old count)
+        × Adds pairs.old.items pairs.new.items (wholes (inside_of node.now)) below
         × FoldsTo (answered F.FnMut) out.old below out.new) }
     ensures storable { IfOk result IsStorable }
     ensures stopped { IfErr result (Stopped (answered F.FnMut) (denied F.FnMut)
@@ -186,7 +198,7 @@ fn entries_of(tree: &Tree) -> &[Entry]
 }
 
 /// The entries that the directory was opened with.
-fn base_of(node: &Open) -> &[Entry]
+pub(crate) fn base_of(node: &Open) -> &[Entry]
     ensures { bases_of node.now [] ≡ Some result.now }
 {
     entries_of(&node.base)
@@ -212,23 +224,59 @@ fn hand<E, F: FnMut(&Tree) -> Result<ObjectId, E>>(
     ensures stopped { IfErr result (Stopped (answered F.FnMut) (denied F.FnMut)
         (λ ps. (id : ObjectId) × (ps ≡ (id, tree) ∷ [])) out.old out.new) }
 {
+    let id = ask(&tree, out, pairs)?;
+    let _ = pairs.push((id, tree));
+    Ok(id)
+}
+
+/// Hands out a tree that stays where it is, and adds an empty one in its place to the pairs.
+fn hand_whole<E, F: FnMut(&Tree) -> Result<ObjectId, E>>(
+    alloc: Global,
+    tree: &Tree,
+    out: &mut F,
+    pairs: &mut Vec<(ObjectId, Tree)>,
+) -> Result<ObjectId, WriteError<E>>
+    requires callable { IsCallableOnTrees F.pre (answered F.FnMut) out.old }
+    requires storable { IsStorable tree.now }
+    ensures ok { IfOk result (λ id. (pairs.new.items ≡ pairs.old.items ++ (id, []) ∷ [])
+        × CalledAt F.FnMut out.old tree.now (Ok id) out.new) }
+    ensures stopped { IfErr result (Stopped (answered F.FnMut) (denied F.FnMut)
+        (λ ps. (id : ObjectId) × (ps ≡ (id, tree.now) ∷ [])) out.old out.new) }
+{
+    let id = ask(tree, out, pairs)?;
+    let _ = pairs.push((id, Tree::empty(alloc)));
+    Ok(id)
+}
+
+/// Hands a tree out, and answers the id that it got. There is room for its pair then.
+fn ask<E, F: FnMut(&Tree) -> Result<ObjectId, E>>(
+    tree: &Tree,
+    out: &mut F,
+    pairs: &mut Vec<(ObjectId, Tree)>,
+) -> Result<ObjectId, WriteError<E>>
+    requires callable { IsCallableOnTrees F.pre (answered F.FnMut) out.old }
+    requires storable { IsStorable tree.now }
+    ensures ok { IfOk result (λ id. CalledAt F.FnMut out.old tree.now (Ok id) out.new) }
+    ensures room { OnOk result (vec_len pairs.new < vec_capacity pairs.new) }
+    ensures items { pairs.new.items ≡ pairs.old.items }
+    ensures stopped { IfErr result (Stopped (answered F.FnMut) (denied F.FnMut)
+        (λ ps. (id : ObjectId) × (ps ≡ (id, tree.now) ∷ [])) out.old out.new) }
+{
     pairs.reserve(1)?;
-    match out(&tree) {
-        Ok(id) => {
-            let _ = pairs.push((id, tree));
-            Ok(id)
-        }
+    match out(tree) {
+        Ok(id) => Ok(id),
         Err(error) => Err(WriteError::Out(error)),
     }
 }
 
-/// Adds the entry with the id that it gets, unless there is none or it is null.
+/// Adds the entry with the id that it gets, unless there is none or it is null. So many entries may come in all.
 fn keep_subtree(
     alloc: Global,
     own: &mut OwnTree,
     base: &[Entry],
     entry: &Entry,
     id: Option<ObjectId>,
+    room: usize,
 ) -> Result<(), AllocError>
     requires { IsBeside base.now own.old }
     ensures entries { OnOk result (so_far base.now own.new
@@ -243,7 +291,7 @@ fn keep_subtree(
     if id.is_null() {
         return Ok(());
     }
-    own.push(alloc, base, entry, id)
+    own.push(alloc, base, entry, id, room)
 }
 
 /// Hands out the changed directories that are open in this one, each behind those in it, and then
@@ -256,8 +304,10 @@ fn keep_subtree(
 /// counted, and entries with null ids are left out. `out` may be called on every well-formed tree
 /// without null ids, whatever it was called on before.
 ///
-/// It takes memory for the trees that go out, for the list of them and for a copy of its own tree,
-/// and none for an unchanged directory below it.
+/// A tree of a directory below it in which nothing is open, and no id null, goes out as it stands,
+/// and is taken out of what is open when all are answered. So it takes memory for the other trees
+/// that go out, its own among them, for the list of all and for one of those, and for nothing else.
+/// Its own tree it keeps without a second copy.
 ///
 /// `Out` with its refusal where `out` refused a tree, and then it is asked for no other;
 /// `OutOfMemory` where memory ran out. A refusal leaves what is open as it was; `out` may have
@@ -283,10 +333,13 @@ pub fn write_all<E, F: FnMut(&Tree) -> Result<ObjectId, E>>(
     let mut trees = Vec::new(alloc);
     let mut saved = 0;
     let own = leaves_copied(alloc, node, out, &mut trees, &mut saved)?;
-    let root = copy_tree(alloc, &own)?;
-    let id = hand(own, out, &mut trees)?;
-    node.tree = root;
-    node.children = Vec::new(alloc);
+    let mut wholes = Vec::with_capacity(alloc, trees.len())?;
+    let id = ask(&own, out, &mut trees)?;
+    become_tree(&mut node.tree, &own);
+    let children = mem::replace(&mut node.children, Vec::new(alloc));
+    take_wholes(children, &mut wholes);
+    fill(&mut trees, wholes);
+    let _ = trees.push((id, own));
     Ok(Written { id, trees, saved })
 }
 

@@ -360,8 +360,9 @@ impl<S> Editor<S> {
     /// left out, and so are entries with null ids. The answer of `out` to a tree is its id in the
     /// tree above; a null one leaves it out.
     ///
-    /// It takes memory for the trees that go out, for the list of them and for a copy of the
-    /// root's, and none for an unchanged directory. It looks nothing up.
+    /// It takes memory for the root's tree, for the trees that go out of directories in which
+    /// another is open or an id is null, and for the list of all that go out. The others go out as
+    /// they stand, with no copy. It looks nothing up.
     ///
     /// `Out` where `out` refused a tree, `OutOfMemory` where memory ran out; the editor is as
     /// it was, and what `out` was asked so far stands.

@@ -1,23 +1,27 @@
 use Rattle.std.proofs.Common.{◌≡◌, ◌≢◌, ◌∙◌, ◌+◌, ◌<◌, ℕ, [], ◌∷◌, ◌++◌, List, Option, Some, None, Ok, Err, drop, length, refl, rules, sym, ap, subst, arith, append_assoc, append-nil}
 use Rattle.std.specs.Fn.{CalledAt}
 use Rattle.std.specs.Option.{option_copied}
+use Rattle.std.proofs.lemmas.List.{drop_all}
+use denote.Ref.{Bor}
 use Rattle.gixobj_tree.specs.Entries.{EntryView, IsWellFormed, Pair}
 use Rattle.gixobj_hash.specs.declared.hash.object_id.ObjectId.{ObjectId}
 use Rattle.gixobj_directories.specs.Calls.{IsStorable}
-use Rattle.gixobj_directories.specs.Handing.{Stopped, Visits, child_side, kept_with}
+use Rattle.gixobj_directories.specs.Handing.{Stopped, Visits, child_side, kept_with, next_child}
 use Rattle.gixobj_files.specs.HandingOut.{Leaves, entry_with, leaves}
-use Rattle.gixobj_directories.specs.Nested.{base_side, bases_of, dirs_of, entries_side, parts}
+use Rattle.gixobj_directories.specs.Nested.{Opened, base_side, bases_of, below, dirs_of, entries_side, parts}
 use Rattle.gixobj_directories.specs.OwnTrees.{so_far}
+use Rattle.gixobj_directories.specs.Wholes.{Adds, child_wholes, inside_of, wholes}
 use Rattle.gixobj_directories.specs.declared.open.Child.{Child}
 use Rattle.gixobj_files.specs.Opening.{Dirs, in_dir}
 use Rattle.gixobj_directories.proofs.Handing.{counts, in_both, raised_then, visit_unchanged, FoldsTo-append, FoldsTo-one, callable_after, err_weaker, is_empty_list, is_filled_list, open_side, stopped_after, stopped_here, visit_emptied, visit_open, visit_shut, visit_written, walk_ends, walk_goes, walk_on, walk_step, walk_storable}
 use Rattle.gixobj_directories.proofs.Levels.{level_root}
 use Rattle.gixobj_directories.proofs.Alongside.{Ahead, all_ahead, given_fewer, given_size, stepped}
+use Rattle.gixobj_directories.proofs.WholeTrees.{adds_blank, adds_child, adds_given, adds_none, adds_then, none_left, whole_goes, wholes_ahead}
 use Rattle.gixobj_directories.proofs.write.+walk.Goals as goal
 
 pub leaves-loop-entry-init : goal.leaves-loop-entry-init
 leaves-loop-entry-init g t c = record {
-  told = ([], 0, sym (append-nil c.args.pairs.now.items), refl, refl, rw c.new-own.ensures (λ qs own n walk. counts n (0 + n) (omega arith) walk));
+  told = ([], 0, ([], adds_none c.args.pairs.now.items, ap (λ cs. wholes (below (parts cs))) c.deref-left.ensures.value ∙ ap (λ (ds : Opened). wholes (inside_of ds)) c.node.view_is), refl, refl, rw c.new-own.ensures (λ qs own n walk. counts n (0 + n) (omega arith) walk));
   callable = c.requires.callable;
   beside = rw c.new-own.ensures (omega arith);
   ahead = rw (c.entries_of-entry-items.ensures, c.deref-left.ensures.value) (all_ahead c.args.node.now c.node.inside.tree c.node.inside.base c.node.inside.children.items c.node.view_is c.node.invariant);
@@ -39,11 +43,19 @@ leaves-loop-entry-preserved g t c =
     let base : in_dir e.name bases ≡ based = λ i path. (go.here base_side path ∙ ap (λ (o : Option Child). child_side base_side o path) (sym c.next_of.ensures.next)) i in
     let ok = c.in_ok-id.ensures.ok in
     let kept = c.in_ok-keep_subtree.ensures in
+    let left = c.loop-entry.left.now in
+    let ahead : child_wholes next ++ wholes (below (parts c.next_of.result.1.now)) ≡ wholes (below (parts left)) =
+    ap (λ o. child_wholes o ++ wholes (below (parts c.next_of.result.1.now))) c.next_of.ensures.next ∙ ap (λ cs. child_wholes (next_child e.name left) ++ wholes (below (parts cs))) c.next_of.ensures.behind
+    ∙ wholes_ahead e.name left c.loop-entry.invariant.ahead.ordered in
     record {
       told = (
         so.0 ++ ok.0,
         so.1 + ok.1,
-        ok.4 ∙ ap (λ ps. ps ++ ok.0) so.2 ∙ append_assoc c.args.pairs.now.items so.0 ok.0,
+        (
+          so.2.0 ++ child_wholes next,
+          adds_then c.args.pairs.now.items c.loop-entry.pairs.items c.visit.new.pairs.items so.2.0 so.0 (child_wholes next) ok.0 so.2.1 ok.4,
+          append_assoc so.2.0 (child_wholes next) _ ∙ ap (λ ts. so.2.0 ++ ts) ahead ∙ so.2.2,
+        ),
         raised_then _ _ _ so.1 ok.1 so.3 ok.3,
         FoldsTo-append (λ f p h. CalledAt g.F.FnMut f p.1 (Ok p.0) h) c.args.out.now so.0 c.loop-entry.out ok.0 c.visit.new.out so.4 ok.5,
         walk_step dirs bases inside based items c.loop-entry.entry-index e so.0 ok.0 (so_far c.args.base.now c.loop-entry.own) (kept_with e c.in_ok-id.id) so.1 ok.1 c.loop-entry-test.true c.entry-item.is same base ok.2 so.5 (so_far c.args.base.now c.keep_subtree.new.own) kept.entries,
@@ -117,7 +129,10 @@ leaves-returns-clause-ok g t c =
     let root : dirs [] ≡ Some items = level_root node c.node.inside.tree (parts c.node.inside.children.items) c.node.view_is ∙ ap Some (sym c.entries_of-entry-items.ensures) in
     let bases = bases_of node in
     let own = so_far c.args.base.now c.loop-entry.own in
-    (so.0, so.1, leaves dirs bases items so.0 own so.1 root (walk_ends dirs bases items c.loop-entry.entry-index so.0 own so.1 c.loop-entry-test.false so.5), so.3, so.2, so.4)
+    let none = none_left node _ _ (drop_all c.loop-entry.entry-index items c.loop-entry-test.false) c.loop-entry.invariant.ahead in
+    let all : so.2.0 ≡ wholes (inside_of node) = sym (append-nil so.2.0) ∙ ap (λ cs. so.2.0 ++ wholes (below (parts cs))) (sym none) ∙ so.2.2 in
+    let adds = subst (λ ts. Adds c.args.pairs.now.items c.loop-entry.pairs.items ts so.0) all so.2.1 in
+    (so.0, so.1, leaves dirs bases items so.0 own so.1 root (walk_ends dirs bases items c.loop-entry.entry-index so.0 own so.1 c.loop-entry-test.false so.5), so.3, adds, so.4)
 
 pub leaves-returns-clause-storable : goal.leaves-returns-clause-storable
 leaves-returns-clause-storable g t c =
@@ -138,7 +153,51 @@ visit-returns-in_default-clause-ok g t c =
     let inside = child_side entries_side (option_copied c.args.child) in
     let based = child_side base_side (option_copied c.args.child) in
     let none : inside [] ≡ None = ap (λ o. child_side entries_side (option_copied o) []) c.in_default.is in
-    ([], 0, subst (λ id. Visits inside based e [] (entry_with e id) 0) (sym (ap (λ (x : EntryView). x.id) c.entry.view_is)) (visit_shut inside based e none), refl, sym (append-nil c.args.pairs.now.items), refl)
+    ([], 0, subst (λ id. Visits inside based e [] (entry_with e id) 0) (sym (ap (λ (x : EntryView). x.id) c.entry.view_is)) (visit_shut inside based e none), refl, subst (λ (o : Option (Bor Child)). Adds c.args.pairs.now.items c.args.pairs.now.items (child_wholes (option_copied o)) []) (sym c.in_default.is) (adds_none c.args.pairs.now.items), refl)
+
+pub visit-returns-in-Some-whole-clause-ok : goal.visit-returns-in-Some-whole-clause-ok
+visit-returns-in-Some-whole-clause-ok g t c =
+    let e = c.args.entry.now in
+    let inside = child_side entries_side (option_copied c.args.child) in
+    let based = child_side base_side (option_copied c.args.child) in
+    let child = c.in-Some.child.now in
+    let there = open_side entries_side c.args.child c.in-Some.child c.in-Some.is in
+    let base = open_side base_side c.args.child c.in-Some.child c.in-Some.is in
+    let tree = c.in-Some-whole.tree.now in
+    let some = c.in-Some-whole.ensures.some in
+    let goes = whole_goes child.open tree some.0 some.1 some.2 in
+    let found : Leaves inside based [] tree 0 = in_both _ _ inside based there base [] tree 0 goes.found in
+    let changed : based [] ≢ Some tree = λ is. goes.changed (same_some _ _ (sym is ∙ sym (ap (λ (d : Dirs). d []) base) ∙ goes.based)) in
+    let handed = c.in_ok-given.ensures.ok in
+    let id = c.in_ok-given.given in
+    let gave = λ (f : g.row.F.Denot) (p : Pair) (h : g.row.F.Denot). CalledAt g.F.FnMut f p.1 (Ok p.0) h in (
+      (id, tree) ∷ [],
+      0,
+      visit_written inside based e [] tree 0 id goes.filled changed found,
+      refl,
+      adds_child c.args.child c.in-Some.child c.in-Some.is (tree ∷ []) goes.adds c.args.pairs.now.items c.hand_whole.new.pairs.items ((id, tree) ∷ []) (adds_blank c.args.pairs.now.items c.hand_whole.new.pairs.items (id, []) tree refl handed.0),
+      FoldsTo-one gave c.args.out.now (id, tree) c.hand_whole.new.out handed.1,
+    )
+
+pub visit-returns-in_err-given-clause-stopped : goal.visit-returns-in_err-given-clause-stopped
+visit-returns-in_err-given-clause-stopped g t c =
+    let e = c.args.entry.now in
+    let inside = child_side entries_side (option_copied c.args.child) in
+    let based = child_side base_side (option_copied c.args.child) in
+    let child = c.in-Some.child.now in
+    let there = open_side entries_side c.args.child c.in-Some.child c.in-Some.is in
+    let base = open_side base_side c.args.child c.in-Some.child c.in-Some.is in
+    let tree = c.in-Some-whole.tree.now in
+    let some = c.in-Some-whole.ensures.some in
+    let goes = whole_goes child.open tree some.0 some.1 some.2 in
+    let found : Leaves inside based [] tree 0 = in_both _ _ inside based there base [] tree 0 goes.found in
+    let changed : based [] ≢ Some tree = λ is. goes.changed (same_some _ _ (sym is ∙ sym (ap (λ (d : Dirs). d []) base) ∙ goes.based)) in
+    err_weaker c.from_residual.result _ _ c.from_residual.ensures.1
+    (λ error is. subst (Stopped (λ f p h. CalledAt g.F.FnMut f p.1 (Ok p.0) h) (λ f tree x h. CalledAt g.F.FnMut f tree (Err x) h) (λ inner. (kept : List EntryView) × (n : ℕ) × Visits inside based e inner kept n) c.args.out.now c.hand_whole.new.out) (sym is)
+    (stopped_after (λ f p h. CalledAt g.F.FnMut f p.1 (Ok p.0) h) (λ f tree x h. CalledAt g.F.FnMut f tree (Err x) h) (λ ps. (id : ObjectId) × (ps ≡ (id, tree) ∷ [])) (λ inner. (kept : List EntryView) × (n : ℕ) × Visits inside based e inner kept n)
+    c.args.out.now c.args.out.now c.hand_whole.new.out [] refl
+    (λ qs one. ([], (entry_with e one.0, 0, subst (λ ps. Visits inside based e ps (entry_with e one.0) 0) (sym (append-nil qs ∙ one.1)) (visit_written inside based e [] tree 0 one.0 goes.filled changed found))))
+    c.in_err-given.field-0.0 c.in_err-given.ensures.stopped))
 
 pub visit-returns-in_err-own-clause-stopped : goal.visit-returns-in_err-own-clause-stopped
 visit-returns-in_err-own-clause-stopped g t c =
@@ -148,7 +207,7 @@ visit-returns-in_err-own-clause-stopped g t c =
     let child = c.in-Some.child.now in
     let there = open_side entries_side c.args.child c.in-Some.child c.in-Some.is in
     let base = open_side base_side c.args.child c.in-Some.child c.in-Some.is in
-    err_weaker c.from_residual.result _ _ c.from_residual.ensures.1
+    err_weaker c.from_residual-in_err-own.result _ _ c.from_residual-in_err-own.ensures.1
     (λ error is. subst (Stopped (λ f p h. CalledAt g.F.FnMut f p.1 (Ok p.0) h) (λ f tree x h. CalledAt g.F.FnMut f tree (Err x) h) (λ inner. (kept : List EntryView) × (n : ℕ) × Visits inside based e inner kept n) c.args.out.now c.leaves.new.out) (sym is)
     (stopped_after (λ f p h. CalledAt g.F.FnMut f p.1 (Ok p.0) h) (λ f tree x h. CalledAt g.F.FnMut f tree (Err x) h) (λ ps. (own : List EntryView) × (n : ℕ) × Leaves (dirs_of child.open) (bases_of child.open) ps own n) (λ inner. (kept : List EntryView) × (n : ℕ) × Visits inside based e inner kept n)
     c.args.out.now c.args.out.now c.leaves.new.out [] refl
@@ -167,7 +226,7 @@ visit-returns-then-is_bare-clause-ok g t c =
     let own = so_far c.base_of-base.result.now c.in_ok-own.own in
     let found : Leaves inside based ok.0 own ok.1 = in_both _ _ inside based there base ok.0 own ok.1 ok.2 in
     let bare = is_empty_list own (c.if-is_bare.ensures {u = tt} c.base_of-base.result.now c.in_ok-own.ensures.beside) in
-    (ok.0, ok.1, visit_emptied inside based e ok.0 own ok.1 bare found, ok.3, ok.4, ok.5)
+    (ok.0, ok.1, visit_emptied inside based e ok.0 own ok.1 bare found, ok.3, adds_child c.args.child c.in-Some.child c.in-Some.is _ c.in_default-whole.ensures.none c.args.pairs.now.items _ ok.0 ok.4, ok.5)
 
 pub visit-returns-then-is_base-clause-ok : goal.visit-returns-then-is_base-clause-ok
 visit-returns-then-is_base-clause-ok g t c =
@@ -183,7 +242,7 @@ visit-returns-then-is_base-clause-ok g t c =
     let filled = is_filled_list own (c.if-is_bare.ensures {u = tt} c.base_of-base.result.now c.in_ok-own.ensures.beside) in
     let is_same : based [] ≡ Some own = sym (ap (λ (d : Dirs). d []) base) ∙ c.base_of-base.ensures ∙ ap Some (sym ((c.if-is_base.ensures {u = tt}).0 refl)) in
     let kept = subst (λ id. Visits inside based e ok.0 (entry_with e id) (ok.1 + 1)) (sym (ap (λ (x : EntryView). x.id) c.entry.view_is)) (visit_unchanged inside based e ok.0 own ok.1 filled is_same found) in
-    (ok.0, ok.1 + 1, kept, raised_then _ _ _ ok.1 1 ok.3 c.count.ensures, ok.4, ok.5)
+    (ok.0, ok.1 + 1, kept, raised_then _ _ _ ok.1 1 ok.3 c.count.ensures, adds_child c.args.child c.in-Some.child c.in-Some.is _ c.in_default-whole.ensures.none c.args.pairs.now.items _ ok.0 ok.4, ok.5)
 
 pub visit-returns-in_err-tree-clause-stopped : goal.visit-returns-in_err-tree-clause-stopped
 visit-returns-in_err-tree-clause-stopped g t c =
@@ -249,6 +308,7 @@ visit-returns-clause-ok g t c =
       ok.1,
       subst (λ t'. Visits inside based e (ok.0 ++ (c.in_ok-id.id, t') ∷ []) (entry_with e c.in_ok-id.id) ok.1) made (visit_written inside based e ok.0 own ok.1 c.in_ok-id.id filled changed found),
       ok.3,
-      handed.0 ∙ ap (λ ps. ps ++ (c.in_ok-id.id, tree) ∷ []) ok.4 ∙ append_assoc c.args.pairs.now.items ok.0 ((c.in_ok-id.id, tree) ∷ []),
+      adds_child c.args.child c.in-Some.child c.in-Some.is _ (c.in_default-whole.ensures.none ∙ sym (append-nil _)) c.args.pairs.now.items c.hand.new.pairs.items (ok.0 ++ (c.in_ok-id.id, tree) ∷ [])
+          (adds_then c.args.pairs.now.items c.leaves.new.pairs.items c.hand.new.pairs.items _ ok.0 [] ((c.in_ok-id.id, tree) ∷ []) ok.4 (adds_given _ _ (c.in_ok-id.id, tree) (λ none. filled (made ∙ none)) handed.0)),
       FoldsTo-append gave c.args.out.now ok.0 c.leaves.new.out ((c.in_ok-id.id, tree) ∷ []) c.hand.new.out ok.5 (FoldsTo-one gave c.leaves.new.out (c.in_ok-id.id, tree) c.hand.new.out handed.1),
     )

@@ -5,8 +5,9 @@ use Rattle.gixobj_tree.specs.Entries.{EntryView, Pair}
 use Rattle.gixobj_files.specs.Edits.{raised}
 use Rattle.gixobj_files.specs.HandingOut.{Walks}
 use Rattle.gixobj_directories.specs.Calls.{IsCallableOnTrees}
-use Rattle.gixobj_directories.specs.Nested.{bases_of, dirs_of}
+use Rattle.gixobj_directories.specs.Nested.{bases_of, below, dirs_of, parts}
 use Rattle.gixobj_directories.specs.OwnTrees.{IsBeside, so_far}
+use Rattle.gixobj_directories.specs.Wholes.{Adds, inside_of, wholes}
 use Rattle.gixobj_directories.proofs.Alongside.{Ahead, given_size}
 use Rattle.gixobj_directories.proofs.write.+walk.Given as goal
 
@@ -19,7 +20,7 @@ decreases-visit g l = 2 * given_size l.child + 1
 -- what went out so far, and whatever goes out for the entries to come, are together what goes out
 abbrev pub invariant-leaves-loop-entry : goal.invariant-leaves-loop-entry
 invariant-leaves-loop-entry g l = record {
-  told : (ps : List Pair) × (count : ℕ) × (l.pairs.items ≡ l.fn.pairs.items ++ ps) × (l.saved ≡ raised l.fn.saved count) × FoldsTo (λ f p h. CalledAt g.F.FnMut f p.1 (Ok p.0) h) l.fn.out ps l.out
+  told : (ps : List Pair) × (count : ℕ) × ((ts : List (List EntryView)) × Adds l.fn.pairs.items l.pairs.items ts ps × (ts ++ wholes (below (parts l.left)) ≡ wholes (inside_of l.fn.node))) × (l.saved ≡ raised l.fn.saved count) × FoldsTo (λ f p h. CalledAt g.F.FnMut f p.1 (Ok p.0) h) l.fn.out ps l.out
       × ((qs : List Pair) (own : List EntryView) (n : ℕ) → Walks (dirs_of l.fn.node) (bases_of l.fn.node) (drop l.entry-index l.entry-items) qs own n → Walks (dirs_of l.fn.node) (bases_of l.fn.node) l.entry-items (ps ++ qs) (so_far l.base l.own ++ own) (count + n));
   callable : IsCallableOnTrees (λ f tree. g.F.FnMut.pre f (tree, tt)) (λ f p h. CalledAt g.F.FnMut f p.1 (Ok p.0) h) l.out;
   beside : IsBeside l.base l.own;

@@ -1,15 +1,23 @@
-use Rattle.std.proofs.Common.{◌≡◌, ◌∙◌, ◌++◌, ℕ, [], ◌∷◌, List, Ok, Err, refl, sym, ap, subst, append-nil}
+use Rattle.std.proofs.Common.{arith, ◌≡◌, ◌≢◌, ◌∙◌, ◌++◌, ℕ, length, [], ◌∷◌, List, Ok, Err, refl, sym, ap, subst, append-nil}
 use Rattle.std.specs.Fn.{CalledAt}
-use Rattle.gixobj_tree.specs.Entries.{EntryView, Pair}
+use Rattle.gixobj_tree.specs.Entries.{EachLater, EntryView, Pair}
 use Rattle.gixobj_hash.specs.declared.hash.object_id.ObjectId.{ObjectId}
 use Rattle.gixobj_directories.specs.Handing.{Stopped}
 use Rattle.gixobj_files.specs.HandingOut.{HandsOutSome, Leaves}
-use Rattle.gixobj_directories.specs.Nested.{Opened, bases_of, dirs_of, opened, parts}
+use Rattle.gixobj_directories.specs.Nested.{Opened, bases_of, below, dirs_of, opened, parts}
 use Rattle.gixobj_directories.proofs.Handing.{FoldsTo-append, FoldsTo-one, callable_after, err_weaker, hands_more, stopped_after, stopped_here}
+use Rattle.std.specs.Prelude.{reverse}
+use Rattle.std.specs.declared.vec.Vec.{Vec}
+use Rattle.std.specs.declared.alloc.Global.{Global}
+use Rattle.std.proofs.lemmas.List.{reverse-reverse, with_items_is}
+use Rattle.gixobj_directories.specs.Wholes.{Fills, inside_of, wholes}
 use Rattle.gixobj_files.specs.Bases.{base_edited}
 use Rattle.gixobj_directories.specs.declared.open.Child.{Child}
 use Rattle.gixobj_directories.proofs.BaseSteps.{written_base}
 use Rattle.gixobj_directories.proofs.Levels.{based_root, level_root}
+use Rattle.gixobj_directories.proofs.Ordered.{level_apart}
+use Rattle.gixobj_directories.proofs.SiftedEntries.{leaves_sifted}
+use Rattle.gixobj_directories.proofs.WholeTrees.{fewer_wholes}
 use Rattle.gixobj_directories.proofs.write.write_all.Goals as goal
 
 pub returns-in_err-own-clause-stopped : goal.returns-in_err-own-clause-stopped
@@ -21,13 +29,13 @@ returns-in_err-own-clause-stopped g c =
     (stopped_after (λ f p h. CalledAt g.F.FnMut f p.1 (Ok p.0) h) (λ f tree x h. CalledAt g.F.FnMut f tree (Err x) h) (λ ps. (own : List EntryView) × (n : ℕ) × Leaves dirs bases ps own n) (HandsOutSome dirs bases)
     c.args.out.now c.args.out.now c.leaves_copied.new.out [] refl (λ qs found. hands_more dirs bases qs found.0 found.1 found.2) c.in_err-own.field-0.0 (c.in_err-own.ensures {u = tt}).stopped))
 
-pub returns-in_err-root-clause-stopped : goal.returns-in_err-root-clause-stopped
-returns-in_err-root-clause-stopped g c =
+pub returns-in_err-wholes-clause-stopped : goal.returns-in_err-wholes-clause-stopped
+returns-in_err-wholes-clause-stopped g c =
     let dirs = dirs_of c.args.node.now in
     let bases = bases_of c.args.node.now in
     let ok = (c.in_ok-own.ensures {u = tt}).ok in
     let more = hands_more dirs bases ok.0 c.in_ok-own.own ok.1 ok.2 in
-    err_weaker c.from_residual-in_err-root.result _ _ c.from_residual-in_err-root.ensures.1
+    err_weaker c.from_residual-in_err-wholes.result _ _ c.from_residual-in_err-wholes.ensures.1
     (stopped_here (λ f p h. CalledAt g.F.FnMut f p.1 (Ok p.0) h) (λ f tree x h. CalledAt g.F.FnMut f tree (Err x) h) (HandsOutSome dirs bases) c.args.out.now c.leaves_copied.new.out ok.0 more.0 ok.5 more.1)
 
 pub returns-in_err-id-clause-stopped : goal.returns-in_err-id-clause-stopped
@@ -37,36 +45,70 @@ returns-in_err-id-clause-stopped g c =
     let ok = (c.in_ok-own.ensures {u = tt}).ok in
     let own = c.in_ok-own.own in
     err_weaker c.from_residual-in_err-id.result _ _ c.from_residual-in_err-id.ensures.1
-    (λ error is. subst (Stopped (λ f p h. CalledAt g.F.FnMut f p.1 (Ok p.0) h) (λ f tree x h. CalledAt g.F.FnMut f tree (Err x) h) (HandsOutSome dirs bases) c.args.out.now c.hand.new.out) (sym is)
+    (λ error is. subst (Stopped (λ f p h. CalledAt g.F.FnMut f p.1 (Ok p.0) h) (λ f tree x h. CalledAt g.F.FnMut f tree (Err x) h) (HandsOutSome dirs bases) c.args.out.now c.ask.new.out) (sym is)
     (stopped_after (λ f p h. CalledAt g.F.FnMut f p.1 (Ok p.0) h) (λ f tree x h. CalledAt g.F.FnMut f tree (Err x) h) (λ ps. (id : ObjectId) × (ps ≡ (id, own) ∷ [])) (HandsOutSome dirs bases)
-    c.args.out.now c.leaves_copied.new.out c.hand.new.out ok.0 ok.5 (λ qs one. ([], (ok.1, ok.0, one.0, own, ok.2, ap (λ ps. ok.0 ++ ps) (append-nil qs ∙ one.1)))) c.in_err-id.field-0.0 (c.in_err-id.ensures {u = tt}).stopped))
+    c.args.out.now c.leaves_copied.new.out c.ask.new.out ok.0 ok.5 (λ qs one. ([], (ok.1, ok.0, one.0, own, ok.2, ap (λ ps. ok.0 ++ ps) (append-nil qs ∙ one.1)))) c.in_err-id.field-0.0 (c.in_err-id.ensures {u = tt}).stopped))
 
 pub returns-clause-ok : goal.returns-clause-ok
 returns-clause-ok g c =
     let ok = (c.in_ok-own.ensures {u = tt}).ok in
     let own = c.in_ok-own.own in
     let handed = (c.in_ok-id.ensures {u = tt}).ok in
-    let left : opened c.in_ok-root.root c.node.inside.base (parts c.new.result.items) ≡ opened own c.node.inside.base [] =
-    ap (λ (es : List EntryView). opened es c.node.inside.base (parts c.new.result.items)) (c.in_ok-root.ensures {u = tt}) ∙ ap (λ (cs : List Child). opened own c.node.inside.base (parts cs)) c.new.ensures.items in
+    let room = c.push.ensures.succeeds (c.in_ok-id.ensures {u = tt}).room in
+    let node = c.args.node.now in
+    let all = wholes (inside_of node) in
+    let inside : wholes (below (parts c.node.inside.children.items)) ≡ all = ap (λ (ds : Opened). wholes (inside_of ds)) c.node.view_is in
+    let given : c.ask.new.pairs.items ≡ ok.4.0 = c.ask.ensures.items ∙ ok.4.1 ∙ ap (λ ps. ps ++ ok.4.0) c.new-trees.ensures.items in
+    let was : wholes (below (parts c.replace-children.result.items)) ≡ all = ap (λ (cs : Vec Child Global). wholes (below (parts cs.items))) c.replace-children.ensures.value ∙ inside in
+    let taken : reverse c.take_wholes.new.trees.items ≡ all =
+    ap reverse (c.take_wholes.ensures.items ∙ ap (λ l. l ++ reverse (wholes (below (parts c.replace-children.result.items)))) (c.in_ok-wholes.ensures {u = tt}).items)
+    ∙ reverse-reverse (wholes (below (parts c.replace-children.result.items))) ∙ was in
+    let fills : Fills ok.4.0 (reverse c.take_wholes.new.trees.items) ok.0 = subst (λ ts. Fills ok.4.0 ts ok.0) (sym taken) ok.4.2 in
+    let filled : c.fill.new.pairs ≡ ok.0 = c.fill.ensures ok.0 (subst (λ us. Fills us (reverse c.take_wholes.new.trees.items) ok.0) (sym (c.deref_mut.ensures.value ∙ given)) fills) in
+    let back = with_items_is c.ask.new.pairs c.fill.new.pairs (c.fill.auto.pairs ∙ c.deref_mut.ensures.len) in
+    let pushed = (rw room at c.push.ensures.items) ∙ ap (λ ps. ps ++ (c.in_ok-id.id, own) ∷ []) (back ∙ filled) in
+    let left : opened c.become_tree.new.tree c.node.inside.base (parts c.replace-children.new.dest.items) ≡ opened own c.node.inside.base [] =
+    ap (λ (es : List EntryView). opened es c.node.inside.base (parts c.replace-children.new.dest.items)) c.become_tree.ensures
+    ∙ ap (λ (cs : Vec Child Global). opened own c.node.inside.base (parts cs.items)) c.replace-children.ensures.after
+    ∙ ap (λ (cs : List Child). opened own c.node.inside.base (parts cs)) c.new.ensures.items in
     let gave = λ (f : g.row.F.Denot) (p : Pair) (h : g.row.F.Denot). CalledAt g.F.FnMut f p.1 (Ok p.0) h in (
       ok.0,
       own,
       (ok.1, ok.2, ok.3),
-      handed.0 ∙ ap (λ ps. ps ++ (c.in_ok-id.id, own) ∷ []) (ok.4 ∙ ap (λ ps. ps ++ ok.0) c.new-trees.ensures.items),
-      FoldsTo-append gave c.args.out.now ok.0 c.leaves_copied.new.out ((c.in_ok-id.id, own) ∷ []) c.hand.new.out ok.5 (FoldsTo-one gave c.leaves_copied.new.out (c.in_ok-id.id, own) c.hand.new.out handed.1),
+      pushed,
+      FoldsTo-append gave c.args.out.now ok.0 c.leaves_copied.new.out ((c.in_ok-id.id, own) ∷ []) c.ask.new.out ok.5 (FoldsTo-one gave c.leaves_copied.new.out (c.in_ok-id.id, own) c.ask.new.out handed),
       (c.in_ok-own.ensures {u = tt}).storable,
       (c.node.inside.base, left),
     )
 
-pub hand-requires-clause-callable : goal.hand-requires-clause-callable
-hand-requires-clause-callable g c = let ok = (c.in_ok-own.ensures {u = tt}).ok in callable_after _ (λ f p h. CalledAt g.F.FnMut f p.1 (Ok p.0) h) c.args.out.now ok.0 c.leaves_copied.new.out ok.5 c.requires
+pub ask-requires-clause-callable : goal.ask-requires-clause-callable
+ask-requires-clause-callable g c = let ok = (c.in_ok-own.ensures {u = tt}).ok in callable_after _ (λ f p h. CalledAt g.F.FnMut f p.1 (Ok p.0) h) c.args.out.now ok.0 c.leaves_copied.new.out ok.5 c.requires
 
 pub returns-clause-bases : goal.returns-clause-bases
 returns-clause-bases g c =
     let own = c.in_ok-own.own in
     let node = c.args.node.now in
-    let left : opened c.in_ok-root.root c.node.inside.base (parts c.new.result.items) ≡ opened own c.node.inside.base [] =
-    ap (λ (es : List EntryView). opened es c.node.inside.base (parts c.new.result.items)) (c.in_ok-root.ensures {u = tt}) ∙ ap (λ (cs : List Child). opened own c.node.inside.base (parts cs)) c.new.ensures.items in
+    let left : opened c.become_tree.new.tree c.node.inside.base (parts c.replace-children.new.dest.items) ≡ opened own c.node.inside.base [] =
+    ap (λ (es : List EntryView). opened es c.node.inside.base (parts c.replace-children.new.dest.items)) c.become_tree.ensures
+    ∙ ap (λ (cs : Vec Child Global). opened own c.node.inside.base (parts cs.items)) c.replace-children.ensures.after
+    ∙ ap (λ (cs : List Child). opened own c.node.inside.base (parts cs)) c.new.ensures.items in
     let ps = parts c.node.inside.children.items in
     λ at. subst (λ (ds : Opened). bases_of ds at ≡ base_edited (dirs_of node at) (dirs_of ds at) (bases_of node at)) (sym left)
     (written_base node c.node.inside.tree own c.node.inside.base (level_root node c.node.inside.tree ps c.node.view_is) (based_root node c.node.inside.tree ps c.node.view_is) at)
+
+pub become_tree-requires-clause-sifted : goal.become_tree-requires-clause-sifted
+become_tree-requires-clause-sifted g c =
+    let ok = (c.in_ok-own.ensures {u = tt}).ok in
+    leaves_sifted (dirs_of c.args.node.now) (bases_of c.args.node.now) ok.0 c.in_ok-own.own ok.1 c.node.inside.tree ok.2 (level_root c.args.node.now c.node.inside.tree (parts c.node.inside.children.items) c.node.view_is)
+
+pub take_wholes-requires-clause-apart : goal.take_wholes-requires-clause-apart
+take_wholes-requires-clause-apart g c = subst (λ (cs : Vec Child Global). EachLater (λ x y. x.0 ≢ y.0) (parts cs.items)) (sym c.replace-children.ensures.value) (level_apart c.node.invariant)
+
+pub take_wholes-requires-clause-room : goal.take_wholes-requires-clause-room
+take_wholes-requires-clause-room g c =
+    let ok = (c.in_ok-own.ensures {u = tt}).ok in
+    let fewer = fewer_wholes ok.4.0 (wholes (inside_of c.args.node.now)) ok.0 ok.4.2 in
+    let pairs = ap length (ok.4.1 ∙ ap (λ ps. ps ++ ok.4.0) c.new-trees.ensures.items) in
+    let trees = ap (λ (cs : Vec Child Global). length (wholes (below (parts cs.items)))) c.replace-children.ensures.value ∙ ap (λ (ds : Opened). length (wholes (inside_of ds))) c.node.view_is in
+    let made = c.in_ok-wholes.ensures {u = tt} in
+    omega (arith, fewer, pairs, trees, made.exact, made.len, c.len.ensures, c.leaves_copied.new.pairs.ok.0)
