@@ -4,7 +4,7 @@
 //! tells what came of each.
 #![tactic(auto)]
 
-use gixobj_base::streams::ToWrite;
+use gixobj_fields::streams::ToWrite;
 use gixobj_script::engine::engine;
 use gixobj_show::engine::tell;
 use gixobj_show::words::words_of_process;

@@ -2,7 +2,7 @@
 //! crates and so are soon built.
 #![tactic(auto)]
 
-use gixobj_base::streams::ToWrite;
+use gixobj_fields::streams::ToWrite;
 use gixobj_show::engine::{engine, tell};
 use gixobj_show::words::words_of_process;
 use std::process::ExitCode;

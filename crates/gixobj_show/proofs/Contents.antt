@@ -1,10 +1,10 @@
 -- What refuses a loose object refuses what the commands make of it.
 use Rattle.std.proofs.Common.{ℕ, List}
-use Rattle.gixobj_base.specs.Decode.{IsShort, RefusesHeader, RefusesLooseContent}
-use Rattle.gixobj_base.specs.hash.decode.LooseContentError.{LooseContentError}
-use Rattle.gixobj_base.specs.hash.decode.LooseContentError.TheVariants.{Header, Short}
-use Rattle.gixobj_base.specs.hash.decode.LooseHeaderDecodeError.{LooseHeaderDecodeError}
-use Rattle.gixobj_base.specs.hash.decode.LooseHeaderDecodeError.TheVariants as header
+use Rattle.gixobj_hash.specs.Decode.{IsShort, RefusesHeader, RefusesLooseContent}
+use Rattle.gixobj_hash.specs.declared.decode.LooseContentError.{LooseContentError}
+use Rattle.gixobj_hash.specs.declared.decode.LooseContentError.TheVariants.{Header, Short}
+use Rattle.gixobj_hash.specs.declared.decode.LooseHeaderDecodeError.{LooseHeaderDecodeError}
+use Rattle.gixobj_hash.specs.declared.decode.LooseHeaderDecodeError.TheVariants as header
 use Rattle.gixobj_hash.proofs.Headers.{not_refused, parts_of}
 use Rattle.gixobj_show.specs.Listing.{RefusesListedTree}
 use Rattle.gixobj_show.specs.Refusal.{HasNoLooseHeader, content_refusal}

@@ -1,8 +1,8 @@
 -- The text of a tree with entries begins with the first of them.
 use Rattle.std.proofs.Common.{◌≢◌, ℕ, List, [], ◌∷◌, refl}
 use Rattle.std.specs.List.{concat}
-use Rattle.gixobj_base.specs.Entries.{EntryView}
-use Rattle.gixobj_base.specs.hash.hash.kind.Kind as hash
+use Rattle.gixobj_tree.specs.Entries.{EntryView}
+use Rattle.gixobj_hash.specs.declared.hash.kind.Kind as hash
 use Rattle.gixobj_tree.specs.TreeReading.{BeginsWithEntry, IsTreeText}
 
 pub first_entry : (hash : hash.Kind) (content : List ℕ) (entries : List EntryView)

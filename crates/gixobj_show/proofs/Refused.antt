@@ -1,7 +1,7 @@
 -- What refuses an input that was read whole refuses the run.
 use Rattle.std.proofs.Common.{ℕ, List, Option}
-use Rattle.gixobj_base.specs.Streams.{SinkView}
-use Rattle.gixobj_base.specs.hash.hash.kind.Kind as hash
+use Rattle.gixobj_fields.specs.Streams.{SinkView}
+use Rattle.gixobj_hash.specs.declared.hash.kind.Kind as hash
 use Rattle.gixobj_show.specs.Engine.{Asks, ReadsAll, RefusesAnswer, RefusesCommandText}
 use Rattle.gixobj_show.specs.Show.{RefusesShow}
 use Rattle.gixobj_show.specs.Words.{AsksFor}

@@ -1,11 +1,11 @@
 -- A run of the program: what it reads, what it writes, and its status.
 use Rattle.std.specs.Prelude.{◌≡◌, ◌⊎◌, ℕ, List, Option}
 use Rattle.std.specs.Io.KnownBytes.{Consumes, IsAtEnd}
-use Rattle.gixobj_base.specs.Decode.{IsShort}
-use Rattle.gixobj_base.specs.Streams.{Puts, PutsFront, SinkView}
-use Rattle.gixobj_base.specs.hash.hash.kind.Kind as hash
-use Rattle.gixobj_base.specs.hash.hash.object_id.ObjectId.{ObjectId}
-use Rattle.gixobj_base.specs.hash.kind.Kind.{Kind}
+use Rattle.gixobj_hash.specs.Decode.{IsShort}
+use Rattle.gixobj_fields.specs.Streams.{Puts, PutsFront, SinkView}
+use Rattle.gixobj_hash.specs.declared.hash.kind.Kind as hash
+use Rattle.gixobj_hash.specs.declared.hash.object_id.ObjectId.{ObjectId}
+use Rattle.gixobj_hash.specs.declared.kind.Kind.{Kind}
 use Rattle.gixobj_show.specs.Listing.{IsBadTree, IsListed, IsOfAnotherKind, RefusesListing}
 use Rattle.gixobj_show.specs.Refusal.{HasNoLooseHeader, exit_status_of, line_of}
 use Rattle.gixobj_show.specs.Show.{IsShown, RefusesShow, show_line}

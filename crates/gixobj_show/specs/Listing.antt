@@ -1,14 +1,14 @@
 -- What `tree` tells of a loose tree.
 use Rattle.std.specs.Prelude.{◌≡◌, ◌≢◌, ◌⊎◌, ℕ, List, [], ◌∷◌, ◌++◌}
 use Rattle.std.specs.List.{flat_map}
-use Rattle.gixobj_base.specs.Bytes.{newline, space}
-use Rattle.gixobj_base.specs.Decode.{HasContent, IsShort}
-use Rattle.gixobj_base.specs.Entries.{EntryView}
-use Rattle.gixobj_base.specs.Hash.{hex_text}
-use Rattle.gixobj_base.specs.Mode.{entry_word, kind_of_mode, mode_text}
-use Rattle.gixobj_base.specs.hash.hash.kind.Kind as hash
-use Rattle.gixobj_base.specs.hash.kind.Kind.{Kind}
-use Rattle.gixobj_base.specs.hash.kind.Kind.TheVariants.{Tree}
+use Rattle.gixobj_hash.specs.Bytes.{newline, space}
+use Rattle.gixobj_hash.specs.Decode.{HasContent, IsShort}
+use Rattle.gixobj_tree.specs.Entries.{EntryView}
+use Rattle.gixobj_hash.specs.Hash.{hex_text}
+use Rattle.gixobj_tree.specs.Mode.{entry_word, kind_of_mode, mode_text}
+use Rattle.gixobj_hash.specs.declared.hash.kind.Kind as hash
+use Rattle.gixobj_hash.specs.declared.kind.Kind.{Kind}
+use Rattle.gixobj_hash.specs.declared.kind.Kind.TheVariants.{Tree}
 use Rattle.gixobj_tree.specs.TreeReading.{BeginsWithEntry, IsNoTreeText, IsTreeText}
 use Rattle.gixobj_show.specs.Refusal.{HasNoLooseHeader}
 use Rattle.gixobj_show.specs.declared.refusal.Refusal.{Refusal}

@@ -1,13 +1,13 @@
 -- Why the program gives no answer, and what it says of it.
 use Rattle.std.specs.Prelude.{ℕ, List, codes}
-use Rattle.gixobj_base.specs.Decode.{HasLooseHeader}
-use Rattle.gixobj_base.specs.hash.decode.LooseContentError.{LooseContentError}
-use Rattle.gixobj_base.specs.hash.decode.LooseContentError.TheVariants.{Header, Short}
-use Rattle.gixobj_base.specs.hash.decode.LooseHeaderDecodeError.TheVariants as header
-use Rattle.gixobj_base.specs.hash.kind.Kind.{Kind}
+use Rattle.gixobj_hash.specs.Decode.{HasLooseHeader}
+use Rattle.gixobj_hash.specs.declared.decode.LooseContentError.{LooseContentError}
+use Rattle.gixobj_hash.specs.declared.decode.LooseContentError.TheVariants.{Header, Short}
+use Rattle.gixobj_hash.specs.declared.decode.LooseHeaderDecodeError.TheVariants as header
+use Rattle.gixobj_hash.specs.declared.kind.Kind.{Kind}
 use Rattle.gixobj_show.specs.declared.refusal.Refusal.{Refusal}
 use Rattle.gixobj_show.specs.declared.refusal.Refusal.TheVariants.{Usage, InputFailed, OutputFailed, OutOfMemory, BadHeader, ShortData, NotATree, BadTree}
-use Rattle.gixobj_base.specs.HeaderText.{line_text}
+use Rattle.gixobj_fields.specs.HeaderText.{line_text}
 
 -- the input begins with no loose header
 abbrev pub HasNoLooseHeader : List ℕ → Type 0

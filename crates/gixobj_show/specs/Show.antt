@@ -1,12 +1,12 @@
 -- What `show` tells of a loose object.
 use Rattle.std.specs.Prelude.{◌≡◌, ℕ, List, [], ◌∷◌, ◌++◌, decimal, length}
-use Rattle.gixobj_base.specs.Bytes.{newline, space}
-use Rattle.gixobj_base.specs.Decode.{HasContent, IsShort}
-use Rattle.gixobj_base.specs.Hash.{hex_text, id_of}
-use Rattle.gixobj_base.specs.Kind.{kind_word}
-use Rattle.gixobj_base.specs.hash.hash.kind.Kind as hash
-use Rattle.gixobj_base.specs.hash.hash.object_id.ObjectId.{ObjectId}
-use Rattle.gixobj_base.specs.hash.kind.Kind.{Kind}
+use Rattle.gixobj_hash.specs.Bytes.{newline, space}
+use Rattle.gixobj_hash.specs.Decode.{HasContent, IsShort}
+use Rattle.gixobj_hash.specs.Hash.{hex_text, id_of}
+use Rattle.gixobj_hash.specs.Kind.{kind_word}
+use Rattle.gixobj_hash.specs.declared.hash.kind.Kind as hash
+use Rattle.gixobj_hash.specs.declared.hash.object_id.ObjectId.{ObjectId}
+use Rattle.gixobj_hash.specs.declared.kind.Kind.{Kind}
 use Rattle.gixobj_show.specs.Refusal.{HasNoLooseHeader}
 use Rattle.gixobj_show.specs.declared.refusal.Refusal.{Refusal}
 use Rattle.gixobj_show.specs.declared.refusal.Refusal.TheVariants.{BadHeader, OutOfMemory, ShortData}

@@ -1,7 +1,7 @@
 -- What the words after the program's name ask for.
 use Rattle.std.specs.Prelude.{◌≡◌, ℕ, List, [], ◌∷◌, codes}
-use Rattle.gixobj_base.specs.hash.hash.kind.Kind.{Kind}
-use Rattle.gixobj_base.specs.hash.hash.kind.Kind.TheVariants.{Sha1, Sha256}
+use Rattle.gixobj_hash.specs.declared.hash.kind.Kind.{Kind}
+use Rattle.gixobj_hash.specs.declared.hash.kind.Kind.TheVariants.{Sha1, Sha256}
 use Rattle.gixobj_show.specs.declared.words.Command.{Command}
 use Rattle.gixobj_show.specs.declared.words.Command.TheVariants.{Show, Tree}
 

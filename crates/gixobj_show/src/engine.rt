@@ -2,7 +2,7 @@
 ghost use Rattle.std.specs.Prelude.{◌≡◌, ◌≢◌, map, OnOk, IfErr, IfOk, ⊤};
 ghost use Rattle.std.specs.String.{string_bytes};
 ghost use Rattle.gixobj_show.specs.Engine.{Answered, IsRefusal, IsTextFor, RefusesAnswer, RefusesCommandText, Told, Unread, Unwritten};
-ghost use Rattle.gixobj_base.specs.Streams.{writer_view};
+ghost use Rattle.gixobj_fields.specs.Streams.{writer_view};
 ghost use Rattle.gixobj_show.specs.Refusal.{line_of, exit_status_of};
 
 use crate::input::read_all;
@@ -10,8 +10,8 @@ use crate::refusal::Refusal;
 use crate::show::show;
 use crate::tree::listing;
 use crate::words::{Command, asked};
-use gixobj_base::hash;
-use gixobj_base::streams::{FromRead, Sink, Source, ToWrite};
+use gixobj_fields::streams::{FromRead, Sink, Source, ToWrite};
+use gixobj_hash::hash;
 use smallvec::SmallVec;
 use std::alloc::Global;
 use std::io::{Read, Write};

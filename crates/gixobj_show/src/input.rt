@@ -4,7 +4,7 @@ ghost use Rattle.std.specs.Io.KnownBytes.{Consumes, IsAtEnd};
 ghost use Rattle.gixobj_show.specs.Input.{RefusesInput};
 
 use crate::refusal::Refusal;
-use gixobj_base::streams::Source;
+use gixobj_fields::streams::Source;
 use std::alloc::Global;
 
 /// All the bytes that are left of a source.

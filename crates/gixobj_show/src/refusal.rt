@@ -2,8 +2,8 @@
 ghost use Rattle.std.specs.Prelude.{◌≡◌};
 ghost use Rattle.gixobj_show.specs.Refusal.{line_of, exit_status_of};
 
-use gixobj_base::decode::{LooseContentError, LooseHeaderDecodeError};
-use gixobj_base::streams::Sink;
+use gixobj_fields::streams::Sink;
+use gixobj_hash::decode::{LooseContentError, LooseHeaderDecodeError};
 
 /// Why the program gives no answer.
 #[derive(Clone, Copy, Debug, PartialEq, Eq)]

@@ -3,9 +3,9 @@ ghost use Rattle.std.specs.Prelude.{◌≡◌, IfOk, IfErr};
 ghost use Rattle.gixobj_show.specs.Show.{IsShown, RefusesShow, show_line};
 
 use crate::refusal::Refusal;
-use gixobj_base::decode::loose_content;
-use gixobj_base::hash::ObjectId;
-use gixobj_base::{Kind, compute_hash, hash};
+use gixobj_hash::decode::loose_content;
+use gixobj_hash::hash::ObjectId;
+use gixobj_hash::{Kind, compute_hash, hash};
 use itoa::Buffer;
 use smallvec::SmallVec;
 use std::alloc::Global;

@@ -1,13 +1,13 @@
 //! `tree`: the entries of a loose tree, a line each.
 ghost use Rattle.std.specs.Prelude.{◌≡◌, ◌≢◌, [], ◌++◌, IfOk, IfErr, OnErr, OnOk};
-ghost use Rattle.gixobj_base.specs.Decode.{HasContent};
-ghost use Rattle.gixobj_base.specs.hash.kind.Kind.TheVariants.{Tree};
+ghost use Rattle.gixobj_hash.specs.Decode.{HasContent};
+ghost use Rattle.gixobj_hash.specs.declared.kind.Kind.TheVariants.{Tree};
 ghost use Rattle.gixobj_show.specs.Listing.{IsListed, RefusesListing, RefusesListedTree, entry_line, listing_of};
 ghost use Rattle.gixobj_tree.specs.TreeViews.{entry_view, tree_entries};
 
 use crate::refusal::Refusal;
-use gixobj_base::decode::{Error, loose_content};
-use gixobj_base::{Kind, hash};
+use gixobj_hash::decode::{Error, loose_content};
+use gixobj_hash::{Kind, hash};
 use gixobj_tree::TreeRef;
 use gixobj_tree::tree::EntryRef;
 use std::alloc::{AllocError, Global};

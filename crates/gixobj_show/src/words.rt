@@ -6,7 +6,7 @@ ghost use Rattle.gixobj_show.specs.declared.refusal.Refusal.TheVariants.{OutOfMe
 ghost use Rattle.gixobj_show.specs.declared.words.Command.{Command};
 
 use crate::refusal::Refusal;
-use gixobj_base::hash;
+use gixobj_hash::hash;
 use std::env;
 use std::io::ErrorKind;
 use std::rt::Env;
