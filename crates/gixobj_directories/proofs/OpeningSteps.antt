@@ -162,10 +162,6 @@ pub names_none : (path : List BString) → length path ≡ 0 → names_of path �
 names_none [] h = refl
 names_none (name ∷ rest) h = absurd (omega (arith, h))
 
-pub on_err : {X E : Type 0} (r : Result X E) (P : Type 0) → P → OnErr r P
-on_err (Ok x) P p = tt
-on_err (Err error) P p = p
-
 -- what an entry's directory is opened with
 abbrev pub OpensAs : (EntryView → Type 0) → Trees → EntryView → List EntryView → List ObjectId → Type 0
 OpensAs Ends trees e entries first = (Ends e → ⊥) × Finds trees e.id entries first

@@ -1,10 +1,7 @@
 pub mod Calls
 pub mod Falls
 pub mod Handing
-pub mod KeyPlaces
 pub mod LookedUp
 pub mod Nested
 pub mod Openings
-pub mod OwnTrees
-pub mod Sifted
 pub mod Wholes

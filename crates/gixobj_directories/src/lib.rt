@@ -2,12 +2,8 @@
 #![tactic(auto)]
 
 pub mod assure;
-pub mod entries;
 pub mod laws;
 pub mod open;
 pub mod opening;
-mod own_tree;
-mod places;
-mod sifted;
 mod wholes;
 pub mod write;

@@ -12,12 +12,12 @@ ghost use Rattle.gixobj_files.specs.Opening.{in_path};
 ghost use Rattle.gixobj_directories.specs.Calls.{IsCallableOnTrees, IsStorable, names_of, answered, denied};
 ghost use Rattle.gixobj_directories.specs.Handing.{Stopped, Visits, pairs_behind_next, child_side, kept_with, next_child};
 ghost use Rattle.gixobj_directories.specs.Nested.{base_side, bases_of, dirs_of, entries_side, opened};
-ghost use Rattle.gixobj_directories.specs.OwnTrees.{IsBeside, so_far};
+ghost use Rattle.gixobj_entries.specs.OwnTrees.{IsBeside, so_far};
 ghost use Rattle.gixobj_directories.specs.Wholes.{Adds, child_wholes, inside_of, wholes};
 
 use crate::open::{Child, Open, child_at};
-use crate::own_tree::OwnTree;
-use crate::sifted::become_tree;
+use gixobj_entries::own_tree::OwnTree;
+use gixobj_entries::sifted::become_tree;
 use crate::wholes::{fill, take_wholes};
 use bstr::BString;
 use gixobj_hash::hash::ObjectId;

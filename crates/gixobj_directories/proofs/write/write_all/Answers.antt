@@ -16,7 +16,7 @@ use Rattle.gixobj_directories.specs.declared.open.Child.{Child}
 use Rattle.gixobj_directories.proofs.BaseSteps.{written_base}
 use Rattle.gixobj_directories.proofs.Levels.{based_root, level_root}
 use Rattle.gixobj_directories.proofs.Ordered.{level_apart}
-use Rattle.gixobj_directories.proofs.SiftedEntries.{leaves_sifted}
+use Rattle.gixobj_entries.proofs.SiftedEntries.{leaves_sifted}
 use Rattle.gixobj_directories.proofs.WholeTrees.{fewer_wholes}
 use Rattle.gixobj_directories.proofs.write.write_all.Goals as goal
 
@@ -100,6 +100,9 @@ pub become_tree-requires-clause-sifted : goal.become_tree-requires-clause-sifted
 become_tree-requires-clause-sifted g c =
     let ok = (c.in_ok-own.ensures {u = tt}).ok in
     leaves_sifted (dirs_of c.args.node.now) (bases_of c.args.node.now) ok.0 c.in_ok-own.own ok.1 c.node.inside.tree ok.2 (level_root c.args.node.now c.node.inside.tree (parts c.node.inside.children.items) c.node.view_is)
+
+pub become_tree-requires-clause-filled : goal.become_tree-requires-clause-filled
+become_tree-requires-clause-filled g c = (c.in_ok-own.ensures {u = tt}).storable.no_nulls
 
 pub take_wholes-requires-clause-apart : goal.take_wholes-requires-clause-apart
 take_wholes-requires-clause-apart g c = subst (λ (cs : Vec Child Global). EachLater (λ x y. x.0 ≢ y.0) (parts cs.items)) (sym c.replace-children.ensures.value) (level_apart c.node.invariant)

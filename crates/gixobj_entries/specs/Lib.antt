@@ -1,0 +1,3 @@
+pub mod KeyPlaces
+pub mod OwnTrees
+pub mod Sifted
