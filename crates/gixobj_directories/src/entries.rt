@@ -91,7 +91,7 @@ pub fn take_out(entries: &mut Vec<Entry>, name: &[u8])
 
 /// Copies of the entries whose ids aren't null, in their order.
 ///
-/// It takes memory for the list and for each name, and fails only where that is wanting.
+/// It takes memory for the list and for each name, and fails only where memory runs out.
 pub fn copy_kept(alloc: Global, entries: &[Entry]) -> Result<Vec<Entry>, AllocError>
     ensures { IfOk result (λ copies. copies.items ≡ kept entries.now) }
 {
@@ -138,7 +138,7 @@ pub(crate) fn is_kept(entry: &Entry) -> bool
 
 /// Copies of the entries, with names of their own.
 ///
-/// It takes memory for the list and for each name, and fails only where that is wanting.
+/// It takes memory for the list and for each name, and fails only where memory runs out.
 pub(crate) fn copies(alloc: Global, entries: &[Entry]) -> Result<Vec<Entry>, AllocError>
     ensures { IfOk result (λ copied. copied.items ≡ entries.now) }
 {
