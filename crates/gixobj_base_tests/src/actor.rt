@@ -28,7 +28,7 @@ fn newlines_that_cannot_be_written(rt: HostRuntime) {
     assert!(rt; is_illegal(rt.alloc(), &actor));
 }
 
-/// Whether an actor is the same, made owned, copied and borrowed again.
+/// Whether an actor is the same where it is copied, copied once more and borrowed again.
 fn is_kept(alloc: Global, actor: &SignatureRef<'_>) -> bool {
     let Ok(owned) = actor.to_owned(alloc) else {
         return false;

@@ -32,7 +32,7 @@ pub record IsRoot (objects : Objects) (id : ObjectId) (entries : List EntryView)
 abbrev pub NamesFilled : Objects → ObjectId → Type 0
 NamesFilled objects id = (entries : List EntryView) × NamesSuch objects id Tree (λ hash text. IsTreeText hash text entries) × (entries ≢ [])
 
--- why the store gives no root: the lookup was refused, or the tree isn't well-formed, or memory for its entries was wanting
+-- why the store gives no root: the lookup was refused, or the tree isn't well-formed, or memory for its entries ran out
 abbrev pub RefusesStored : Objects → (ObjectId → Bool) → ObjectId → RootError → Type 0
 RefusesStored objects may_fail id (root.Find cause) = RefusesObject objects may_fail Tree id cause
 RefusesStored objects may_fail id root.Malformed = NamesMalformed objects id

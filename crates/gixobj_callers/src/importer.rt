@@ -175,9 +175,9 @@ fn place_of_answer<E>(replies: &[Reply<E>]) -> Option<usize>
         .position(|reply| !matches!(reply, Reply::Edit(EditReply::Done)))
 }
 
-/// Reads a commit, makes it owned and writes it: its parts as they were read, with ids in lower case,
-/// actors by their parts, and times as they are written. Of a commit's text it is refused only for want
-/// of memory or room, for an actor with a byte that no owned one may have, or for an empty encoding.
+/// Reads a commit, copies it and writes the copy: its parts as they were read, with ids in lower case,
+/// actors by their parts, and times as they are written. Of a commit's text it is refused only where
+/// memory runs out, an actor has a byte that no owned one may have, or the encoding is empty.
 pub fn owned_copy_of(alloc: Global, text: &[u8], kind: Kind) -> Result<Vec<u8>, CopyError>
     ensures parts { IfOk result (λ copy. (commit own : CommitLines)
         × IsCommitText kind text.now commit × AreOwnPartsOfCommit commit own

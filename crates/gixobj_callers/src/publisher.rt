@@ -20,7 +20,7 @@ use gix_object::{TagRef, TagRefIter, WriteTo};
 use std::alloc::Global;
 
 /// Reads a tag and writes it: a text comes back as it was where it is unsigned or its message is more than
-/// newlines. Of the text of a tag whose name may be a tag's it is refused only for want of room.
+/// newlines. Of the text of a tag whose name may be a tag's it is refused only where memory runs out.
 pub fn tag_copy_of(alloc: Global, text: &[u8], kind: Kind) -> Result<Vec<u8>, CopyError>
     ensures same { IfOk result (λ copy. (tag : TagLines) → IsTagText kind text.now tag
         → KeepsBody tag → copy.items ≡ text.now) }

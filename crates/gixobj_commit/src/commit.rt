@@ -148,7 +148,7 @@ impl CommitRef<'_> {
     /// the rest. A time is the start of 1970 in UTC where its text says none.
     ///
     /// `Malformed` where the line of the author or of the committer is no actor's, and else
-    /// `OutOfMemory` where memory is wanting.
+    /// `OutOfMemory` where memory runs out.
     pub fn into_owned(self, alloc: Global) -> Result<Commit, Error>
         requires { HasIds (commit_lines self) }
         ensures owned { IfOk result (IsOwnedFormOfCommit (commit_lines self.entry)) }

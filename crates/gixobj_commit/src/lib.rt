@@ -1,4 +1,4 @@
-//! Commits, read whole, copied, signed and written (gitdatamodel, "commits"). The reader stands on the reader of one
+//! Commits, read whole, copied, signed and written (gitdatamodel, "commits"). The reader depends on the reader of one
 //! line, in [`lines`], as that of tokens does, in a crate above.
 #![tactic(auto)]
 

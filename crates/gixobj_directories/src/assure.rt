@@ -19,7 +19,7 @@ impl Open {
     /// as empty: an entry of a tree's mode that is there stays, and else one with the id `null` is put in, in
     /// place of any entry of that name. Without names nothing changes.
     ///
-    /// It fails only where memory is wanting, and then nothing has changed; where the directory is open it
+    /// It fails only where memory runs out, and then nothing has changed; where the directory is open it
     /// takes none.
     pub fn assure(
         &mut self,

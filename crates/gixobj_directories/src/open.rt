@@ -212,7 +212,7 @@ impl Open {
     /// entry of a tree's mode that is there stays, and else one with the id `null` is put in, in place of any
     /// entry of that name.
     ///
-    /// It fails only where memory is wanting, and then nothing has changed.
+    /// It fails only where memory runs out, and then nothing has changed.
     pub fn put(
         &mut self,
         alloc: Global,
@@ -277,7 +277,7 @@ impl Open {
 impl Open {
     /// A copy of the directory and of all that is open in it.
     ///
-    /// It fails only where memory is wanting.
+    /// It fails only where memory runs out.
     pub fn copy(&self, alloc: Global) -> Result<Open, AllocError>
         ensures { IfOk result (λ it. it ≡ self.now) }
     {

@@ -93,8 +93,8 @@ fn cursor_keeps(alloc: Global) -> Option<bool> {
     Some(put && is_written(alloc, &mut editor, 2, root))
 }
 
-/// Whether a file put into a stored directory and taken out leaves the root alone to be handed out. None for want of
-/// memory before its edits.
+/// Whether a file put into a stored directory and taken out leaves the root alone to be handed out. None where
+/// memory runs out before its edits.
 fn nothing_changed(alloc: Global) -> Option<bool> {
     let mut editor = stored_file(alloc, &[b"a", b"b", b"c"]).ok()?;
     let path = path_of(alloc, b"a b d").ok()?;

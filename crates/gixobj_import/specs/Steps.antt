@@ -58,7 +58,7 @@ module _ {S : Type 0} (means : Meaning S) where
     pub may_fail : (it : ObjectId) → means.may_fail new.store it ≡ means.may_fail old.store it
 
   -- why the step's commit isn't kept: an actor can't be written; or the store doesn't keep it; or memory
-  -- was wanting
+  -- ran out
   abbrev pub RefusesStepCommit : hash.Kind → Step → ObjectId → Option ObjectId → State S → ImportError → State S → Type 0
   RefusesStepCommit hash step tree parent old (import.NotKept error) new = IsCommitUnkept (id_of hash Commit (step_text step tree parent)) old error new
   RefusesStepCommit hash step tree parent old error new = RefusesStepText step error × (new ≡ old)

@@ -1,5 +1,5 @@
 //! Commits and tags read token by token, with their signatures found on the way (gitdatamodel, "commits", "tag objects").
-//! They stand on what reads a line of a commit and a part of a tag, as the readers of whole ones do.
+//! They depend on what reads a line of a commit and a part of a tag, as the readers of whole ones do.
 #![tactic(auto)]
 
 pub mod commit;

@@ -46,7 +46,7 @@ pub record IsSignedTag {S : Type 0} (runs : S → CallView → Answer → S → 
 abbrev pub RefusesWritingTag : Tag → encode.Error → Type 0
 RefusesWritingTag tag cause = (before after : SinkView) × RefusesWriting (RefusesOwnedTag tag) before after (tag_text (owned_tag_lines tag)) cause
 
--- why a tag without signature has no payload: it can't be written, or memory is wanting for the newline behind it
+-- why a tag without signature has no payload: it can't be written, or memory runs out for the newline behind it
 abbrev pub HasNoPayload : Tag → Error → Type 0
 HasNoPayload tag error = (RefusesNothing (RefusesOwnedTag tag) × (error ≡ sign.OutOfMemory)) ⊎ ((cause : encode.Error) × (error ≡ sign.Encode cause) × RefusesWritingTag tag cause)
 

@@ -100,7 +100,7 @@ impl TagRef<'_> {
     /// the rest. The time is the start of 1970 in UTC where its text says none.
     ///
     /// `Malformed` where bytes follow the actor of the tagger's line, or it is none, and else
-    /// `OutOfMemory` where memory is wanting.
+    /// `OutOfMemory` where memory runs out.
     pub fn into_owned(self, alloc: Global) -> Result<Tag, Error>
         requires { IsHexOfAnId (tag_lines self).target }
         ensures owned { IfOk result (IsOwnedFormOfTag (tag_lines self.entry)) }

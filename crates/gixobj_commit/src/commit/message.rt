@@ -34,7 +34,7 @@ impl<'a> CommitRef<'a> {
     /// The first lines of the message on one line: as [`MessageRef::summary`], but of the whole message, of
     /// which empty lines at the front are left out and of which an empty line ends the title.
     ///
-    /// `OutOfMemory` where memory is wanting, which a message of one line takes none of.
+    /// `OutOfMemory` where memory runs out: a message of one line takes none.
     pub fn message_summary(&self, alloc: Global) -> Result<CowSlice<'a, u8>, OutOfMemory>
         ensures value { IfOk result (λ it. cow_slice_items it
             ≡ summary_of (commit_lines self.now).message) }

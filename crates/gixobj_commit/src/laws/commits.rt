@@ -39,9 +39,9 @@ pub fn commit_writes_back()
 {}
 
 /// The owned form of a commit has its parts: ids in lower case, actors by their parts, their times as
-/// they are written, all else as it is. A commit that was read finds an owned form but for want of
-/// memory, and that is written but for want of room, an actor with a byte that no owned one may have,
-/// or an empty encoding.
+/// they are written, all else as it is. A commit that was read finds an owned form unless memory runs
+/// out, and that is written unless the sink fails, an actor has a byte that no owned one may have, or
+/// the encoding is empty.
 pub fn owned_forms_have_the_parts()
     ensures parts { (lines : CommitLines) (commit : Commit) → IsOwnedFormOfCommit lines commit
         → AreOwnPartsOfCommit lines (owned_commit_lines commit) }

@@ -17,7 +17,7 @@ const TOLD: [&str; 6] = [
     "ok\nok\nok\nunkept 3c4e9cd789d88d8d89c1073707c3585e41b0e614\nlookups 0\n",
 ];
 
-/// Whether the script is told with ample memory, or for want of it, and then with memory when it is run again.
+/// Whether the script is told with ample memory, or ends out of memory and is told with memory when it is run again.
 fn is_told(alloc: Global) -> Result<bool, AllocError> {
     let (status, told, refused) = answer_of(alloc, "edit", NESTED)?;
     if status == 0 && told.as_slice() == NESTED_LINES.as_bytes() {

@@ -56,7 +56,7 @@ pub(crate) enum Outcome {
     Other,
 }
 
-/// Whether the id of a tree is wanting for memory alone.
+/// Whether a tree has no id only because memory ran out.
 fn is_for_memory(refusal: &encode::Error) -> bool {
     matches!(
         refusal,

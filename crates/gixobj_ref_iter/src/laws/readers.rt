@@ -84,8 +84,8 @@ pub fn actors_are_found()
         → IsAtStartOfCommit kind text reader → ¬ FindsNoToken IsCommitterToken reader Malformed }
 {}
 
-/// Of the text of a commit a reader at its start finds the commit's message, and refuses it but for
-/// out of memory.
+/// Of the text of a commit a reader at its start finds the commit's message, and refuses it only
+/// where memory runs out.
 pub fn message_is_found()
     ensures message { (kind : Kind) (text : List ℕ) (commit : CommitLines) (reader : CommitRefIter)
         (message : List ℕ) → IsCommitText kind text commit → IsAtStartOfCommit kind text reader

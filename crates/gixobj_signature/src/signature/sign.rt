@@ -98,12 +98,12 @@ pub fn is_literal_ssh_key(key: &[u8]) -> Option<&[u8]>
 }
 
 /// Has these bytes signed, by one call of the program, and answers the signature, without each return that stands
-/// directly before a newline. All that signs an object stands on it.
+/// directly before a newline. All that signs an object depends on it.
 ///
 /// `MissingSigningKey` where the key is empty, before any call. `TemporaryFile`, `Spawn` and `Communicate` where the
 /// runner says so, `Failed` where the program does. `MissingSignatureConfirmation` where no line that a program of
 /// OpenPGP or X.509 wrote on its standard error begins with `[GNUPG:] SIG_CREATED ` (gnupg, doc/DETAILS),
-/// `MissingSshSignature` where one of SSH left no file. `OutOfMemory` where memory is wanting for the call or for the
+/// `MissingSshSignature` where one of SSH left no file. `OutOfMemory` where memory runs out for the call or for the
 /// signature, or where the runner wants it.
 pub fn sign_payload<R: Runner>(
     alloc: Global,

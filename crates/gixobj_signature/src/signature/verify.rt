@@ -159,7 +159,7 @@ impl SignedData<'_> {
     ///
     /// `UnsupportedFormat` where the signature begins with no marker, and `FormatMismatch` where its marker is not of
     /// the program's format: then no call is made, and no memory is taken. `TemporaryFile`, `Spawn`, `Communicate` and
-    /// `CommitTime` where the runner says so. `OutOfMemory` where memory is wanting for a call or for what it
+    /// `CommitTime` where the runner says so. `OutOfMemory` where memory runs out for a call or for what it
     /// answered, or where the runner wants it. A signature that isn't accepted is no error: [`Outcome::is_valid`] tells.
     ///
     /// A program of SSH is asked for the principals of the key, and then for each of them in turn until one is

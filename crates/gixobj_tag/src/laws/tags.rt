@@ -34,8 +34,8 @@ pub fn tag_writes_back()
 {}
 
 /// The owned form of a tag has its parts: the id in lower case, the tagger by its parts, its time as it is
-/// written, all else as it is. It is written but for want of room, a name that no tag may have, or a tagger
-/// with a byte that no owned one may have.
+/// written, all else as it is. It is written unless the sink fails, its name is one that no tag may have, or its
+/// tagger has a byte that no owned one may have.
 pub fn owned_tags_have_the_parts()
     ensures parts { (lines : TagLines) (tag : Tag) → IsOwnedFormOfTag lines tag
         → AreOwnPartsOfTag lines (owned_tag_lines tag) }

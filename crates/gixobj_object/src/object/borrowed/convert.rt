@@ -15,7 +15,7 @@ use std::alloc::Global;
 impl ObjectRef<'_> {
     /// The same object, with parts of its own.
     ///
-    /// `Malformed` where a line of an actor is none, and else `OutOfMemory` where memory is wanting.
+    /// `Malformed` where a line of an actor is none, and else `OutOfMemory` where memory runs out.
     pub fn into_owned(self, alloc: Global) -> Result<Object, Error>
         requires { HasObjectIds self }
         ensures owned { IfOk result (IsOwnedObject self.entry) }
