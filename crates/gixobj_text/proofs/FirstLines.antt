@@ -1,5 +1,5 @@
 -- A text's first line.
-use Rattle.std.proofs.Common.{◌≡◌, ◌≢◌, ◌+◌, ◌<◌, ◌∙◌, ap, arith, sym, ℕ, List, [], ◌∷◌, ◌++◌, Some, None, length, take, drop, slice_index, length-take-le, take-append-drop}
+use Rattle.std.proofs.Common.{◌≡◌, ◌≢◌, ◌+◌, ◌<◌, ◌∙◌, ap, arith, sym, ℕ, zero, suc, List, [], ◌∷◌, ◌++◌, Some, None, length, take, drop, slice_index, length-take-le, take-append-drop}
 use Rattle.std.proofs.lemmas.Bool.{eqb-true, eq-eqb}
 use Rattle.bstr.specs.Find.{IsFirstByte, is_byte}
 use Rattle.bstr.specs.Text.{line_len, lines_of}
@@ -11,6 +11,18 @@ ends_at text place (none, here) = line_len-at text place none.high (eqb-true (sl
 
 pub ends_nowhere : (text : List ℕ) → IsFirstByte (is_byte 10) text None → line_len text ≡ length text
 ends_nowhere text none = line_len-none text (λ k below is. none k (omega arith) below (eq-eqb (slice_index text k) 10 is))
+
+-- the first byte is a newline
+pub ends_first : (text : List ℕ) → 0 < length text → slice_index text 0 ≡ 10 → line_len text ≡ 1
+ends_first text some here = line_len-at text 0 some here (λ k below is. absurd (omega (arith, below)))
+
+first_other : (text : List ℕ) → slice_index text 0 ≢ 10 → (k : ℕ) → k < 1 → slice_index text k ≢ 10
+first_other text other zero below = other
+first_other text other (suc k) below = absurd (omega (arith, below))
+
+-- the second is, and the first isn't
+pub ends_second : (text : List ℕ) → 1 < length text → slice_index text 0 ≢ 10 → slice_index text 1 ≡ 10 → line_len text ≡ 2
+ends_second text some other here = line_len-at text 1 some here (first_other text other)
 
 some_filled : (text : List ℕ) → 0 < length text → text ≢ []
 some_filled [] some = absurd (omega arith)

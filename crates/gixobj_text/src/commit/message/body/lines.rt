@@ -1,5 +1,7 @@
 //! The lines of a body.
 ghost use Rattle.std.specs.Prelude.{◌≡◌, ◌≤◌, [], MatchOption, length};
+ghost use Rattle.std.specs.Char.{is_ascii_whitespace};
+ghost use Rattle.std.specs.List.{list_all};
 ghost use Rattle.bstr.specs.Text.{line_len};
 ghost use Rattle.gixobj_text.specs.FirstLines.{IsFirstLine};
 ghost use Rattle.gixobj_text.specs.BodyLines.{begins_indented as begins_indented_of, is_blank, text_of, without_last_byte};
@@ -44,15 +46,36 @@ pub(crate) fn begins_indented(text: &[u8]) -> bool
 pub(crate) fn is_blank_line(line: &[u8]) -> bool
     ensures { result ≡ is_blank line.now }
 {
-    line_text(line)
-        .iter()
-        .all(|byte| byte.is_ascii_whitespace())
+    is_blank_text(line_text(line))
+}
+
+/// Whether a text is white space alone.
+#[inline(always)]
+pub(crate) fn is_blank_text(text: &[u8]) -> bool
+    ensures { result ≡ list_all is_ascii_whitespace text.now }
+{
+    text.iter().all(|byte| byte.is_ascii_whitespace())
+}
+
+/// How many bytes the first line takes. Many lines are empty, so its first bytes are looked at before its end is
+/// sought.
+#[inline(always)]
+#[tactic(auto, using(crate::proofs::FirstLines::ends_first, crate::proofs::FirstLines::ends_second))]
+fn first_line_len(text: &[u8]) -> usize
+    ensures is { result ≡ line_len text.now }
+    ensures within { result ≤ length text.now }
+{
+    match text {
+        [b'\n', ..] => 1,
+        [_, b'\n', ..] => 2,
+        _ => sought_line_len(text),
+    }
 }
 
 /// How many bytes the first line takes.
 #[inline(always)]
 #[tactic(auto, using(crate::proofs::FirstLines::ends_at, crate::proofs::FirstLines::ends_nowhere))]
-fn first_line_len(text: &[u8]) -> usize
+fn sought_line_len(text: &[u8]) -> usize
     ensures is { result ≡ line_len text.now }
     ensures within { result ≤ length text.now }
 {

@@ -1,10 +1,11 @@
 //! What is known of the lines of a run.
-ghost use Rattle.std.specs.Prelude.{◌≡◌, ◌+◌, ◌*◌, ◌<◌, ◌≤◌, ◌^◌, ◌||◌, ◌↔◌, ◌⊎◌, IsTrue, cond, true, false};
+ghost use Rattle.std.specs.Prelude.{◌≡◌, ◌+◌, ◌*◌, ◌<◌, ◌≤◌, ◌^◌, ◌||◌, ◌↔◌, ◌⊎◌, IsTrue, codes, cond, nat_eq, true, false};
+ghost use Rattle.std.specs.List.{starts_with};
 ghost use Rattle.gixobj_text.specs.BodyLines.{is_indented as is_indented_of, is_recognised as is_recognised_of};
 ghost use Rattle.gixobj_text.specs.TrailerBlocks.{is_trailing as is_trailing_of};
 
 use crate::commit::message::body::lines::{begins_indented, line_text};
-use crate::commit::message::body::trailer_lines::is_trailer_line;
+use crate::commit::message::body::trailer_lines::is_trailer_text;
 
 /// What is known of the lines of a run.
 #[derive(Clone, Copy, Debug)]
@@ -27,12 +28,12 @@ pub(crate) fn is_indented(line: &[u8]) -> bool
     begins_indented(line_text(line))
 }
 
-/// Whether git itself makes such a line.
+/// Whether git itself makes a line with this text.
 #[inline(always)]
-fn is_recognised(line: &[u8]) -> bool
-    ensures { result ≡ is_recognised_of line.now }
+fn is_recognised_text(text: &[u8]) -> bool
+    ensures { result ≡ (starts_with nat_eq text.now (codes "Signed-off-by: ")
+        || starts_with nat_eq text.now (codes "(cherry picked from commit ")) }
 {
-    let text = line_text(line);
     text.starts_with(b"Signed-off-by: ") || text.starts_with(b"(cherry picked from commit ")
 }
 
@@ -93,8 +94,9 @@ impl Run {
         ensures above { result.above ≡ cond (is_trailing_of line.now) true
             (cond (is_indented_of line.now) self.above false) }
     {
-        let (recognised, indented) = (is_recognised(line), is_indented(line));
-        let trailing = recognised || is_trailer_line(line);
+        let text = line_text(line);
+        let (recognised, indented) = (is_recognised_text(text), begins_indented(text));
+        let trailing = recognised || is_trailer_text(text);
         Run {
             trailers: self.trailers + trailer_of(trailing),
             others: self.others + other_of(trailing, indented, self.above),

@@ -5,7 +5,7 @@ ghost use Rattle.gixobj_text.specs.BodyLines.{is_blank, text_of};
 ghost use Rattle.gixobj_text.specs.Scanned.{AddsLine, Scanned};
 ghost use Rattle.gixobj_text.specs.TrailerBlocks.{IsBlockStart};
 
-use crate::commit::message::body::lines::{is_blank_line, line_text, split_line};
+use crate::commit::message::body::lines::{is_blank_text, line_text, split_line};
 use crate::commit::message::body::run::Run;
 
 /// What is known of the lines so far.
@@ -48,7 +48,9 @@ impl Scan {
 
     /// With a blank line more.
     #[inline(always)]
-    fn with_blank(self, line: &[u8]) -> Scan
+    fn with_blank(self, line: &[u8], text: &[u8]) -> Scan
+        requires text { text.now ≡ text_of line.now }
+        requires within { length text.now ≤ length line.now }
         requires blank { IsTrue (is_blank line.now) }
         requires fits { self.place + length line.now < 2 ^ 64 }
         ensures scanned { AddsLine self line.now result }
@@ -57,7 +59,7 @@ impl Scan {
     {
         Scan {
             place: self.place + line.len(),
-            last: self.place + line_text(line).len(),
+            last: self.place + text.len(),
             next: self.last,
             start: self.start,
             going: false,
@@ -68,7 +70,9 @@ impl Scan {
 
     /// With a line more that goes on with the last run.
     #[inline(always)]
-    fn with_next(self, line: &[u8]) -> Scan
+    fn with_next(self, line: &[u8], text: &[u8]) -> Scan
+        requires text { text.now ≡ text_of line.now }
+        requires within { length text.now ≤ length line.now }
         requires filled { IsFalse (is_blank line.now) }
         requires going { self.going ≡ true }
         requires fits { self.place + length line.now < 2 ^ 64 }
@@ -81,7 +85,7 @@ impl Scan {
     {
         Scan {
             place: self.place + line.len(),
-            last: self.place + line_text(line).len(),
+            last: self.place + text.len(),
             next: self.next,
             start: self.start,
             going: true,
@@ -92,7 +96,9 @@ impl Scan {
 
     /// With a line more that begins a run.
     #[inline(always)]
-    fn with_first(self, line: &[u8]) -> Scan
+    fn with_first(self, line: &[u8], text: &[u8]) -> Scan
+        requires text { text.now ≡ text_of line.now }
+        requires within { length text.now ≤ length line.now }
         requires filled { IsFalse (is_blank line.now) }
         requires going { self.going ≡ false }
         requires fits { self.place + length line.now < 2 ^ 64 }
@@ -103,7 +109,7 @@ impl Scan {
     {
         Scan {
             place: self.place + line.len(),
-            last: self.place + line_text(line).len(),
+            last: self.place + text.len(),
             next: self.next,
             start: self.next,
             going: true,
@@ -124,13 +130,14 @@ impl Scan {
         ensures trailers { result.run.trailers ≤ result.place }
         ensures others { result.run.others ≤ result.place }
     {
-        if is_blank_line(line) {
-            return self.with_blank(line);
+        let text = line_text(line);
+        if is_blank_text(text) {
+            return self.with_blank(line, text);
         }
         if self.going {
-            self.with_next(line)
+            self.with_next(line, text)
         } else {
-            self.with_first(line)
+            self.with_first(line, text)
         }
     }
 }

@@ -68,7 +68,7 @@ pub(crate) fn is_trailer_line(line: &[u8]) -> bool
 /// Whether a text is a trailer's.
 #[inline(always)]
 #[tactic(auto, using(crate::proofs::Tokens::trailer_is, crate::proofs::Tokens::none_is))]
-fn is_trailer_text(text: &[u8]) -> bool
+pub(crate) fn is_trailer_text(text: &[u8]) -> bool
     ensures { result ≡ is_some (trailer_parts text.now) }
 {
     match text.split_first() {
