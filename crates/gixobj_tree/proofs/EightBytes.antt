@@ -1,14 +1,13 @@
--- Eight bytes stand in the order of the number that they spell, the first counting most.
-use Rattle.std.proofs.Common.{◌≡◌, ◌≢◌, ℕ, zero, suc, ◌+◌, ◌*◌, ◌<◌, ◌≤◌, arith, Bool, true, false, List, [], ◌∷◌, length, get_or, take, drop, refl, sym, ap, ◌∙◌, Less, Equal, Greater, Ordering, Some}
+-- Eight bytes, or four, stand in the order of the number that they spell, the first counting most.
+use Rattle.std.proofs.Common.{◌≡◌, ◌≢◌, ℕ, zero, suc, ◌+◌, ◌*◌, ◌<◌, ◌≤◌, arith, Bool, true, false, List, [], ◌∷◌, length, get_or, take, drop, refl, sym, ap, ◌∙◌, Less, Equal, Greater, Ordering}
 use mathlib.Core.Bool.{true≢false}
-use Rattle.std.specs.Int.{from_be_bytes, w64}
+use Rattle.std.specs.Int.{from_be_bytes, w32, w64}
 use Rattle.std.specs.Ordering.{MatchOrdering, is_ne, nat_cmp, ordering_then}
 use Rattle.std.specs.Cmp.{nat_cmp_is}
 use Rattle.std.specs.Cmp.Lexicographic.{slice_cmp}
 use Rattle.std.proofs.lemmas.Cmp.{ranked}
-use Rattle.std.specs.Option.{option_cmp}
-use Rattle.gixobj_tree.specs.Entries.{name_cmp, next_byte}
-use Rattle.gixobj_tree.proofs.NameKeys.{decides, more, no_left, no_right, then_assoc}
+use Rattle.gixobj_tree.specs.Entries.{name_cmp}
+use Rattle.gixobj_tree.proofs.NameKeys.{decides, more, then_assoc}
 
 abbrev Bytes : List ℕ → Type 0
 Bytes xs = (k : ℕ) → get_or xs k 0 < 256
@@ -54,7 +53,7 @@ steps (suc n) (x ∷ xs) (y ∷ ys) t u a b =
 steps (suc n) [] ys t u a b = absurd (omega arith)
 steps (suc n) (x ∷ xs) [] t u a b = absurd (omega arith)
 
--- eight bytes, whatever stands behind them
+-- eight bytes, or four, whatever stands behind them
 worth : (xs : List ℕ) → 8 ≤ length xs → from_be_bytes w64 (take 8 xs) ≡ value 0 (take 8 xs)
 worth (a ∷ b ∷ c ∷ d ∷ e ∷ f ∷ g ∷ h ∷ rest) l = omega arith
 worth [] l = absurd (omega arith)
@@ -65,6 +64,13 @@ worth (a ∷ b ∷ c ∷ d ∷ []) l = absurd (omega arith)
 worth (a ∷ b ∷ c ∷ d ∷ e ∷ []) l = absurd (omega arith)
 worth (a ∷ b ∷ c ∷ d ∷ e ∷ f ∷ []) l = absurd (omega arith)
 worth (a ∷ b ∷ c ∷ d ∷ e ∷ f ∷ g ∷ []) l = absurd (omega arith)
+
+worth_of_four : (xs : List ℕ) → 4 ≤ length xs → from_be_bytes w32 (take 4 xs) ≡ value 0 (take 4 xs)
+worth_of_four (a ∷ b ∷ c ∷ d ∷ rest) l = omega arith
+worth_of_four [] l = absurd (omega arith)
+worth_of_four (a ∷ []) l = absurd (omega arith)
+worth_of_four (a ∷ b ∷ []) l = absurd (omega arith)
+worth_of_four (a ∷ b ∷ c ∷ []) l = absurd (omega arith)
 
 long : (n : ℕ) (xs : List ℕ) → n ≤ length xs → length (take n xs) ≡ n
 long zero xs l = refl
@@ -77,45 +83,26 @@ front_bytes (suc n) [] b k = omega arith
 front_bytes (suc n) (x ∷ xs) b zero = b 0
 front_bytes (suc n) (x ∷ xs) b (suc k) = front_bytes n xs (λ i. b (suc i)) k
 
+numbered : (n : ℕ) (xs ys : List ℕ) → Bytes xs → Bytes ys → n ≤ length xs → n ≤ length ys
+    → nat_cmp (value 0 (take n xs)) (value 0 (take n ys)) ≡ slice_cmp nat_cmp (take n xs) (take n ys)
+numbered n xs ys a b l m = ordered (take n xs) (take n ys) 0 0 (front_bytes n xs a) (front_bytes n ys b) (long n xs l ∙ sym (long n ys m))
+
 pub eight : (xs ys : List ℕ) → Bytes xs → Bytes ys → 8 ≤ length xs → 8 ≤ length ys
     → nat_cmp (from_be_bytes w64 (take 8 xs)) (from_be_bytes w64 (take 8 ys)) ≡ slice_cmp nat_cmp (take 8 xs) (take 8 ys)
 eight xs ys a b l m =
     ap (λ n. nat_cmp n (from_be_bytes w64 (take 8 ys))) (worth xs l) ∙ ap (nat_cmp (value 0 (take 8 xs))) (worth ys m)
-    ∙ ordered (take 8 xs) (take 8 ys) 0 0 (front_bytes 8 xs a) (front_bytes 8 ys b) (long 8 xs l ∙ sym (long 8 ys m))
+    ∙ numbered 8 xs ys a b l m
 
--- what the names compare as where their first bytes are alike, and where they are not
-pub behind : (n : ℕ) (xs ys : List ℕ) (t u : Bool) → n ≤ length xs → n ≤ length ys → slice_cmp nat_cmp (take n xs) (take n ys) ≡ Equal
-    → name_cmp xs t ys u ≡ name_cmp (drop n xs) t (drop n ys) u
-behind n xs ys t u a b same = steps n xs ys t u a b ∙ ap (λ o. ordering_then o (name_cmp (drop n xs) t (drop n ys) u)) same
+pub four : (xs ys : List ℕ) → Bytes xs → Bytes ys → 4 ≤ length xs → 4 ≤ length ys
+    → nat_cmp (from_be_bytes w32 (take 4 xs)) (from_be_bytes w32 (take 4 ys)) ≡ slice_cmp nat_cmp (take 4 xs) (take 4 ys)
+four xs ys a b l m =
+    ap (λ n. nat_cmp n (from_be_bytes w32 (take 4 ys))) (worth_of_four xs l) ∙ ap (nat_cmp (value 0 (take 4 xs))) (worth_of_four ys m)
+    ∙ numbered 4 xs ys a b l m
 
+-- what the names compare as where their first bytes are not alike
 pub settled : (n : ℕ) (xs ys : List ℕ) (t u : Bool) → n ≤ length xs → n ≤ length ys → slice_cmp nat_cmp (take n xs) (take n ys) ≢ Equal
     → slice_cmp nat_cmp (take n xs) (take n ys) ≡ name_cmp xs t ys u
 settled n xs ys t u a b apart = decides (slice_cmp nat_cmp (take n xs) (take n ys)) (name_cmp (drop n xs) t (drop n ys) u) apart ∙ sym (steps n xs ys t u a b)
-
--- byte by byte: where the next bytes are the same, and where there are none, or others
-pub one_more : (n : ℕ) (xs ys : List ℕ) (t u : Bool) → n < length xs → n < length ys → get_or xs n 0 ≡ get_or ys n 0
-    → name_cmp (drop n xs) t (drop n ys) u ≡ name_cmp (drop (suc n) xs) t (drop (suc n) ys) u
-one_more n [] ys t u a b same = absurd (omega arith)
-one_more n (x ∷ xs) [] t u a b same = absurd (omega arith)
-one_more zero (x ∷ xs) (y ∷ ys) t u a b same =
-    more x y xs ys t u (name_cmp xs t ys u) refl ∙ sym (ap (λ o. ordering_then o (name_cmp xs t ys u)) (nat_cmp_is x y Equal same))
-one_more (suc n) (x ∷ xs) (y ∷ ys) t u a b same = one_more n xs ys t u (omega arith) (omega arith) same
-
-stopped : (xs ys : List ℕ) (t u : Bool) → (0 < length xs → 0 < length ys → get_or xs 0 0 ≢ get_or ys 0 0)
-    → option_cmp nat_cmp (next_byte xs t) (next_byte ys u) ≡ name_cmp xs t ys u
-stopped [] [] t u apart = refl
-stopped [] (y ∷ ys) t u apart = sym (no_left y ys t u (option_cmp nat_cmp (next_byte [] t) (Some y)) refl)
-stopped (x ∷ xs) [] t u apart = sym (no_right x xs t u (option_cmp nat_cmp (Some x) (next_byte [] u)) refl)
-stopped (x ∷ xs) (y ∷ ys) t u apart =
-    decides (nat_cmp x y) (name_cmp xs t ys u) (λ tie. apart (omega arith) (omega arith) (ranked x y Equal (sym tie)))
-    ∙ sym (more x y xs ys t u (name_cmp xs t ys u) refl)
-
-pub at_stop : (n : ℕ) (xs ys : List ℕ) (t u : Bool) → (n < length xs → n < length ys → get_or xs n 0 ≢ get_or ys n 0)
-    → option_cmp nat_cmp (next_byte (drop n xs) t) (next_byte (drop n ys) u) ≡ name_cmp (drop n xs) t (drop n ys) u
-at_stop zero xs ys t u apart = stopped xs ys t u apart
-at_stop (suc n) (x ∷ xs) (y ∷ ys) t u apart = at_stop n xs ys t u (λ a b. apart (omega arith) (omega arith))
-at_stop (suc n) [] ys t u apart = stopped [] (drop (suc n) ys) t u (λ a b. absurd (omega arith))
-at_stop (suc n) (x ∷ xs) [] t u apart = stopped (drop n xs) [] t u (λ a b. absurd (omega arith))
 
 -- whether an order is a tie
 pub tied : (o : Ordering) → is_ne o ≡ false → o ≡ Equal

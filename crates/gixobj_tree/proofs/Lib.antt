@@ -1,4 +1,5 @@
 mod Bisecting
+pub mod Blocks
 pub mod Deciding
 pub mod EightBytes
 pub mod EntryRuns

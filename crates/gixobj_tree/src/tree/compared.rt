@@ -1,14 +1,15 @@
 //! Trees compared and hashed, entry by entry.
+ghost use Rattle.std.specs.Prelude.{refl};
+ghost use Rattle.std.specs.Cmp.{partial_equiv_from_equiv, partial_order_from_agreeing_total};
+ghost use Rattle.std.specs.Ordering.{as_partial_cmp};
 ghost use Rattle.gixobj_tree.specs.EntryOrder.{same_tree, tree_cmp, tree_feed};
-ghost use Rattle.gixobj_tree.specs.EntryOrderLaws.{tree_cmp_total, tree_equiv, tree_ties};
+ghost use Rattle.gixobj_tree.specs.EntryOrderLaws.{tree_cmp_total, tree_equiv, tree_ties, trees_alike};
 
 use super::Tree;
 use std::cmp::Ordering;
 use std::hash::{Hash, Hasher};
 
 impl PartialEq for Tree {
-    ghost use Rattle.std.specs.Cmp.{partial_equiv_from_equiv};
-
     ghost eq = { same_tree };
 
     ghost laws = { partial_equiv_from_equiv tree_equiv };
@@ -23,8 +24,6 @@ impl Eq for Tree {
 }
 
 impl Ord for Tree {
-    ghost use Rattle.std.specs.Prelude.{refl};
-
     ghost cmp = { tree_cmp };
 
     ghost total = { tree_cmp_total };
@@ -39,10 +38,6 @@ impl Ord for Tree {
 }
 
 impl PartialOrd for Tree {
-    ghost use Rattle.std.specs.Prelude.{refl};
-    ghost use Rattle.std.specs.Cmp.{partial_order_from_agreeing_total};
-    ghost use Rattle.std.specs.Ordering.{as_partial_cmp};
-
     ghost partial_cmp = { as_partial_cmp tree_cmp };
 
     ghost laws = { partial_order_from_agreeing_total tree_cmp tree_cmp_total (λ x y. refl) tree_ties };
@@ -53,8 +48,6 @@ impl PartialOrd for Tree {
 }
 
 impl Hash for Tree {
-    ghost use Rattle.gixobj_tree.specs.EntryOrderLaws.{trees_alike};
-
     ghost hash_input = { tree_feed };
 
     ghost respects_eq = { trees_alike };

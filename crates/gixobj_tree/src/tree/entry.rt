@@ -1,11 +1,12 @@
 //! Entries of trees (gitdatamodel, "trees").
-ghost use Rattle.std.specs.Prelude.{◌≡◌};
+ghost use Rattle.std.specs.Prelude.{◌≡◌, refl};
+ghost use Rattle.std.specs.Cmp.{partial_equiv_from_equiv, partial_order_from_agreeing_total};
 ghost use Rattle.std.specs.Cmp.Lexicographic.{slice_cmp};
-ghost use Rattle.std.specs.Ordering.{nat_cmp};
+ghost use Rattle.std.specs.Ordering.{as_partial_cmp, nat_cmp};
 ghost use Rattle.bstr.specs.Owned.{bstring_bytes};
 ghost use Rattle.gixobj_tree.specs.Entries.{entry_key, key_of};
 ghost use Rattle.gixobj_tree.specs.EntryOrder.{entry_cmp, entry_feed, same_entry};
-ghost use Rattle.gixobj_tree.specs.EntryOrderLaws.{entry_cmp_total, entry_equiv, entry_ties};
+ghost use Rattle.gixobj_tree.specs.EntryOrderLaws.{entries_alike, entry_cmp_total, entry_equiv, entry_ties};
 
 use super::EntryMode;
 use super::order::key_order;
@@ -54,8 +55,6 @@ impl Entry {
 
 /// The same mode, name and id.
 impl PartialEq for Entry {
-    ghost use Rattle.std.specs.Cmp.{partial_equiv_from_equiv};
-
     ghost eq = { same_entry };
 
     ghost laws = { partial_equiv_from_equiv entry_equiv };
@@ -74,8 +73,6 @@ impl Eq for Entry {
 /// By the name, with a `/` behind a tree's, as in a tree. Where two of these tie, the mode, the name
 /// and the id decide.
 impl Ord for Entry {
-    ghost use Rattle.std.specs.Prelude.{refl};
-
     ghost cmp = { entry_cmp };
 
     ghost total = { entry_cmp_total };
@@ -93,10 +90,6 @@ impl Ord for Entry {
 }
 
 impl PartialOrd for Entry {
-    ghost use Rattle.std.specs.Prelude.{refl};
-    ghost use Rattle.std.specs.Cmp.{partial_order_from_agreeing_total};
-    ghost use Rattle.std.specs.Ordering.{as_partial_cmp};
-
     ghost partial_cmp = { as_partial_cmp entry_cmp };
 
     ghost laws = { partial_order_from_agreeing_total entry_cmp entry_cmp_total (λ x y. refl) entry_ties };
@@ -108,8 +101,6 @@ impl PartialOrd for Entry {
 
 /// Hashes the mode, the name and the id.
 impl Hash for Entry {
-    ghost use Rattle.gixobj_tree.specs.EntryOrderLaws.{entries_alike};
-
     ghost hash_input = { entry_feed };
 
     ghost respects_eq = { entries_alike };

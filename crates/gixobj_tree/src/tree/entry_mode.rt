@@ -184,10 +184,8 @@ impl EntryMode {
         ensures none { IfNone result ((mode : ℕ) (rest : List ℕ)
             → ¬ BeginsWithMode i.now mode rest) }
     {
-        match EntryMode::extract_from_bytes(i) {
-            Some((mode, _)) => Some(mode),
-            None => None,
-        }
+        let (mode, _) = EntryMode::extract_from_bytes(i)?;
+        Some(mode)
     }
 
     /// The mode in front of the bytes, as [`EntryMode::from_bytes`] reads it, and what stands behind
@@ -255,10 +253,7 @@ impl<'a> TryFrom<&'a [u8]> for EntryMode {
 
     /// As [`EntryMode::from_bytes`]; other bytes are given back.
     fn try_from(bytes: &'a [u8]) -> Result<EntryMode, &'a [u8]> {
-        match EntryMode::from_bytes(bytes) {
-            Some(mode) => Ok(mode),
-            None => Err(bytes),
-        }
+        EntryMode::from_bytes(bytes).ok_or(bytes)
     }
 }
 

@@ -1,6 +1,6 @@
 //! The order of names in a tree (gitdatamodel, "trees").
 ghost use Rattle.std.specs.Prelude.{◌≡◌, ◌≤◌, length, take};
-ghost use Rattle.std.specs.Int.{from_be_bytes, w64};
+ghost use Rattle.std.specs.Int.{from_be_bytes, w32, w64};
 ghost use Rattle.std.specs.Cmp.Lexicographic.{slice_cmp};
 ghost use Rattle.std.specs.Ordering.{nat_cmp};
 ghost use Rattle.gixobj_tree.specs.Entries.{key_of, name_cmp, next_byte};
@@ -14,23 +14,73 @@ use std::cmp::Ordering;
 ///
 /// For names without `/` that is the order of the names with a `/` behind a tree's. It takes no
 /// memory.
+#[inline(always)]
 pub fn name_order(left: &[u8], left_is_tree: bool, right: &[u8], right_is_tree: bool) -> Ordering
     ensures rule { result ≡ name_cmp left.now left_is_tree right.now right_is_tree }
     ensures by_keys { IsFree slash left.now → IsFree slash right.now
         → result ≡ slice_cmp nat_cmp (key_of left.now left_is_tree)
         (key_of right.now right_is_tree) }
 {
-    let mut rest = left;
-    let mut other_rest = right;
-    while rest.len() >= 8 && other_rest.len() >= 8 {
-        let front = eight_order(rest, other_rest);
-        if front.is_ne() {
-            return front;
+    if left.len() >= 4 && right.len() >= 4 {
+        let fronts = four_order(left, right);
+        if fronts.is_ne() {
+            return fronts;
         }
-        rest = rest.split_at(8).1;
-        other_rest = other_rest.split_at(8).1;
     }
-    short_order(rest, left_is_tree, other_rest, right_is_tree)
+    whole_order(left, left_is_tree, right, right_is_tree)
+}
+
+/// As [`name_order`]. Most names differ among their first four bytes, so this is called seldom, and
+/// stands apart, which keeps a search by halves short.
+#[inline(never)]
+fn whole_order(left: &[u8], left_is_tree: bool, right: &[u8], right_is_tree: bool) -> Ordering
+    ensures { result ≡ name_cmp left.now left_is_tree right.now right_is_tree }
+{
+    let common = left.len().min(right.len());
+    let (front, rest) = left.split_at(common);
+    let (other_front, other_rest) = right.split_at(common);
+    let fronts = bytes_order(front, other_front);
+    if fronts.is_ne() {
+        return fronts;
+    }
+    next_byte(rest, left_is_tree).cmp(&next_byte(other_rest, right_is_tree))
+}
+
+/// The order of as many bytes as others. The last eight or four may be in part those before.
+fn bytes_order(left: &[u8], right: &[u8]) -> Ordering
+    requires { length left.now ≡ length right.now }
+    ensures { result ≡ slice_cmp nat_cmp left.now right.now }
+{
+    let len = left.len();
+    if len >= 8 {
+        return long_order(left, right);
+    }
+    if len < 4 {
+        return left.cmp(right);
+    }
+    let fronts = four_order(left, right);
+    if fronts.is_ne() {
+        return fronts;
+    }
+    four_order(&left[len - 4..], &right[len - 4..])
+}
+
+/// The order of eight bytes or more as of as many others, eight at a time.
+fn long_order(left: &[u8], right: &[u8]) -> Ordering
+    requires same_length { length left.now ≡ length right.now }
+    requires long { 8 ≤ length left.now }
+    ensures { result ≡ slice_cmp nat_cmp left.now right.now }
+{
+    let last = left.len() - 8;
+    let mut at = 0;
+    while at < last {
+        let part = eight_order(&left[at..], &right[at..]);
+        if part.is_ne() {
+            return part;
+        }
+        at += 8;
+    }
+    eight_order(&left[last..], &right[last..])
 }
 
 /// The order of the first eight bytes, which is that of the numbers that they spell.
@@ -52,18 +102,21 @@ fn first_eight(name: &[u8]) -> u64
     ])
 }
 
-/// As [`name_order`], byte by byte.
-fn short_order(left: &[u8], left_is_tree: bool, right: &[u8], right_is_tree: bool) -> Ordering
-    ensures { result ≡ name_cmp left.now left_is_tree right.now right_is_tree }
+/// The order of the first four bytes.
+fn four_order(left: &[u8], right: &[u8]) -> Ordering
+    requires left { 4 ≤ length left.now }
+    requires right { 4 ≤ length right.now }
+    ensures { result ≡ slice_cmp nat_cmp (take 4 left.now) (take 4 right.now) }
 {
-    let common = left.len().min(right.len());
-    let mut same = 0;
-    while same < common && left[same] == right[same] {
-        same += 1;
-    }
-    let rest = left.split_at(same).1;
-    let other_rest = right.split_at(same).1;
-    next_byte(rest, left_is_tree).cmp(&next_byte(other_rest, right_is_tree))
+    first_four(left).cmp(&first_four(right))
+}
+
+/// The first four bytes as a number.
+fn first_four(name: &[u8]) -> u32
+    requires { 4 ≤ length name.now }
+    ensures { result ≡ from_be_bytes w32 (take 4 name.now) }
+{
+    u32::from_be_bytes([name[0], name[1], name[2], name[3]])
 }
 
 /// The order of the keys of two names, which have a `/` behind a tree's.

@@ -7,11 +7,12 @@ ghost use Rattle.gixobj_hash.specs.Hash.Borrowed.{borrowed_id};
 ghost use Rattle.gixobj_hash.specs.Texts.{IsFree};
 ghost use Rattle.gixobj_tree.specs.Entries.{entry_of};
 ghost use Rattle.gixobj_tree.specs.Mode.{mode_bits, mode_text};
+ghost use Rattle.gixobj_tree.specs.TreeViews.{entry_view};
 ghost use Rattle.gixobj_tree.specs.TreeText.{IsAnsweredDigest, RefusesEntry, entry_text};
 ghost use Rattle.gixobj_fields.specs.Streams.{Puts, PutsOrFails};
 ghost use Rattle.gixobj_fields.specs.Writing.{AddsSize, RefusesWriting};
 
-use super::{Entry, EntryMode, Tree};
+use super::{EntryMode, EntryRef, Tree};
 use bstr::BString;
 use gixobj_fields::WriteTo;
 use gixobj_fields::encode::Error;
@@ -37,7 +38,7 @@ impl WriteTo for Tree {
 
     fn write_into<S: Sink>(&self, alloc: Global, sink: &mut S) -> Result<(), Error> {
         for entry in &self.entries {
-            put_owned(alloc, entry, sink)?;
+            put_entry_ref(alloc, &EntryRef::from(entry), sink)?;
         }
         Ok(())
     }
@@ -49,7 +50,7 @@ impl WriteTo for Tree {
     fn size(&self) -> Option<u64> {
         let mut size = 0u64;
         for entry in &self.entries {
-            size = size_with_owned(size, entry)?;
+            size = size_with_entry_ref(size, &EntryRef::from(entry))?;
         }
         Some(size)
     }
@@ -69,16 +70,21 @@ impl Tree {
 }
 
 /// Puts one entry.
-fn put_owned<S: Sink>(alloc: Global, entry: &Entry, sink: &mut S) -> Result<(), Error>
+#[inline(always)]
+pub(super) fn put_entry_ref<S: Sink>(
+    alloc: Global,
+    entry: &EntryRef<'_>,
+    sink: &mut S,
+) -> Result<(), Error>
     ensures written { OnOk result (Puts (S.view sink.old) (S.view sink.new)
-        (entry_text entry.now)) }
-    ensures free { OnOk result (IsFree 0 entry.now.name) }
-    ensures refusal { IfErr result (RefusesWriting (RefusesEntry entry.now) (S.view sink.old)
-        (S.view sink.new) (entry_text entry.now)) }
+        (entry_text (entry_view entry.now))) }
+    ensures free { OnOk result (IsFree 0 (entry_view entry.now).name) }
+    ensures refusal { IfErr result (RefusesWriting (RefusesEntry (entry_view entry.now))
+        (S.view sink.old) (S.view sink.new) (entry_text (entry_view entry.now))) }
     ensures same_loan { S.loan sink.new ≡ S.loan sink.old }
 {
     let name = entry.filename.as_bytes();
-    put_entry(alloc, entry.mode, name, entry.oid.as_oid(), sink)
+    put_entry(alloc, entry.mode, name, entry.oid, sink)
 }
 
 /// Puts the entry of this mode, name and id.
@@ -145,11 +151,11 @@ fn put_id<S: Sink>(id: oid<'_>, sink: &mut S) -> io::Result<()>
 }
 
 /// The size and that of the entry, or none past 64 bits.
-fn size_with_owned(size: u64, entry: &Entry) -> Option<u64>
-    ensures { AddsSize result size (entry_text entry.now) }
+#[inline(always)]
+pub(super) fn size_with_entry_ref(size: u64, entry: &EntryRef<'_>) -> Option<u64>
+    ensures { AddsSize result size (entry_text (entry_view entry.now)) }
 {
-    let name = entry.filename.as_bytes();
-    size_with(size, entry.mode, name, entry.oid.as_oid())
+    size_with(size, entry.mode, entry.filename.as_bytes(), entry.oid)
 }
 
 /// The size and that of the entry of this mode, name and id, or none past 64 bits.

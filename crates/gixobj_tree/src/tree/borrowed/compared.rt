@@ -1,6 +1,9 @@
 //! Borrowed trees compared and hashed, entry by entry, as owned ones are.
+ghost use Rattle.std.specs.Prelude.{refl};
+ghost use Rattle.std.specs.Cmp.{on_equiv, on_total, partial_equiv_from_equiv, partial_order_from_agreeing_total};
+ghost use Rattle.std.specs.Ordering.{as_partial_cmp, on};
 ghost use Rattle.gixobj_tree.specs.EntryOrder.{same_tree, tree_cmp, tree_feed};
-ghost use Rattle.gixobj_tree.specs.EntryOrderLaws.{tree_cmp_total, tree_equiv, tree_ties};
+ghost use Rattle.gixobj_tree.specs.EntryOrderLaws.{tree_cmp_total, tree_equiv, tree_ties, trees_alike};
 ghost use Rattle.gixobj_tree.specs.TreeViews.{tree_entries};
 
 use super::TreeRef;
@@ -9,8 +12,6 @@ use std::hash::{Hash, Hasher};
 
 /// The same entries.
 impl PartialEq for TreeRef<'_> {
-    ghost use Rattle.std.specs.Cmp.{on_equiv, partial_equiv_from_equiv};
-
     ghost eq = { λ x y. same_tree (tree_entries x) (tree_entries y) };
 
     ghost laws = { partial_equiv_from_equiv (on_equiv tree_entries tree_equiv) };
@@ -22,17 +23,11 @@ impl PartialEq for TreeRef<'_> {
 }
 
 impl Eq for TreeRef<'_> {
-    ghost use Rattle.std.specs.Cmp.{on_equiv};
-
     ghost laws = { on_equiv tree_entries tree_equiv };
 }
 
 /// Entry by entry.
 impl Ord for TreeRef<'_> {
-    ghost use Rattle.std.specs.Prelude.{refl};
-    ghost use Rattle.std.specs.Cmp.{on_total};
-    ghost use Rattle.std.specs.Ordering.{on};
-
     ghost cmp = { on tree_entries tree_cmp };
 
     ghost total = { on_total tree_entries tree_cmp_total };
@@ -47,10 +42,6 @@ impl Ord for TreeRef<'_> {
 }
 
 impl PartialOrd for TreeRef<'_> {
-    ghost use Rattle.std.specs.Prelude.{refl};
-    ghost use Rattle.std.specs.Cmp.{on_total, partial_order_from_agreeing_total};
-    ghost use Rattle.std.specs.Ordering.{as_partial_cmp, on};
-
     ghost partial_cmp = { as_partial_cmp (on tree_entries tree_cmp) };
 
     ghost laws = { partial_order_from_agreeing_total (on tree_entries tree_cmp) (on_total tree_entries tree_cmp_total) (λ x y. refl) (λ x y. tree_ties (tree_entries x) (tree_entries y)) };
@@ -62,8 +53,6 @@ impl PartialOrd for TreeRef<'_> {
 
 /// Hashes the entries, as an owned tree does.
 impl Hash for TreeRef<'_> {
-    ghost use Rattle.gixobj_tree.specs.EntryOrderLaws.{trees_alike};
-
     ghost hash_input = { λ tree. tree_feed (tree_entries tree) };
 
     ghost respects_eq = { λ x y. trees_alike (tree_entries x) (tree_entries y) };

@@ -40,11 +40,12 @@ impl<'a> TreeRef<'a> {
     }
 }
 
-/// How many entries the bytes would have with names of 24 bytes, 32 at most.
+/// How many entries the bytes would have with names of 8 bytes, 128 at most. Most names are longer, so
+/// that most trees have no more entries.
 fn likely_entries(bytes: &[u8], hash_kind: Kind) -> usize
-    ensures { result ≡ min (length bytes.now / (32 + hash_len hash_kind)) 32 }
+    ensures { result ≡ min (length bytes.now / (16 + hash_len hash_kind)) 128 }
 {
-    (bytes.len() / (32 + hash_kind.len_in_bytes())).min(32)
+    (bytes.len() / (16 + hash_kind.len_in_bytes())).min(128)
 }
 
 /// The entry at the front of the input, which has an id of this kind, and what follows it, or none where

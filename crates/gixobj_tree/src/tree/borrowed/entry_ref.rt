@@ -1,6 +1,9 @@
 //! Entries of trees, borrowed (gitdatamodel, "trees").
+ghost use Rattle.std.specs.Prelude.{refl};
+ghost use Rattle.std.specs.Cmp.{on_equiv, on_total, partial_equiv_from_equiv, partial_order_from_agreeing_total};
+ghost use Rattle.std.specs.Ordering.{as_partial_cmp, on};
 ghost use Rattle.gixobj_tree.specs.EntryOrder.{entry_cmp, entry_feed, same_entry};
-ghost use Rattle.gixobj_tree.specs.EntryOrderLaws.{entry_cmp_total, entry_equiv, entry_ties};
+ghost use Rattle.gixobj_tree.specs.EntryOrderLaws.{entries_alike, entry_cmp_total, entry_equiv, entry_ties};
 ghost use Rattle.gixobj_tree.specs.TreeViews.{entry_view};
 
 use crate::tree::EntryMode;
@@ -23,8 +26,6 @@ pub struct EntryRef<'a> {
 
 /// The same mode, name and id.
 impl PartialEq for EntryRef<'_> {
-    ghost use Rattle.std.specs.Cmp.{on_equiv, partial_equiv_from_equiv};
-
     ghost eq = { λ x y. same_entry (entry_view x) (entry_view y) };
 
     ghost laws = { partial_equiv_from_equiv (on_equiv entry_view entry_equiv) };
@@ -37,18 +38,12 @@ impl PartialEq for EntryRef<'_> {
 }
 
 impl Eq for EntryRef<'_> {
-    ghost use Rattle.std.specs.Cmp.{on_equiv};
-
     ghost laws = { on_equiv entry_view entry_equiv };
 }
 
 /// By the name, with a `/` behind a tree's, as in a tree. Where two of these tie, the mode, the name
 /// and the id decide.
 impl Ord for EntryRef<'_> {
-    ghost use Rattle.std.specs.Prelude.{refl};
-    ghost use Rattle.std.specs.Cmp.{on_total};
-    ghost use Rattle.std.specs.Ordering.{on};
-
     ghost cmp = { on entry_view entry_cmp };
 
     ghost total = { on_total entry_view entry_cmp_total };
@@ -69,10 +64,6 @@ impl Ord for EntryRef<'_> {
 }
 
 impl PartialOrd for EntryRef<'_> {
-    ghost use Rattle.std.specs.Prelude.{refl};
-    ghost use Rattle.std.specs.Cmp.{on_total, partial_order_from_agreeing_total};
-    ghost use Rattle.std.specs.Ordering.{as_partial_cmp, on};
-
     ghost partial_cmp = { as_partial_cmp (on entry_view entry_cmp) };
 
     ghost laws = { partial_order_from_agreeing_total (on entry_view entry_cmp) (on_total entry_view entry_cmp_total) (λ x y. refl) (λ x y. entry_ties (entry_view x) (entry_view y)) };
@@ -84,8 +75,6 @@ impl PartialOrd for EntryRef<'_> {
 
 /// Hashes the mode, the name and the id, as an owned entry does.
 impl Hash for EntryRef<'_> {
-    ghost use Rattle.gixobj_tree.specs.EntryOrderLaws.{entries_alike};
-
     ghost hash_input = { λ entry. entry_feed (entry_view entry) };
 
     ghost respects_eq = { λ x y. entries_alike (entry_view x) (entry_view y) };

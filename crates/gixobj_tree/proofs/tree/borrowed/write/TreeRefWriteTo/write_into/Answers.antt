@@ -10,7 +10,7 @@ use Rattle.gixobj_tree.specs.TreeViews.{entry_view}
 pub loop-entry-preserved : goal.loop-entry-preserved
 loop-entry-preserved g c =
     let before = c.loop-entry.invariant in
-    let put = c.in_ok-put_borrowed.ensures in
+    let put = c.in_ok-put_entry_ref.ensures in
     let items = c.deref-entry-items.result.now in
     let low = seen_within entry_view items c.loop-entry.entry-index c.loop-entry-test.true in
     let here = seen_there entry_view items c.loop-entry.entry-index c.entry-item.result c.loop-entry-test.true c.entry-item.is in
@@ -21,15 +21,15 @@ loop-entry-preserved g c =
       same_loan = put.same_loan ∙ before.same_loan;
     }
 
-pub returns-in_err-put_borrowed-clause-refusal : goal.returns-in_err-put_borrowed-clause-refusal
-returns-in_err-put_borrowed-clause-refusal g c =
+pub returns-in_err-put_entry_ref-clause-refusal : goal.returns-in_err-put_entry_ref-clause-refusal
+returns-in_err-put_entry_ref-clause-refusal g c =
     let p = err_from_is_err_and c.from_residual.result c.from_residual.ensures.1 in
     let before = c.loop-entry.invariant in
     let items = c.deref-entry-items.result.now in
     let low = seen_within entry_view items c.loop-entry.entry-index c.loop-entry-test.true in
     let here = seen_there entry_view items c.loop-entry.entry-index c.entry-item.result c.loop-entry-test.true c.entry-item.is in
     rw (p.1, p.2, sym before.same) (refused_at _ _ _ (map entry_view items) c.loop-entry.entry-index (entry_view c.entry-item.result) low here
-    before.put before.free c.in_err-put_borrowed.field-0.0 c.in_err-put_borrowed.ensures.refusal)
+    before.put before.free c.in_err-put_entry_ref.field-0.0 c.in_err-put_entry_ref.ensures.refusal)
 
 pub returns-clause-nothing_refused : goal.returns-clause-nothing_refused
 returns-clause-nothing_refused g c =
