@@ -8,7 +8,7 @@ use Rattle.std.proofs.lemmas.Option.{get_or_from_slice_get, slice_get_within}
 use Rattle.std.proofs.lemmas.List.Elements.{All-contains, All-get_or, All-head, All-tail}
 use Rattle.std.proofs.Math.Seq.{get_or-append_seam}
 use Rattle.hex.proofs.HexLemmas.{length-encode_with}
-use Rattle.hex.specs.Hex.{encode_lower, lower_digits}
+use Rattle.hex.specs.Hex.{lower_digits}
 use Rattle.gixobj_hash.specs.Hash.{hex_text, id_bytes}
 use Rattle.gixobj_hash.specs.declared.hash.object_id.ObjectId.{ObjectId}
 use Rattle.gixobj_fields.specs.HeaderText.{field_text, following_text, line_text}
@@ -114,9 +114,6 @@ line_front a b c value front rest line after put so_far one part =
     rw (folded_more value front rest line after so_far one, append_assoc front (line ++ 10 ∷ 32 ∷ []) (folded after)) (front_within a b c front (line ++ 10 ∷ 32 ∷ []) (folded after) put part)
 
 -- ---- sizes
-
-pub hex_len : (bytes : List ℕ) → length (encode_lower bytes) ≡ 2 * length bytes
-hex_len bytes = length-encode_with lower_digits bytes
 
 pub id_field_len : (name : List ℕ) (id : ObjectId) → length (field_text name (hex_text id)) ≡ length name + 2 + 2 * length (id_bytes id)
 id_field_len name id =

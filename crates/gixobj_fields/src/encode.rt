@@ -10,7 +10,6 @@ ghost use Rattle.gixobj_fields.specs.Streams.{Puts, PutsOrFails};
 ghost use Rattle.gixobj_fields.specs.Writing.{AddsSize, RefusesNothing, RefusesWriting};
 ghost use Rattle.gixobj_hash.specs.Bytes.{newline, space};
 
-use crate::short::{SHORT_NAME_LEN, ShortText};
 use crate::streams::{Sink, put_both};
 use bstr::BString;
 use gixobj_hash::hash::ObjectId;
@@ -130,10 +129,11 @@ pub fn trusted_header_id<S: Sink>(name: &[u8], id: &ObjectId, sink: &mut S) -> i
         (field_text name.now (hex_text id.now)) }
     ensures same_loan { S.loan sink.new ≡ S.loan sink.old }
 {
-    if name.len() <= SHORT_NAME_LEN {
-        return sink.put(ShortText::id_field(name, id).as_bytes());
-    }
-    put_both(name, ShortText::id_field(b"", id).as_bytes(), sink)
+    let bytes = id.as_bytes();
+    let mut buffer = [0; MAX_HEX_LEN];
+    let digits = &mut buffer[..2 * bytes.len()];
+    let _ = hex::encode_to_slice(bytes, digits);
+    trusted_header_field(name, digits, sink)
 }
 
 /// Puts the field of an id by its hex text, 64 digits at most: its value is the text in lower case
@@ -145,10 +145,27 @@ pub fn trusted_header_hex<S: Sink>(name: &[u8], hex: &[u8], sink: &mut S) -> io:
         (field_text name.now (str_to_ascii_lowercase hex.now)) }
     ensures same_loan { S.loan sink.new ≡ S.loan sink.old }
 {
-    if name.len() <= SHORT_NAME_LEN {
-        return sink.put(ShortText::hex_field(name, hex).as_bytes());
+    match <[u8; 40]>::try_from(hex) {
+        Ok(mut digits) => {
+            digits.make_ascii_lowercase();
+            trusted_header_field(name, &digits, sink)
+        }
+        Err(_) => put_lowered(name, hex, sink),
     }
-    put_both(name, ShortText::hex_field(b"", hex).as_bytes(), sink)
+}
+
+/// Puts a field whose value is a text of at most 64 bytes in lower case.
+fn put_lowered<S: Sink>(name: &[u8], text: &[u8], sink: &mut S) -> io::Result<()>
+    requires { length text.now ≤ 64 }
+    ensures put { PutsOrFails result (S.view sink.old) (S.view sink.new)
+        (field_text name.now (str_to_ascii_lowercase text.now)) }
+    ensures same_loan { S.loan sink.new ≡ S.loan sink.old }
+{
+    let mut buffer = [0; MAX_HEX_LEN];
+    let lowered = &mut buffer[..text.len()];
+    lowered.copy_from_slice(text);
+    lowered.make_ascii_lowercase();
+    trusted_header_field(name, lowered, sink)
 }
 
 /// Puts a field of one line: the name, a space, the value and a newline (gitdatamodel, "commits").
@@ -347,3 +364,6 @@ fn count_in_part(part: &[u8]) -> u8
 
 /// How many bytes a part of a text has, whose newlines are counted in a byte.
 const PART_LEN: usize = 128;
+
+/// How many hex digits an id has at most.
+const MAX_HEX_LEN: usize = 64;
