@@ -17,9 +17,9 @@ ghost use Rattle.gixobj_directories.specs.Calls.{names_of};
 ghost use Rattle.gixobj_directories.specs.Nested.{AreOrdered, bases_of, dirs_of, is_child_before, opened, other_parts, parts, with_part};
 ghost use Rattle.gixobj_files.specs.Bases.{edited_bases};
 
+use bstr::BString;
 use gixobj_entries::entries::{copies, put};
 use gixobj_entries::places::{first_look, place_by_key, place_of, take_named};
-use bstr::BString;
 use gixobj_hash::hash::ObjectId;
 use gixobj_tree::Tree;
 use gixobj_tree::tree::order::key_order;

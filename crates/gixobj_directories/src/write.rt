@@ -16,10 +16,10 @@ ghost use Rattle.gixobj_entries.specs.OwnTrees.{IsBeside, so_far};
 ghost use Rattle.gixobj_directories.specs.Wholes.{Adds, child_wholes, inside_of, wholes};
 
 use crate::open::{Child, Open, child_at};
-use gixobj_entries::own_tree::OwnTree;
-use gixobj_entries::sifted::become_tree;
 use crate::wholes::{fill, take_wholes};
 use bstr::BString;
+use gixobj_entries::own_tree::OwnTree;
+use gixobj_entries::sifted::become_tree;
 use gixobj_hash::hash::ObjectId;
 use gixobj_tree::Tree;
 use gixobj_tree::tree::Entry;
