@@ -23,10 +23,7 @@ fn behind_break(text: &[u8]) -> Option<&[u8]>
 fn behind_two(text: &[u8]) -> Option<&[u8]>
     ensures { option_map (λ it. it.now) result ≡ behind_two_of text.now }
 {
-    match behind_break(text) {
-        Some(rest) => behind_break(rest),
-        None => None,
-    }
+    behind_break(behind_break(text)?)
 }
 
 /// The body, where it isn't empty.

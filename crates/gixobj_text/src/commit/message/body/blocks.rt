@@ -3,8 +3,8 @@ ghost use Rattle.std.specs.Prelude.{◌≡◌, ◌≤◌, ◌-◌, ◌||◌, len
 ghost use Rattle.gixobj_text.specs.BodyLines.{is_folded as is_folded_of, is_trailer_line as is_trailer_line_of};
 ghost use Rattle.gixobj_text.specs.Steps.{IsAtTrailer, IsBehindTrailers};
 
-use crate::commit::message::body::lines::split_line;
-use crate::commit::message::body::trailer_lines::is_trailer_line;
+use crate::commit::message::body::lines::{line_text, split_line};
+use crate::commit::message::body::trailer_lines::is_trailer_text;
 use crate::commit::message::body::trailers::{Trailers, is_folded_line};
 use bstr::BStr;
 use std::alloc::Global;
@@ -97,7 +97,7 @@ fn at_trailer(text: &[u8]) -> &[u8]
 {
     let mut rest = text;
     'lines: while let Some((line, behind)) = split_line(rest) {
-        if is_trailer_line(line) {
+        if is_trailer_text(line_text(line)) {
             return rest;
         }
         rest = behind;
@@ -109,7 +109,7 @@ fn at_trailer(text: &[u8]) -> &[u8]
 fn goes_on(line: &[u8]) -> bool
     ensures { result ≡ (is_trailer_line_of line.now || is_folded_of line.now) }
 {
-    is_trailer_line(line) || is_folded_line(line)
+    is_trailer_text(line_text(line)) || is_folded_line(line)
 }
 
 /// What stands behind the trailers at the front that follow one another.

@@ -4,7 +4,7 @@ ghost use Rattle.std.specs.Char.{is_ascii_whitespace};
 ghost use Rattle.std.specs.List.{list_all};
 ghost use Rattle.bstr.specs.Text.{line_len};
 ghost use Rattle.gixobj_text.specs.FirstLines.{IsFirstLine};
-ghost use Rattle.gixobj_text.specs.BodyLines.{begins_indented as begins_indented_of, is_blank, text_of, without_last_byte};
+ghost use Rattle.gixobj_text.specs.BodyLines.{begins_indented as begins_indented_of, text_of, without_last_byte};
 
 use bstr::ByteSlice;
 
@@ -41,14 +41,6 @@ pub(crate) fn begins_indented(text: &[u8]) -> bool
     }
 }
 
-/// Whether the text of a line is white space alone.
-#[inline(always)]
-pub(crate) fn is_blank_line(line: &[u8]) -> bool
-    ensures { result ≡ is_blank line.now }
-{
-    is_blank_text(line_text(line))
-}
-
 /// Whether a text is white space alone.
 #[inline(always)]
 pub(crate) fn is_blank_text(text: &[u8]) -> bool
@@ -57,10 +49,10 @@ pub(crate) fn is_blank_text(text: &[u8]) -> bool
     text.iter().all(|byte| byte.is_ascii_whitespace())
 }
 
-/// How many bytes the first line takes. Many lines are empty, so its first bytes are looked at before its end is
-/// sought.
+/// How many bytes the first line takes. Many lines are empty, with or without a return, so the first two bytes
+/// are looked at before a newline is sought.
 #[inline(always)]
-#[tactic(auto, using(crate::proofs::FirstLines::ends_first, crate::proofs::FirstLines::ends_second))]
+#[tactic(auto, using(crate::proofs::FirstLines::ends_first, crate::proofs::FirstLines::ends_second, crate::proofs::FirstLines::ends_at, crate::proofs::FirstLines::ends_nowhere))]
 fn first_line_len(text: &[u8]) -> usize
     ensures is { result ≡ line_len text.now }
     ensures within { result ≤ length text.now }
@@ -68,20 +60,10 @@ fn first_line_len(text: &[u8]) -> usize
     match text {
         [b'\n', ..] => 1,
         [_, b'\n', ..] => 2,
-        _ => sought_line_len(text),
-    }
-}
-
-/// How many bytes the first line takes.
-#[inline(always)]
-#[tactic(auto, using(crate::proofs::FirstLines::ends_at, crate::proofs::FirstLines::ends_nowhere))]
-fn sought_line_len(text: &[u8]) -> usize
-    ensures is { result ≡ line_len text.now }
-    ensures within { result ≤ length text.now }
-{
-    match text.find_byte(b'\n') {
-        Some(place) => place + 1,
-        None => text.len(),
+        _ => match text.find_byte(b'\n') {
+            Some(place) => place + 1,
+            None => text.len(),
+        },
     }
 }
 
@@ -93,6 +75,5 @@ pub(crate) fn split_line(text: &[u8]) -> Option<(&[u8], &[u8])>
     if text.is_empty() {
         return None;
     }
-    let (line, rest) = text.split_at(first_line_len(text));
-    Some((line, rest))
+    Some(text.split_at(first_line_len(text)))
 }

@@ -1,7 +1,6 @@
 //! What is known of the lines of a run.
-ghost use Rattle.std.specs.Prelude.{◌≡◌, ◌+◌, ◌*◌, ◌<◌, ◌≤◌, ◌^◌, ◌||◌, ◌↔◌, ◌⊎◌, IsTrue, codes, cond, nat_eq, true, false};
-ghost use Rattle.std.specs.List.{starts_with};
-ghost use Rattle.gixobj_text.specs.BodyLines.{is_indented as is_indented_of, is_recognised as is_recognised_of};
+ghost use Rattle.std.specs.Prelude.{◌≡◌, ◌+◌, ◌*◌, ◌<◌, ◌≤◌, ◌^◌, ◌||◌, ◌↔◌, ◌⊎◌, IsTrue, cond, true, false};
+ghost use Rattle.gixobj_text.specs.BodyLines.{begins_recognised as begins_recognised_of, is_indented as is_indented_of, is_recognised as is_recognised_of};
 ghost use Rattle.gixobj_text.specs.TrailerBlocks.{is_trailing as is_trailing_of};
 
 use crate::commit::message::body::lines::{begins_indented, line_text};
@@ -20,19 +19,10 @@ pub(crate) struct Run {
     above: bool,
 }
 
-/// Whether a line's text begins with white space.
+/// Whether a text begins as that of a line that git itself makes.
 #[inline(always)]
-pub(crate) fn is_indented(line: &[u8]) -> bool
-    ensures { result ≡ is_indented_of line.now }
-{
-    begins_indented(line_text(line))
-}
-
-/// Whether git itself makes a line with this text.
-#[inline(always)]
-fn is_recognised_text(text: &[u8]) -> bool
-    ensures { result ≡ (starts_with nat_eq text.now (codes "Signed-off-by: ")
-        || starts_with nat_eq text.now (codes "(cherry picked from commit ")) }
+fn begins_recognised(text: &[u8]) -> bool
+    ensures { result ≡ begins_recognised_of text.now }
 {
     text.starts_with(b"Signed-off-by: ") || text.starts_with(b"(cherry picked from commit ")
 }
@@ -44,15 +34,6 @@ fn other_of(trailing: bool, indented: bool, above: bool) -> usize
     ensures few { result ≤ 1 }
 {
     if trailing || indented && above { 0 } else { 1 }
-}
-
-/// How many trailers a line adds.
-#[inline(always)]
-fn trailer_of(trailing: bool) -> usize
-    ensures is { result ≡ cond trailing 1 0 }
-    ensures few { result ≤ 1 }
-{
-    if trailing { 1 } else { 0 }
 }
 
 /// Whether the nearest line that isn't indented is a trailer, behind a line more.
@@ -95,10 +76,10 @@ impl Run {
             (cond (is_indented_of line.now) self.above false) }
     {
         let text = line_text(line);
-        let (recognised, indented) = (is_recognised_text(text), begins_indented(text));
+        let (recognised, indented) = (begins_recognised(text), begins_indented(text));
         let trailing = recognised || is_trailer_text(text);
         Run {
-            trailers: self.trailers + trailer_of(trailing),
+            trailers: self.trailers + usize::from(trailing),
             others: self.others + other_of(trailing, indented, self.above),
             recognised: self.recognised || recognised,
             above: above_behind(trailing, indented, self.above),

@@ -46,11 +46,10 @@ impl Scan {
         }
     }
 
-    /// With a blank line more.
+    /// With a blank line more, whose text ends here.
     #[inline(always)]
-    fn with_blank(self, line: &[u8], text: &[u8]) -> Scan
-        requires text { text.now ≡ text_of line.now }
-        requires within { length text.now ≤ length line.now }
+    fn with_blank(self, line: &[u8], last: usize) -> Scan
+        requires last { last ≡ self.place + length (text_of line.now) }
         requires blank { IsTrue (is_blank line.now) }
         requires fits { self.place + length line.now < 2 ^ 64 }
         ensures scanned { AddsLine self line.now result }
@@ -59,7 +58,7 @@ impl Scan {
     {
         Scan {
             place: self.place + line.len(),
-            last: self.place + text.len(),
+            last,
             next: self.last,
             start: self.start,
             going: false,
@@ -68,11 +67,10 @@ impl Scan {
         }
     }
 
-    /// With a line more that goes on with the last run.
+    /// With a line more that goes on with the last run, and whose text ends here.
     #[inline(always)]
-    fn with_next(self, line: &[u8], text: &[u8]) -> Scan
-        requires text { text.now ≡ text_of line.now }
-        requires within { length text.now ≤ length line.now }
+    fn with_next(self, line: &[u8], last: usize) -> Scan
+        requires last { last ≡ self.place + length (text_of line.now) }
         requires filled { IsFalse (is_blank line.now) }
         requires going { self.going ≡ true }
         requires fits { self.place + length line.now < 2 ^ 64 }
@@ -85,7 +83,7 @@ impl Scan {
     {
         Scan {
             place: self.place + line.len(),
-            last: self.place + text.len(),
+            last,
             next: self.next,
             start: self.start,
             going: true,
@@ -94,11 +92,10 @@ impl Scan {
         }
     }
 
-    /// With a line more that begins a run.
+    /// With a line more that begins a run, and whose text ends here.
     #[inline(always)]
-    fn with_first(self, line: &[u8], text: &[u8]) -> Scan
-        requires text { text.now ≡ text_of line.now }
-        requires within { length text.now ≤ length line.now }
+    fn with_first(self, line: &[u8], last: usize) -> Scan
+        requires last { last ≡ self.place + length (text_of line.now) }
         requires filled { IsFalse (is_blank line.now) }
         requires going { self.going ≡ false }
         requires fits { self.place + length line.now < 2 ^ 64 }
@@ -109,7 +106,7 @@ impl Scan {
     {
         Scan {
             place: self.place + line.len(),
-            last: self.place + text.len(),
+            last,
             next: self.next,
             start: self.next,
             going: true,
@@ -131,13 +128,14 @@ impl Scan {
         ensures others { result.run.others ≤ result.place }
     {
         let text = line_text(line);
+        let last = self.place + text.len();
         if is_blank_text(text) {
-            return self.with_blank(line, text);
+            return self.with_blank(line, last);
         }
         if self.going {
-            self.with_next(line, text)
+            self.with_next(line, last)
         } else {
-            self.with_first(line, text)
+            self.with_first(line, last)
         }
     }
 }

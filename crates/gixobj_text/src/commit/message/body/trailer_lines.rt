@@ -1,10 +1,8 @@
 //! A trailer's line.
 ghost use Rattle.std.specs.Prelude.{◌≡◌, ◌≤◌, ◌-◌, is_some, length, take};
 ghost use Rattle.std.specs.Option.{option_map};
-ghost use Rattle.gixobj_text.specs.BodyLines.{behind_gap as behind_gap_of, is_gap_byte as is_gap_byte_of, is_token_byte as is_token_byte_of, is_trailer_line as is_trailer_line_of, trailer_parts, with_value};
+ghost use Rattle.gixobj_text.specs.BodyLines.{behind_gap as behind_gap_of, is_gap_byte as is_gap_byte_of, is_token_byte as is_token_byte_of, trailer_parts, with_value};
 ghost use Rattle.gixobj_text.specs.Scanning.{behind_token as behind_token_of, read_parts};
-
-use crate::commit::message::body::lines::line_text;
 
 /// A letter, a digit or a `-`.
 #[inline(always)]
@@ -57,14 +55,6 @@ fn behind_gap(text: &[u8]) -> Option<&[u8]>
     None
 }
 
-/// Whether a line is a trailer's.
-#[inline(always)]
-pub(crate) fn is_trailer_line(line: &[u8]) -> bool
-    ensures { result ≡ is_trailer_line_of line.now }
-{
-    is_trailer_text(line_text(line))
-}
-
 /// Whether a text is a trailer's.
 #[inline(always)]
 #[tactic(auto, using(crate::proofs::Tokens::trailer_is, crate::proofs::Tokens::none_is))]
@@ -84,10 +74,8 @@ fn parts_behind_token<'a>(text: &'a [u8], rest: &'a [u8]) -> Option<(&'a [u8], &
     ensures { read_parts result ≡ with_value (take (length text.now - length rest.now) text.now)
         (behind_gap_of rest.now) }
 {
-    match behind_gap(rest) {
-        Some(value) => Some((&text[..text.len() - rest.len()], value)),
-        None => None,
-    }
+    let value = behind_gap(rest)?;
+    Some((&text[..text.len() - rest.len()], value))
 }
 
 /// The token of a trailer's text, and what stands behind its colon.
@@ -96,14 +84,9 @@ fn parts_behind_token<'a>(text: &'a [u8], rest: &'a [u8]) -> Option<(&'a [u8], &
 pub(crate) fn parts_of_text(text: &[u8]) -> Option<(&[u8], &[u8])>
     ensures { read_parts result ≡ trailer_parts text.now }
 {
-    match text.split_first() {
-        Some((byte, rest)) => {
-            if is_token_byte(*byte) {
-                parts_behind_token(text, behind_token(rest))
-            } else {
-                None
-            }
-        }
-        None => None,
+    let (byte, rest) = text.split_first()?;
+    if !is_token_byte(*byte) {
+        return None;
     }
+    parts_behind_token(text, behind_token(rest))
 }

@@ -10,8 +10,7 @@ ghost use Rattle.gixobj_text.specs.Trailers.{trailers_of_text, unfolded as unfol
 ghost use Rattle.gixobj_hash.specs.Texts.{trimmed};
 ghost use Rattle.gixobj_text.specs.Unfolding.{IsNextTrailer, are_some, folded_front, with_folded, with_piece};
 
-use crate::commit::message::body::lines::{begins_indented, is_blank_line, line_text, split_line};
-use crate::commit::message::body::run::is_indented;
+use crate::commit::message::body::lines::{begins_indented, is_blank_text, line_text, split_line};
 use crate::commit::message::body::trailer_lines::parts_of_text;
 use bstr::{BStr, ByteSlice};
 use gixobj_hash::memory::OutOfMemory;
@@ -102,13 +101,10 @@ pub struct Trailers<'a> {
 /// Initialization
 impl<'a> Trailers<'a> {
     /// The trailers of this text.
-    pub(crate) fn new(alloc: Global, text: &'a [u8]) -> Trailers<'a>
-        ensures { text_left result ≡ text.now }
+    pub(crate) fn new(alloc: Global, cursor: &'a [u8]) -> Trailers<'a>
+        ensures { text_left result ≡ cursor.now }
     {
-        Trailers {
-            alloc,
-            cursor: text,
-        }
+        Trailers { alloc, cursor }
     }
 }
 
@@ -160,7 +156,8 @@ fn next_trailer(text: &[u8]) -> Option<(&[u8], &[u8], &[u8])>
 pub(crate) fn is_folded_line(line: &[u8]) -> bool
     ensures { result ≡ is_folded line.now }
 {
-    is_indented(line) && !is_blank_line(line)
+    let text = line_text(line);
+    begins_indented(text) && !is_blank_text(text)
 }
 
 /// What stands behind the lines that belong to a trailer.
