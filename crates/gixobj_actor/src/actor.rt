@@ -1,6 +1,6 @@
 //! Actors: who made an object, and when (`git-commit-tree`, "Commit Information"; `git-fast-import`,
 //! "author" and "committer").
-ghost use Rattle.std.specs.Prelude.{◌≡◌, ◌≤◌, ◌<◌, ◌+◌, ◌-◌, ◌*◌, ◌^◌, ◌++◌, ℕ, List, length, IfErr, IfNone, IfOk, IfSome, MatchBool, OnErr, OnOk, IsTrue, ◌↔◌, codes};
+ghost use Rattle.std.specs.Prelude.{◌≡◌, ◌≤◌, ◌<◌, ◌+◌, ◌-◌, ◌*◌, ◌^◌, ◌++◌, [], ℕ, List, length, IfErr, IfNone, IfOk, IfSome, MatchBool, OnErr, OnOk, IsTrue, ◌↔◌, codes};
 ghost use Rattle.std.specs.Io.KnownBytes.{Appends};
 ghost use Rattle.std.specs.List.{AllPass};
 ghost use Rattle.std.specs.Option.{SomeIff};
@@ -246,7 +246,8 @@ impl Signature {
         if !(is_writable(name) && is_writable(email)) {
             return Err(Error::IllegalActor);
         }
-        let end = end_of_line(self.time, behind);
+        let mut end = ShortText::new();
+        push_end_of_line(self.time, behind, &mut end);
         put_with_end(name, email, end.as_bytes(), sink)?;
         Ok(())
     }
@@ -263,11 +264,15 @@ impl Signature {
     }
 }
 
-/// Whether a name or an email can be written: it has no `<`, no `>` and no newline.
+/// Whether a name or an email can be written: it has no `<`, no `>` and no newline. No search waits for
+/// the one before.
 fn is_writable(text: &[u8]) -> bool
     ensures { IsTrue result ↔ IsWritable text.now }
 {
-    !(has_byte(text, b'<') || has_byte(text, b'>') || has_byte(text, b'\n'))
+    let has_less = text.contains(&b'<');
+    let has_greater = text.contains(&b'>');
+    let has_newline = text.contains(&b'\n');
+    !(has_less || has_greater || has_newline)
 }
 
 /// Puts a name, ` <`, an email, and the end of an actor's line, whatever their bytes are.
@@ -279,16 +284,16 @@ fn put_with_end<S: Sink>(name: &[u8], email: &[u8], end: &[u8], sink: &mut S) ->
     put_parts(&[name, b" <", email, end], sink)
 }
 
-/// The end of a line of an actor with this time: `> `, the text of the time, and these bytes.
-fn end_of_line(time: Time, behind: &[u8]) -> ShortText
+/// Puts the end of a line of an actor with this time into an empty text: `> `, the text of the time, and
+/// these bytes.
+fn push_end_of_line(time: Time, behind: &[u8], end: &mut ShortText)
     requires few { length behind.now ≤ 1 }
-    ensures { result ≡ codes "> " ++ time_text time.seconds time.offset ++ behind.now }
+    requires empty { end.old ≡ [] }
+    ensures { end.new ≡ codes "> " ++ time_text time.seconds time.offset ++ behind.now }
 {
-    let mut end = ShortText::new();
     end.extend(b"> ");
-    time.push_text(&mut end);
+    time.push_text(end);
     end.extend(behind);
-    end
 }
 
 /// Writes an actor, whatever its bytes are.
