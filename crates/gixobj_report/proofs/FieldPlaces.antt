@@ -6,7 +6,7 @@ use Rattle.std.specs.Option.{option_map}
 use Rattle.std.specs.Prelude.{slice_get}
 use Rattle.gixobj_hash.specs.Bytes.{space}
 use Rattle.gixobj_hash.specs.Texts.{IsFree, SplitsAt}
-use Rattle.gixobj_report.specs.Fields.{field_at, fields_of, first_word, if_not_empty, one_more_byte}
+use Rattle.gixobj_report.specs.Fields.{behind_space, field_at, fields_of, first_word, if_not_empty, one_more_byte}
 use Rattle.gixobj_report.specs.Telling.{behind_some_space, behind_spaces, if_some}
 
 refuted : (t : Bool) → ¬ (t ≡ true) → t ≡ false
@@ -33,6 +33,24 @@ word_alone (byte ∷ line) free =
 
 pub word_split : (front rest line : List ℕ) → SplitsAt space line front rest → front ≡ first_word line
 word_split front rest line splits = word_before front rest line splits.first splits.joined
+
+-- what stands behind the first space is the rest, or nothing
+rest_behind : (front rest line : List ℕ) → IsFree space front → line ≡ front ++ space ∷ rest → rest ≡ behind_space line
+rest_behind [] rest line free is = sym (ap behind_space is)
+rest_behind (byte ∷ front) rest line free is =
+    let other : (byte == space) ≡ false = no_space byte (All-head (λ it. it ≢ space) byte front free) in
+    rest_behind front rest (front ++ space ∷ rest) (All-tail (λ it. it ≢ space) byte front free) refl
+    ∙ sym (ap behind_space is ∙ ap (λ (t : Bool). cond t (front ++ space ∷ rest) (behind_space (front ++ space ∷ rest))) other)
+
+pub behind_split : (front rest line : List ℕ) → SplitsAt space line front rest → rest ≡ behind_space line
+behind_split front rest line splits = rest_behind front rest line splits.first splits.joined
+
+pub behind_alone : (line : List ℕ) → IsFree space line → [] ≡ behind_space line
+behind_alone [] free = refl
+behind_alone (byte ∷ line) free =
+    let other : (byte == space) ≡ false = no_space byte (All-head (λ it. it ≢ space) byte line free) in
+    behind_alone line (All-tail (λ it. it ≢ space) byte line free)
+    ∙ sym (ap (λ (t : Bool). cond t line (behind_space line)) other)
 
 -- the field of number 0
 one_first : (byte : ℕ) (fields : List (List ℕ)) (word : List ℕ) → slice_get fields 0 ≡ Some word → slice_get (one_more_byte byte fields) 0 ≡ Some (byte ∷ word)

@@ -3,8 +3,9 @@ use Rattle.std.proofs.Common.{◌≡◌, ◌∷◌, ◌∙◌, [], ap, sym, code
 use Rattle.std.specs.List.{cons_option, filter_map}
 use Rattle.bstr.specs.Text.{lines_of, without_terminator}
 use Rattle.gixobj_report.specs.Fields.{behind, either, last_of}
-use Rattle.gixobj_report.specs.GpgReports.{fields_said, status_of, told_lines, trust_in, trust_said, valid_fields}
-use Rattle.gixobj_report.specs.Telling.{behind_from, said_behind, status_from, statuses_in, told_behind}
+use Rattle.gixobj_report.specs.GpgReports.{Verdict, fields_said, status_of, told_lines, trust_in, trust_said, valid_fields}
+use Rattle.gixobj_report.specs.Telling.{HasOneMore, behind_from, said_behind, status_from, statuses_in, told_behind, told_status, verdict_of}
+use Rattle.gixobj_report.specs.declared.report.gpg.Statuses.{Statuses}
 
 -- a list that isn't empty has a last, whatever stood before it
 last_there : {X : Type 0} (x : X) (xs : List X) (a b : Option X) → either (last_of (x ∷ xs)) a ≡ either (last_of (x ∷ xs)) b
@@ -26,6 +27,12 @@ one_line_more text line lines rest found next total is gives whole =
     ap (either (last_of (said_behind text rest))) gives
     ∙ sym (last_cons (told_behind text line) (said_behind text rest) found)
     ∙ ap (λ (ls : List (List ℕ)). either (last_of (said_behind text ls)) found) (sym is) ∙ whole
+
+-- the same of the statuses
+pub one_status_more : (line : List ℕ) (lines rest : List (List ℕ)) (before after : Statuses) (total : Verdict) → lines ≡ line ∷ rest → HasOneMore before (told_status line) after
+    → verdict_of before (statuses_in lines) ≡ total → verdict_of after (statuses_in rest) ≡ total
+one_status_more line lines rest before after total is more whole =
+    more (statuses_in rest) ∙ ap (λ (ls : List (List ℕ)). verdict_of before (statuses_in ls)) (sym is) ∙ whole
 
 -- to take the told lines and then what each says is one walk over all lines
 both_of : {X Y Z : Type 0} (f : X → Option Y) (g : Y → Option Z) (h : Option Y → Option Z) → h None ≡ None → ((y : Y) → h (Some y) ≡ g y)

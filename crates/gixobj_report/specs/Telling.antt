@@ -1,14 +1,17 @@
 -- The walks over the lines of a report, which take one line after the other.
-use Rattle.std.specs.Prelude.{ℕ, zero, suc, List, [], ◌∷◌, Option, Some, None, cond, codes, ◌==◌}
+use Rattle.std.specs.Prelude.{ℕ, zero, suc, List, [], ◌∷◌, Option, Some, None, cond, codes, ◌==◌, ◌≡◌}
 use Rattle.std.specs.Borrow.{Bor}
-use Rattle.std.specs.List.{filter_map}
+use Rattle.std.specs.List.{cons_option, filter_map}
 use Rattle.std.specs.Option.{option_map}
 use Rattle.bstr.specs.Owned.{bstring_bytes}
 use Rattle.gixobj_hash.specs.Bytes.{space}
 use Rattle.gixobj_report.specs.Fields.{behind}
-use Rattle.gixobj_report.specs.GpgReports.{Verdict, status_of}
+use Rattle.gixobj_report.specs.GpgReports.{Verdict, status_of, verdict}
 use Rattle.gixobj_report.specs.declared.report.Status.{Status}
+use Rattle.gixobj_report.specs.declared.report.Status.TheVariants as status
 use Rattle.gixobj_report.specs.declared.report.gpg.Said.{Said}
+use Rattle.gixobj_report.specs.declared.report.gpg.Statuses.{Statuses}
+use Rattle.gixobj_report.specs.declared.report.gpg.Statuses.TheVariants as statuses
 
 abbrev pub status_view : Status × Bor (List ℕ) → Status × List ℕ
 status_view it = (it.0, it.1.now)
@@ -30,6 +33,16 @@ told_status line = status_from (behind (codes "[GNUPG:] ") line)
 
 abbrev pub statuses_in : List (List ℕ) → List (Status × List ℕ)
 statuses_in lines = filter_map told_status lines
+
+-- what the statuses of the lines that were read say together with those of the lines that are left
+abbrev pub verdict_of : Statuses → List (Status × List ℕ) → Verdict
+verdict_of statuses.None left = verdict left
+verdict_of (statuses.One one rest) left = verdict ((one, rest.now) ∷ left)
+verdict_of statuses.Several left = record { status = status.Error; key = None; signer = None }
+
+-- one more line was read, which says this status or none
+abbrev pub HasOneMore : Statuses → Option (Status × List ℕ) → Statuses → Type 0
+HasOneMore before said after = (left : List (Status × List ℕ)) → verdict_of after left ≡ verdict_of before (cons_option said left)
 
 -- what stands behind this beginning of a line that is told to programs
 abbrev pub behind_from : List ℕ → Option (List ℕ) → Option (List ℕ)

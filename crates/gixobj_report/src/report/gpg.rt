@@ -1,17 +1,16 @@
 //! Reports of programs of OpenPGP and of X.509 (gnupg, doc/DETAILS, "Format of the --status-fd output").
-ghost use Rattle.std.specs.Prelude.{◌≡◌, [], ◌∷◌, IfOk, MatchOption, map};
+ghost use Rattle.std.specs.Prelude.{◌≡◌, [], ◌∷◌, IfOk, None, codes};
 ghost use Rattle.std.specs.List.{filter_map};
 ghost use Rattle.std.specs.Option.{option_map};
 ghost use Rattle.bstr.specs.Owned.{bstring_bytes};
-ghost use Rattle.bstr.specs.Text.{lines_of, without_terminator};
-ghost use Rattle.gixobj_report.specs.Fields.{behind, behind_space, either, field_at, fields_of, first_word, last_of, unless_empty};
-ghost use Rattle.gixobj_report.specs.GpgReports.{gpg_report, late_status_of, status_of, told_lines, trust_in, valid_fields, verdict, with_status};
+ghost use Rattle.gixobj_report.specs.Fields.{behind, behind_space, either, field_at, fields_of, first_word, unless_empty};
+ghost use Rattle.gixobj_report.specs.GpgReports.{fields_said, gpg_report, late_status_of, status_of, told_lines, trust_in, trust_said, valid_fields, verdict, with_status};
 ghost use Rattle.gixobj_report.specs.Outcomes.{outcome_view};
-ghost use Rattle.gixobj_report.specs.Telling.{behind_some_space, behind_spaces, said_behind, said_view, status_view, statuses_in, told_behind, told_status};
+ghost use Rattle.gixobj_report.specs.Telling.{HasOneMore, behind_some_space, behind_spaces, said_view, status_view, told_behind, told_status, verdict_of};
 ghost use Rattle.gixobj_report.specs.Trust.{or_undefined, trust_of};
 
 use super::{Outcome, Status, TrustLevel};
-use bstr::{BString, ByteSlice, Lines};
+use bstr::{BString, ByteSlice};
 use gixobj_hash::OutOfMemory;
 use gixobj_hash::texts::split_at_byte;
 use gixobj_text::signature::Format;
@@ -34,10 +33,11 @@ pub fn parse_gpg_output(
     ensures { IfOk result (λ it. outcome_view it
         ≡ gpg_report format (bstring_bytes output) (bstring_bytes raw_output)) }
 {
-    let said = said_in(alloc, raw_output.as_bytes())?;
-    let trust_level = trust_level_in(raw_output.as_bytes());
-    let fingerprint = valid_field_of(alloc, raw_output.as_bytes(), 0)?;
-    let primary_key_fingerprint = valid_field_of(alloc, raw_output.as_bytes(), 9)?;
+    let told = told_in(raw_output.as_bytes());
+    let said = said_by(alloc, told.statuses)?;
+    let trust_level = trust_level_told(told.trust);
+    let fingerprint = field_told(alloc, told.valid, 0)?;
+    let primary_key_fingerprint = field_told(alloc, told.valid, 9)?;
     let Said {
         status,
         key,
@@ -65,36 +65,112 @@ pub(crate) struct Said {
     pub(crate) signer: Option<BString>,
 }
 
-/// What all lines that say a status say together. No line behind the second one is read.
-#[tactic(auto, using(crate::proofs::Told::statuses_so))]
-fn said_in(alloc: Global, raw: &[u8]) -> Result<Said, OutOfMemory>
-    ensures { IfOk result (λ it. said_view it
-        ≡ verdict (filter_map status_of (told_lines raw.now))) }
+/// The statuses that lines say, as far as they are read.
+#[derive(Clone, Copy)]
+pub(crate) enum Statuses<'a> {
+    /// No line says one.
+    None,
+    /// One line says this one, with this rest behind its word.
+    One(Status, &'a [u8]),
+    /// More than one line says one.
+    Several,
+}
+
+/// What lines tell to programs, as far as they are read.
+#[derive(Clone, Copy)]
+pub(crate) struct Told<'a> {
+    /// The statuses.
+    pub(crate) statuses: Statuses<'a>,
+    /// What the last line says of the trust, if one does.
+    pub(crate) trust: Option<&'a [u8]>,
+    /// What the last line says of whose key it is, if one does.
+    pub(crate) valid: Option<&'a [u8]>,
+}
+
+/// What all lines tell, read once.
+#[tactic(auto, using(crate::proofs::Told::statuses_so, crate::proofs::Told::trust_so, crate::proofs::Told::valid_so))]
+fn told_in<'a>(raw: &'a [u8]) -> Told<'a>
+    ensures statuses { verdict_of result.statuses []
+        ≡ verdict (filter_map status_of (told_lines raw.now)) }
+    ensures trust { trust_said (option_map (λ it. it.now) result.trust)
+        ≡ trust_in (told_lines raw.now) }
+    ensures valid { fields_said (option_map (λ it. it.now) result.valid)
+        ≡ valid_fields (told_lines raw.now) }
 {
+    let mut told = Told {
+        statuses: Statuses::None,
+        trust: None,
+        valid: None,
+    };
     let mut lines = raw.lines();
-    match next_status(&mut lines) {
-        None => Ok(Said {
-            status: Status::Unknown,
-            key: None,
-            signer: None,
-        }),
-        Some((status, rest)) => match next_status(&mut lines) {
-            None => said_by(alloc, status, rest),
-            Some(_) => Ok(Said {
-                status: Status::Error,
-                key: None,
-                signer: None,
-            }),
+    'lines: while let Some(line) = lines.next() {
+        told = with_line(told, line);
+    }
+    told
+}
+
+/// What is told with this line behind those before.
+#[inline(always)]
+fn with_line<'a>(before: Told<'a>, line: &'a [u8]) -> Told<'a>
+    ensures statuses { HasOneMore before.entry.statuses (told_status line.now) result.statuses }
+    ensures trust { option_map (λ it. it.now) result.trust
+        ≡ either (told_behind (codes "TRUST_") line.now)
+        (option_map (λ it. it.now) before.entry.trust) }
+    ensures valid { option_map (λ it. it.now) result.valid
+        ≡ either (told_behind (codes "VALIDSIG ") line.now)
+        (option_map (λ it. it.now) before.entry.valid) }
+{
+    match line.strip_prefix(b"[GNUPG:] ") {
+        Some(said) => Told {
+            statuses: with_status_if_any(before.statuses, status_of_line(said)),
+            trust: behind_here(said, b"TRUST_", before.trust),
+            valid: behind_here(said, b"VALIDSIG ", before.valid),
         },
+        None => before,
+    }
+}
+
+/// The statuses with one more, if there is one.
+#[inline(always)]
+fn with_status_if_any<'a>(before: Statuses<'a>, found: Option<(Status, &'a [u8])>) -> Statuses<'a>
+    ensures { HasOneMore before.entry (option_map status_view found.entry) result }
+{
+    match (before, found) {
+        (_, None) => before,
+        (Statuses::None, Some((status, rest))) => Statuses::One(status, rest),
+        (_, Some(_)) => Statuses::Several,
+    }
+}
+
+/// What the statuses of all lines say together.
+fn said_by(alloc: Global, statuses: Statuses<'_>) -> Result<Said, OutOfMemory>
+    ensures { IfOk result (λ it. said_view it ≡ verdict_of statuses.entry []) }
+{
+    match statuses {
+        Statuses::None => Ok(nothing_but(Status::Unknown)),
+        Statuses::One(status, rest) => said_by_one(alloc, status, rest),
+        Statuses::Several => Ok(nothing_but(Status::Error)),
+    }
+}
+
+/// A status without a key and a signer.
+fn nothing_but(status: Status) -> Said
+    ensures { said_view result ≡ record { status = status; key = None; signer = None } }
+{
+    Said {
+        status,
+        key: None,
+        signer: None,
     }
 }
 
 /// What a single line says that says this status, with this rest behind it.
-fn said_by(alloc: Global, status: Status, rest: &[u8]) -> Result<Said, OutOfMemory>
+fn said_by_one(alloc: Global, status: Status, rest: &[u8]) -> Result<Said, OutOfMemory>
     ensures { IfOk result (λ it. said_view it ≡ verdict ((status, rest.now) ∷ [])) }
 {
-    let key = copy_unless_empty(alloc, first_word_of(rest))?;
-    let signer = copy_unless_empty(alloc, behind_space_of(rest))?;
+    let (word, behind) = cut_at_space(rest);
+    let key = copy_unless_empty(alloc, word)?;
+    let signer = copy_unless_empty(alloc, behind)?;
     Ok(Said {
         status,
         key,
@@ -102,30 +178,20 @@ fn said_by(alloc: Global, status: Status, rest: &[u8]) -> Result<Said, OutOfMemo
     })
 }
 
-/// The next status that a line says, with what stands behind its word. The lines before are passed.
-fn next_status<'a>(lines: &mut Lines<'a>) -> Option<(Status, &'a [u8])>
-    ensures { MatchOption result (statuses_in lines.old ≡ [])
-        (λ it. statuses_in lines.old ≡ status_view it ∷ statuses_in lines.new) }
+/// What stands before the first space and what behind it: all and nothing without one.
+#[tactic(auto, using(crate::proofs::FieldPlaces::word_split, crate::proofs::FieldPlaces::word_alone, crate::proofs::FieldPlaces::behind_split, crate::proofs::FieldPlaces::behind_alone))]
+fn cut_at_space<'a>(line: &'a [u8]) -> (&'a [u8], &'a [u8])
+    ensures word { result.0.now ≡ first_word line.now }
+    ensures rest { result.1.now ≡ behind_space line.now }
 {
-    'lines: while let Some(line) = lines.next() {
-        if let Some(found) = status_told(line) {
-            return Some(found);
-        }
-    }
-    None
-}
-
-/// The status that a line says, if it is told to programs.
-fn status_told<'a>(line: &'a [u8]) -> Option<(Status, &'a [u8])>
-    ensures { option_map status_view result ≡ told_status line.now }
-{
-    match line.strip_prefix(b"[GNUPG:] ") {
-        Some(told) => status_of_line(told),
-        None => None,
+    match split_at_byte(line, b' ') {
+        Some(parts) => parts,
+        None => (line, b""),
     }
 }
 
 /// The status that a line says, without the beginning of all lines.
+#[inline(always)]
 fn status_of_line<'a>(line: &'a [u8]) -> Option<(Status, &'a [u8])>
     ensures { option_map status_view result ≡ status_of line.now }
 {
@@ -136,6 +202,7 @@ fn status_of_line<'a>(line: &'a [u8]) -> Option<(Status, &'a [u8])>
 }
 
 /// The status that a line says of a signature that was good once.
+#[inline(always)]
 fn late_status_of_line<'a>(line: &'a [u8]) -> Option<(Status, &'a [u8])>
     ensures { option_map status_view result ≡ late_status_of line.now }
 {
@@ -145,6 +212,7 @@ fn late_status_of_line<'a>(line: &'a [u8]) -> Option<(Status, &'a [u8])>
 }
 
 /// This status, where the line begins with this text, with what stands behind the text.
+#[inline(always)]
 fn status_if<'a>(line: &'a [u8], text: &[u8], status: Status) -> Option<(Status, &'a [u8])>
     ensures { option_map status_view result
         ≡ option_map (with_status status) (behind text.now line.now) }
@@ -156,6 +224,7 @@ fn status_if<'a>(line: &'a [u8], text: &[u8], status: Status) -> Option<(Status,
 }
 
 /// The same, and the other one where the line begins otherwise.
+#[inline(always)]
 fn status_or<'a>(
     line: &'a [u8],
     text: &[u8],
@@ -172,12 +241,11 @@ fn status_or<'a>(
     }
 }
 
-/// The trust that the last line says which says one.
-#[tactic(auto, using(crate::proofs::Told::trust_so))]
-fn trust_level_in(raw: &[u8]) -> TrustLevel
-    ensures { result ≡ trust_in (told_lines raw.now) }
+/// The trust that this text names, if there is one, by its first word.
+fn trust_level_told(told: Option<&[u8]>) -> TrustLevel
+    ensures { result ≡ trust_said (option_map (λ it. it.now) told.entry) }
 {
-    match last_told(raw, b"TRUST_") {
+    match told {
         Some(rest) => trust_level_of(first_word_of(rest)),
         None => TrustLevel::Undefined,
     }
@@ -193,13 +261,16 @@ fn trust_level_of(name: &[u8]) -> TrustLevel
     }
 }
 
-/// The field of this number of the last line that says whose key it is.
-#[tactic(auto, using(crate::proofs::Told::valid_so))]
-fn valid_field_of(alloc: Global, raw: &[u8], number: usize) -> Result<Option<BString>, OutOfMemory>
+/// The field of this number of this text, if there is one.
+fn field_told(
+    alloc: Global,
+    told: Option<&[u8]>,
+    number: usize,
+) -> Result<Option<BString>, OutOfMemory>
     ensures { IfOk result (λ it. option_map bstring_bytes it
-        ≡ field_at number (valid_fields (told_lines raw.now))) }
+        ≡ field_at number (fields_said (option_map (λ it. it.now) told.entry))) }
 {
-    match last_told(raw, b"VALIDSIG ") {
+    match told {
         Some(rest) => field_of(alloc, rest, number),
         None => Ok(None),
     }
@@ -245,20 +316,6 @@ fn behind_space_if_any<'a>(line: &'a [u8]) -> Option<&'a [u8]>
     None
 }
 
-/// What stands behind the first space, or nothing without one.
-fn behind_space_of<'a>(line: &'a [u8]) -> &'a [u8]
-    ensures { result.now ≡ behind_space line.now }
-{
-    let mut rest = line;
-    'bytes: while let Some((byte, behind)) = rest.split_first() {
-        if *byte == b' ' {
-            return behind;
-        }
-        rest = behind;
-    }
-    b""
-}
-
 /// What stands before the first space, or all without one.
 #[tactic(auto, using(crate::proofs::FieldPlaces::word_split, crate::proofs::FieldPlaces::word_alone))]
 fn first_word_of<'a>(line: &'a [u8]) -> &'a [u8]
@@ -280,37 +337,9 @@ fn copy_unless_empty(alloc: Global, text: &[u8]) -> Result<Option<BString>, OutO
     Ok(Some(BString::from_slice(alloc, text)?))
 }
 
-/// What stands behind this beginning in the last line that has it and is told to programs.
-#[tactic(auto, using(crate::proofs::Told::one_line_more))]
-fn last_told<'a>(raw: &'a [u8], text: &[u8]) -> Option<&'a [u8]>
-    ensures { option_map (λ it. it.now) result
-        ≡ last_of (said_behind text.now (map without_terminator (lines_of raw.now))) }
-{
-    let mut found = None;
-    let mut lines = raw.lines();
-    'lines: while let Some(line) = lines.next() {
-        found = told_here(line, text, found);
-    }
-    found
-}
-
-/// What stands behind the beginning in this line, or what was found before where the line has it not.
-fn told_here<'a>(line: &'a [u8], text: &[u8], before: Option<&'a [u8]>) -> Option<&'a [u8]>
-    ensures { option_map (λ it. it.now) result
-        ≡ either (told_behind text.now line.now) (option_map (λ it. it.now) before.entry) }
-{
-    match line.strip_prefix(b"[GNUPG:] ") {
-        Some(told) => behind_here(told, text, before),
-        None => before,
-    }
-}
-
 /// What stands behind a text where the bytes begin with it, or else what was found before.
-pub(crate) fn behind_here<'a>(
-    bytes: &'a [u8],
-    text: &[u8],
-    before: Option<&'a [u8]>,
-) -> Option<&'a [u8]>
+#[inline(always)]
+fn behind_here<'a>(bytes: &'a [u8], text: &[u8], before: Option<&'a [u8]>) -> Option<&'a [u8]>
     ensures { option_map (λ it. it.now) result
         ≡ either (behind text.now bytes.now) (option_map (λ it. it.now) before.entry) }
 {

@@ -1,12 +1,12 @@
 //! Reports of programs of SSH (ssh-keygen(1), `-Y verify`).
-ghost use Rattle.std.specs.Prelude.{◌≡◌, IfOk};
+ghost use Rattle.std.specs.Prelude.{◌≡◌, ◌≤◌, IfOk, drop, length};
 ghost use Rattle.std.specs.Option.{option_map};
 ghost use Rattle.bstr.specs.Owned.{bstring_bytes};
 ghost use Rattle.bstr.specs.Text.{lines_of};
+ghost use Rattle.gixobj_report.specs.Fields.{behind};
 ghost use Rattle.gixobj_report.specs.Outcomes.{outcome_view};
 ghost use Rattle.gixobj_report.specs.SshReports.{behind_last, first_line, ssh_key, ssh_report, ssh_status};
 
-use super::gpg::behind_here;
 use super::{Outcome, Status, TrustLevel};
 use bstr::{BString, ByteSlice};
 use gixobj_hash::OutOfMemory;
@@ -30,8 +30,9 @@ pub fn parse_ssh_output(
 {
     let status = status_of(output.as_bytes());
     let raw_output = BString::from_slice(alloc, output.as_bytes())?;
-    let key = key_of(alloc, output.as_bytes())?;
-    let fingerprint = key_of(alloc, output.as_bytes())?;
+    let found = key_in(output.as_bytes());
+    let key = copy_of(alloc, found)?;
+    let fingerprint = copy_of(alloc, found)?;
     Ok(Outcome {
         format: Format::Ssh,
         status,
@@ -57,12 +58,20 @@ fn status_of(output: &[u8]) -> Status
     }
 }
 
-/// A copy of what stands behind the last ` key ` of the first line, if there is one.
-fn key_of(alloc: Global, output: &[u8]) -> Result<Option<BString>, OutOfMemory>
-    ensures { IfOk result (λ it. option_map bstring_bytes it ≡ ssh_key output.now) }
+/// What stands behind the last ` key ` of the first line, if there is one.
+fn key_in<'a>(output: &'a [u8]) -> Option<&'a [u8]>
+    ensures { option_map (λ it. it.now) result ≡ ssh_key output.now }
 {
-    match behind_last_of(first_line_of(output), b" key ") {
-        Some(key) => Ok(Some(BString::from_slice(alloc, key)?)),
+    behind_last_of(first_line_of(output), b" key ")
+}
+
+/// A copy of a text, if there is one.
+fn copy_of(alloc: Global, text: Option<&[u8]>) -> Result<Option<BString>, OutOfMemory>
+    ensures { IfOk result (λ it. option_map bstring_bytes it
+        ≡ option_map (λ it. it.now) text.entry) }
+{
+    match text {
+        Some(text) => Ok(Some(BString::from_slice(alloc, text)?)),
         None => Ok(None),
     }
 }
@@ -77,16 +86,26 @@ fn first_line_of(text: &[u8]) -> &[u8]
     }
 }
 
-/// What stands behind the last place of a text, or none without one.
-#[tactic(auto, using(crate::proofs::LastPlaces::one_place_more))]
+/// What stands behind the last place of a text, or none without one. It is sought from the end.
+#[tactic(auto, using(crate::proofs::LastPlaces::place_here, crate::proofs::LastPlaces::no_place_here))]
 fn behind_last_of<'a>(bytes: &'a [u8], text: &[u8]) -> Option<&'a [u8]>
     ensures { option_map (λ it. it.now) result ≡ behind_last text.now bytes.now }
 {
-    let mut rest = bytes;
-    let mut found = None;
-    'places: while let Some((_, behind)) = rest.split_first() {
-        found = behind_here(rest, text, found);
-        rest = behind;
+    let mut at = bytes.len();
+    'places: while at > 0 {
+        if let Some(rest) = behind_at(bytes, at - 1, text) {
+            return Some(rest);
+        }
+        at -= 1;
     }
-    found
+    None
+}
+
+/// What stands behind a text where it stands at this place, or none where it doesn't.
+#[inline(always)]
+fn behind_at<'a>(bytes: &'a [u8], at: usize, text: &[u8]) -> Option<&'a [u8]>
+    requires inside { at ≤ length bytes.now }
+    ensures { option_map (λ it. it.now) result ≡ behind text.now (drop at bytes.now) }
+{
+    bytes.split_at(at).1.strip_prefix(text)
 }

@@ -1,13 +1,12 @@
-use Rattle.std.proofs.Common.{◌≡◌, length}
-use Rattle.std.specs.Option.{option_map}
-use Rattle.gixobj_report.specs.Fields.{either}
+use Rattle.std.proofs.Common.{◌≡◌, ◌≤◌, None, drop, length}
 use Rattle.gixobj_report.specs.SshReports.{behind_last}
 use Rattle.gixobj_report.proofs.report.ssh.behind_last_of.Given as goal
 
--- what stands behind a place of the rest or, where it has none, what was found stands behind the last of the whole
+-- no place lies from here on
 abbrev pub invariant-places : goal.invariant-places
 invariant-places l =
-    either (behind_last l.text l.rest) (option_map (λ it. it.now) l.found) ≡ behind_last l.text l.fn.bytes
+    (l.at ≤ length l.fn.bytes)
+    × (behind_last l.text (drop l.at l.fn.bytes) ≡ None)
 
 abbrev pub decreases-places : goal.decreases-places
-decreases-places l = length l.rest
+decreases-places l = l.at
