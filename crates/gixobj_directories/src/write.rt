@@ -101,7 +101,7 @@ fn leaves<E, F: FnMut(&Tree) -> Result<ObjectId, E>>(
         let (child, behind) = next_of(left, entry);
         left = behind;
         let id = visit(alloc, entry, child, out, pairs, saved)?;
-        keep_subtree(alloc, &mut own, base, entry, id, node.tree.entries.len())?;
+        keep_entry(alloc, &mut own, base, entry, id, node.tree.entries.len())?;
     }
     Ok(own)
 }
@@ -270,7 +270,7 @@ fn ask<E, F: FnMut(&Tree) -> Result<ObjectId, E>>(
 }
 
 /// Adds the entry with the id that it gets, unless there is none or it is null. So many entries may come in all.
-fn keep_subtree(
+fn keep_entry(
     alloc: Global,
     own: &mut OwnTree,
     base: &[Entry],

@@ -42,7 +42,7 @@ leaves-loop-entry-preserved g t c =
     let based = child_side base_side next in
     let base : in_dir e.name bases ≡ based = λ i path. (go.here base_side path ∙ ap (λ (o : Option Child). child_side base_side o path) (sym c.next_of.ensures.next)) i in
     let ok = c.in_ok-id.ensures.ok in
-    let kept = c.in_ok-keep_subtree.ensures in
+    let kept = c.in_ok-keep_entry.ensures in
     let left = c.loop-entry.left.now in
     let ahead : child_wholes next ++ wholes (below (parts c.next_of.result.1.now)) ≡ wholes (below (parts left)) =
     ap (λ o. child_wholes o ++ wholes (below (parts c.next_of.result.1.now))) c.next_of.ensures.next ∙ ap (λ cs. child_wholes (next_child e.name left) ++ wholes (below (parts cs))) c.next_of.ensures.behind
@@ -58,7 +58,7 @@ leaves-loop-entry-preserved g t c =
         ),
         raised_then _ _ _ so.1 ok.1 so.3 ok.3,
         FoldsTo-append (λ f p h. CalledAt g.F.FnMut f p.1 (Ok p.0) h) c.args.out.now so.0 c.loop-entry.out ok.0 c.visit.new.out so.4 ok.5,
-        walk_step dirs bases inside based items c.loop-entry.entry-index e so.0 ok.0 (so_far c.args.base.now c.loop-entry.own) (kept_with e c.in_ok-id.id) so.1 ok.1 c.loop-entry-test.true c.entry-item.is same base ok.2 so.5 (so_far c.args.base.now c.keep_subtree.new.own) kept.entries,
+        walk_step dirs bases inside based items c.loop-entry.entry-index e so.0 ok.0 (so_far c.args.base.now c.loop-entry.own) (kept_with e c.in_ok-id.id) so.1 ok.1 c.loop-entry-test.true c.entry-item.is same base ok.2 so.5 (so_far c.args.base.now c.keep_entry.new.own) kept.entries,
       );
       callable = callable_after _ (λ f p h. CalledAt g.F.FnMut f p.1 (Ok p.0) h) c.loop-entry.out ok.0 c.visit.new.out ok.5 c.loop-entry.invariant.callable;
       beside = kept.beside;
@@ -96,8 +96,8 @@ leaves-returns-in_err-id-clause-stopped g t c =
     (λ qs seen. (rest.0, (so_far c.args.base.now c.loop-entry.own ++ (seen.0 ++ rest.1), so.1 + (seen.1 + rest.2), leaves dirs bases items _ _ _ root (walk_goes dirs bases inside based items c.loop-entry.entry-index e so.0 qs (so_far c.args.base.now c.loop-entry.own) seen.0 so.1 seen.1 c.loop-entry-test.true c.entry-item.is same base seen.2 so.5 rest.0 rest.1 rest.2 rest.3))))
     c.in_err-id.field-0.0 c.in_err-id.ensures.stopped))
 
-pub leaves-returns-in_err-keep_subtree-clause-stopped : goal.leaves-returns-in_err-keep_subtree-clause-stopped
-leaves-returns-in_err-keep_subtree-clause-stopped g t c =
+pub leaves-returns-in_err-keep_entry-clause-stopped : goal.leaves-returns-in_err-keep_entry-clause-stopped
+leaves-returns-in_err-keep_entry-clause-stopped g t c =
     let so = c.loop-entry.invariant.told in
     let e = c.entry-item.result in
     let node = c.args.node.now in
@@ -115,7 +115,7 @@ leaves-returns-in_err-keep_subtree-clause-stopped g t c =
     let kept = kept_with e c.in_ok-id.id in
     let acc = so_far c.args.base.now c.loop-entry.own in
     let rest = walk_on node (drop (c.loop-entry.entry-index + 1) items) in
-    err_weaker c.from_residual-in_err-keep_subtree.result _ _ c.from_residual-in_err-keep_subtree.ensures.1
+    err_weaker c.from_residual-in_err-keep_entry.result _ _ c.from_residual-in_err-keep_entry.ensures.1
     (stopped_here (λ f p h. CalledAt g.F.FnMut f p.1 (Ok p.0) h) (λ f tree x h. CalledAt g.F.FnMut f tree (Err x) h) (λ ps. (own : List EntryView) × (n : ℕ) × Leaves dirs bases ps own n) c.args.out.now c.visit.new.out (so.0 ++ ok.0) rest.0
     (FoldsTo-append (λ f p h. CalledAt g.F.FnMut f p.1 (Ok p.0) h) c.args.out.now so.0 c.loop-entry.out ok.0 c.visit.new.out so.4 ok.5)
     ((acc ++ kept) ++ rest.1, so.1 + ok.1 + rest.2, leaves dirs bases items _ _ _ root (walk_step dirs bases inside based items c.loop-entry.entry-index e so.0 ok.0 acc kept so.1 ok.1 c.loop-entry-test.true c.entry-item.is same base ok.2 so.5 (acc ++ kept) refl rest.0 rest.1 rest.2 rest.3)))
