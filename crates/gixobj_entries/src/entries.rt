@@ -75,86 +75,8 @@ fn place_of_other(entries: &[Entry], entry: &Entry, place: usize) -> Option<usiz
     }
 }
 
-<<<<<<< HEAD:crates/gixobj_entries/src/entries.rt
 /// Whether the entry has this name.
 pub fn is_named(entry: &Entry, name: &[u8]) -> bool
-||||||| 607ef365:crates/gixobj_directories/src/entries.rt
-/// Takes the entry of a name out, if there is one. The others stay as they stand.
-///
-/// No two entries may have one name. It takes no memory, and the list keeps the room that it has.
-pub fn take_out(entries: &mut Vec<Entry>, name: &[u8])
-    requires { EachLater (λ x y. x.name ≢ y.name) entries.old.items }
-    ensures items { entries.new.items ≡ without name.now entries.old.items }
-    ensures room { vec_capacity entries.new ≡ vec_capacity entries.old }
-    ensures len { vec_len entries.new ≤ vec_len entries.old }
-{
-    if let Some(place) = first_of(entries, name) {
-        entries.remove(place);
-    }
-}
-
-/// Copies of the entries whose ids aren't null, in their order.
-///
-/// It takes memory for the list and for each name, and fails only where that is wanting.
-pub fn copy_kept(alloc: Global, entries: &[Entry]) -> Result<Vec<Entry>, AllocError>
-    ensures { IfOk result (λ copies. copies.items ≡ kept entries.now) }
-{
-    let mut copies = Vec::new(alloc);
-    for entry in entries {
-        if is_kept(entry) {
-            copies.push(copy(alloc, entry)?)?;
-        }
-    }
-    Ok(copies)
-}
-
-/// The place of the first entry of this name.
-fn first_of(entries: &[Entry], name: &[u8]) -> Option<usize>
-    ensures { result ≡ position (λ e. same_name e.name name.now) entries.now }
-{
-    entries.iter().position(|entry| is_named(entry, name))
-}
-
-pub(crate) fn is_named(entry: &Entry, name: &[u8]) -> bool
-=======
-/// Takes the entry of a name out, if there is one. The others stay as they stand.
-///
-/// No two entries may have one name. It takes no memory, and the list keeps the room that it has.
-pub fn take_out(entries: &mut Vec<Entry>, name: &[u8])
-    requires { EachLater (λ x y. x.name ≢ y.name) entries.old.items }
-    ensures items { entries.new.items ≡ without name.now entries.old.items }
-    ensures room { vec_capacity entries.new ≡ vec_capacity entries.old }
-    ensures len { vec_len entries.new ≤ vec_len entries.old }
-{
-    if let Some(place) = first_of(entries, name) {
-        entries.remove(place);
-    }
-}
-
-/// Copies of the entries whose ids aren't null, in their order.
-///
-/// It takes memory for the list and for each name, and fails only where memory runs out.
-pub fn copy_kept(alloc: Global, entries: &[Entry]) -> Result<Vec<Entry>, AllocError>
-    ensures { IfOk result (λ copies. copies.items ≡ kept entries.now) }
-{
-    let mut copies = Vec::new(alloc);
-    for entry in entries {
-        if is_kept(entry) {
-            copies.push(copy(alloc, entry)?)?;
-        }
-    }
-    Ok(copies)
-}
-
-/// The place of the first entry of this name.
-fn first_of(entries: &[Entry], name: &[u8]) -> Option<usize>
-    ensures { result ≡ position (λ e. same_name e.name name.now) entries.now }
-{
-    entries.iter().position(|entry| is_named(entry, name))
-}
-
-pub(crate) fn is_named(entry: &Entry, name: &[u8]) -> bool
->>>>>>> 012a804fac6a95b42e048503fe5450041cf13a09:crates/gixobj_directories/src/entries.rt
     ensures { result ≡ same_name entry.now.name name.now }
 {
     entry.filename.as_bytes() == name
@@ -181,16 +103,8 @@ pub fn is_kept(entry: &Entry) -> bool
 
 /// Copies of the entries, with names of their own.
 ///
-<<<<<<< HEAD:crates/gixobj_entries/src/entries.rt
 /// It takes memory for the list and for each name, and fails only where memory runs out.
 pub fn copies(alloc: Global, entries: &[Entry]) -> Result<Vec<Entry>, AllocError>
-||||||| 607ef365:crates/gixobj_directories/src/entries.rt
-/// It takes memory for the list and for each name, and fails only where that is wanting.
-pub(crate) fn copies(alloc: Global, entries: &[Entry]) -> Result<Vec<Entry>, AllocError>
-=======
-/// It takes memory for the list and for each name, and fails only where memory runs out.
-pub(crate) fn copies(alloc: Global, entries: &[Entry]) -> Result<Vec<Entry>, AllocError>
->>>>>>> 012a804fac6a95b42e048503fe5450041cf13a09:crates/gixobj_directories/src/entries.rt
     ensures { IfOk result (λ copied. copied.items ≡ entries.now) }
 {
     let mut copied = Vec::with_capacity(alloc, entries.len())?;
