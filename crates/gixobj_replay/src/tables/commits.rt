@@ -1,0 +1,82 @@
+//! The tables of commits and their messages.
+
+use crate::commits::{commit_answer, size_answer, token_answer};
+use crate::git_commits::{beginning_answer, call_answer, search_answer, shape_answer};
+use crate::messages::{body_answer, message_answer, named_answer};
+use crate::recorded::tables::{Recorded, named_parts};
+use gixobj_base::parse::split_at_byte;
+use std::alloc::{AllocError, Global};
+
+/// A file of recorded answers about commits and their messages.
+#[derive(Clone, Copy)]
+pub(crate) enum CommitTable {
+    /// Commits read whole and written.
+    Commits,
+    /// Sizes of commits.
+    CommitSizes,
+    /// Commits read token by token.
+    CommitTokens,
+    /// Messages cut into titles and bodies, and their summaries.
+    Messages,
+    /// Bodies, their trailers and blocks.
+    Bodies,
+    /// Texts of messages and bodies.
+    MessageTexts,
+    /// Trailers of bodies of which git tells.
+    GitTrailers,
+    /// Commits of which git is asked.
+    GitCommits,
+    /// Commits of which git says something else, or nothing.
+    OddCommits,
+    /// Headers of commits found by their names.
+    CommitHeaders,
+    /// Beginnings of commits, and damaged ones.
+    CommitBeginnings,
+    /// Calls on a commit's reader of tokens.
+    CommitCalls,
+}
+
+impl Recorded for CommitTable {
+    fn names(self) -> (&'static str, &'static str) {
+        match self {
+            CommitTable::Commits => ("commits", "commits.tsv"),
+            CommitTable::CommitSizes => ("commit sizes", "commit-sizes.tsv"),
+            CommitTable::CommitTokens => ("commit tokens", "commit-tokens.tsv"),
+            CommitTable::Messages => ("messages", "messages.tsv"),
+            CommitTable::Bodies => ("bodies", "bodies.tsv"),
+            CommitTable::MessageTexts => ("message texts", "message-texts.tsv"),
+            CommitTable::GitTrailers => ("git trailers", "git-trailers.tsv"),
+            CommitTable::GitCommits => ("git commits", "git-commits.tsv"),
+            CommitTable::OddCommits => ("odd commits", "odd-commits.tsv"),
+            CommitTable::CommitHeaders => ("commit headers", "commit-headers.tsv"),
+            CommitTable::CommitBeginnings => ("commit beginnings", "commit-beginnings.tsv"),
+            CommitTable::CommitCalls => ("commit calls", "commit-calls.tsv"),
+        }
+    }
+
+    fn answer(self, alloc: Global, question: &[u8]) -> Result<Vec<u8>, AllocError> {
+        match self {
+            CommitTable::Commits => commit_answer(alloc, question),
+            CommitTable::CommitSizes => size_answer(alloc, question),
+            CommitTable::CommitTokens => token_answer(alloc, question),
+            CommitTable::Messages => message_answer(alloc, question),
+            CommitTable::Bodies => body_answer(alloc, question),
+            CommitTable::MessageTexts | CommitTable::GitTrailers => named_answer(alloc, question),
+            CommitTable::GitCommits | CommitTable::OddCommits => shape_answer(alloc, question),
+            CommitTable::CommitHeaders => search_answer(alloc, question),
+            CommitTable::CommitBeginnings => beginning_answer(alloc, question),
+            CommitTable::CommitCalls => call_answer(alloc, question),
+        }
+    }
+
+    fn parts<'a>(self, line: &'a [u8]) -> Option<(&'a [u8], &'a [u8])> {
+        match self {
+            CommitTable::Commits
+            | CommitTable::CommitSizes
+            | CommitTable::CommitTokens
+            | CommitTable::Messages
+            | CommitTable::Bodies => split_at_byte(line, b'\t'),
+            _ => named_parts(line),
+        }
+    }
+}

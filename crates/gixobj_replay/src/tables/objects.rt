@@ -1,0 +1,67 @@
+//! The tables of trees and loose objects.
+
+use crate::git_objects::loose_answer;
+use crate::git_trees::git_tree_answer;
+use crate::listed_trees::{listed_tree_answer, well_formed_answer};
+use crate::loose_objects::object_answer;
+use crate::recorded::tables::{Recorded, named_parts};
+use crate::trees::{tree_answer, tree_token_answer};
+use gixobj_base::parse::split_at_byte;
+use std::alloc::{AllocError, Global};
+
+/// A file of recorded answers about trees and loose objects.
+#[derive(Clone, Copy)]
+pub(crate) enum ObjectTable {
+    /// Trees read whole and written.
+    Trees,
+    /// Trees read entry by entry.
+    TreeTokens,
+    /// Loose objects read and written.
+    Objects,
+    /// Trees of listed entries, written.
+    ListedTrees,
+    /// Trees of listed entries, judged.
+    WellFormedTrees,
+    /// Trees that `git` made or reads.
+    GitTrees,
+    /// Texts of trees that `git` doesn't write.
+    OddTrees,
+    /// Loose objects of each kind.
+    GitObjects,
+}
+
+impl Recorded for ObjectTable {
+    fn names(self) -> (&'static str, &'static str) {
+        match self {
+            ObjectTable::Trees => ("trees", "trees.tsv"),
+            ObjectTable::TreeTokens => ("tree tokens", "tree-tokens.tsv"),
+            ObjectTable::Objects => ("objects", "objects.tsv"),
+            ObjectTable::ListedTrees => ("listed trees", "listed-trees.tsv"),
+            ObjectTable::WellFormedTrees => ("well-formed trees", "well-formed-trees.tsv"),
+            ObjectTable::GitTrees => ("git trees", "git-trees.tsv"),
+            ObjectTable::OddTrees => ("odd trees", "odd-trees.tsv"),
+            ObjectTable::GitObjects => ("git objects", "git-objects.tsv"),
+        }
+    }
+
+    fn answer(self, alloc: Global, question: &[u8]) -> Result<Vec<u8>, AllocError> {
+        match self {
+            ObjectTable::Trees => tree_answer(alloc, question),
+            ObjectTable::TreeTokens => tree_token_answer(alloc, question),
+            ObjectTable::Objects => object_answer(alloc, question),
+            ObjectTable::ListedTrees => listed_tree_answer(alloc, question),
+            ObjectTable::WellFormedTrees => well_formed_answer(alloc, question),
+            ObjectTable::GitTrees | ObjectTable::OddTrees => git_tree_answer(alloc, question),
+            ObjectTable::GitObjects => loose_answer(alloc, question),
+        }
+    }
+
+    fn parts<'a>(self, line: &'a [u8]) -> Option<(&'a [u8], &'a [u8])> {
+        match self {
+            ObjectTable::Trees | ObjectTable::TreeTokens | ObjectTable::Objects => split_at_byte(
+                line, b'\t',
+            ),
+            _ => named_parts(line),
+        }
+    }
+}

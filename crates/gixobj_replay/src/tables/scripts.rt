@@ -1,0 +1,43 @@
+//! The tables of scripts of edits.
+
+use crate::recorded::tables::{Recorded, behind_source};
+use crate::scripts::{command_answer, script_answer};
+use crate::stored_scripts::stored_script_answer;
+use gixobj_base::parse::split_at_last_byte;
+use std::alloc::{AllocError, Global};
+
+/// A file of recorded answers about scripts of edits.
+#[derive(Clone, Copy)]
+pub(crate) enum ScriptTable {
+    /// Commands of scripts.
+    Commands,
+    /// Scripts of edits run.
+    Scripts,
+    /// The same, drawn at random.
+    RandomScripts,
+    /// Scripts of edits run over a store of objects.
+    StoredScripts,
+}
+
+impl Recorded for ScriptTable {
+    fn names(self) -> (&'static str, &'static str) {
+        match self {
+            ScriptTable::Commands => ("commands", "commands.tsv"),
+            ScriptTable::Scripts => ("scripts", "scripts.tsv"),
+            ScriptTable::RandomScripts => ("random scripts", "random-scripts.tsv"),
+            ScriptTable::StoredScripts => ("stored scripts", "stored-scripts.tsv"),
+        }
+    }
+
+    fn answer(self, alloc: Global, question: &[u8]) -> Result<Vec<u8>, AllocError> {
+        match self {
+            ScriptTable::Commands => command_answer(alloc, question),
+            ScriptTable::Scripts | ScriptTable::RandomScripts => script_answer(alloc, question),
+            ScriptTable::StoredScripts => stored_script_answer(alloc, question),
+        }
+    }
+
+    fn parts<'a>(self, line: &'a [u8]) -> Option<(&'a [u8], &'a [u8])> {
+        split_at_last_byte(behind_source(line)?, b'\t')
+    }
+}

@@ -1,0 +1,56 @@
+//! The tables of signatures.
+
+use crate::programs::program_answer;
+use crate::recorded::tables::{Recorded, behind_source};
+use crate::reports::{gpg_report_answer, marker_answer, ssh_report_answer, trust_answer};
+use crate::signed_data::signed_data_answer;
+use gixobj_base::parse::{split_at_byte, split_at_last_byte};
+use std::alloc::{AllocError, Global};
+
+/// A file of recorded answers about signatures.
+#[derive(Clone, Copy)]
+pub(crate) enum SignatureTable {
+    /// Reports of programs of OpenPGP and of X.509.
+    GpgReports,
+    /// Reports of programs of SSH.
+    SshReports,
+    /// Names of levels of trust.
+    TrustLevels,
+    /// The last markers of texts.
+    Markers,
+    /// Signatures found, and what they sign.
+    SignedData,
+    /// Objects that programs signed and verified.
+    Programs,
+}
+
+impl Recorded for SignatureTable {
+    fn names(self) -> (&'static str, &'static str) {
+        match self {
+            SignatureTable::GpgReports => ("gpg reports", "gpg-reports.tsv"),
+            SignatureTable::SshReports => ("ssh reports", "ssh-reports.tsv"),
+            SignatureTable::TrustLevels => ("trust levels", "trust-levels.tsv"),
+            SignatureTable::Markers => ("markers", "markers.tsv"),
+            SignatureTable::SignedData => ("signed data", "signed-data.tsv"),
+            SignatureTable::Programs => ("programs", "programs.tsv"),
+        }
+    }
+
+    fn answer(self, alloc: Global, question: &[u8]) -> Result<Vec<u8>, AllocError> {
+        match self {
+            SignatureTable::GpgReports => gpg_report_answer(alloc, question),
+            SignatureTable::SshReports => ssh_report_answer(alloc, question),
+            SignatureTable::TrustLevels => trust_answer(alloc, question),
+            SignatureTable::Markers => marker_answer(alloc, question),
+            SignatureTable::SignedData => signed_data_answer(alloc, question),
+            SignatureTable::Programs => program_answer(alloc, question),
+        }
+    }
+
+    fn parts<'a>(self, line: &'a [u8]) -> Option<(&'a [u8], &'a [u8])> {
+        match self {
+            SignatureTable::Programs => split_at_last_byte(behind_source(line)?, b'\t'),
+            _ => split_at_byte(line, b'\t'),
+        }
+    }
+}

@@ -1,0 +1,58 @@
+//! The tables of tags and their names.
+
+use crate::git_tags::{git_name_answer, git_tag_answer, tag_parts_answer};
+use crate::recorded::tables::{Recorded, named_parts};
+use crate::tags::{name_answer, tag_answer, tag_token_answer};
+use gixobj_base::parse::split_at_byte;
+use std::alloc::{AllocError, Global};
+
+/// A file of recorded answers about tags and their names.
+#[derive(Clone, Copy)]
+pub(crate) enum TagTable {
+    /// Tags read whole and written.
+    Tags,
+    /// Tags read token by token.
+    TagTokens,
+    /// Names of tags judged.
+    TagNames,
+    /// Names of tags that git judged.
+    GitTagNames,
+    /// Tags of which git tells, read, told and written.
+    GitTags,
+    /// Other texts of tags, read, told and written.
+    TagTexts,
+    /// Tags made of parts, written.
+    TagParts,
+}
+
+impl Recorded for TagTable {
+    fn names(self) -> (&'static str, &'static str) {
+        match self {
+            TagTable::Tags => ("tags", "tags.tsv"),
+            TagTable::TagTokens => ("tag tokens", "tag-tokens.tsv"),
+            TagTable::TagNames => ("tag names", "tag-names.tsv"),
+            TagTable::GitTagNames => ("git tag names", "git-tag-names.tsv"),
+            TagTable::GitTags => ("git tags", "git-tags.tsv"),
+            TagTable::TagTexts => ("tag texts", "tag-texts.tsv"),
+            TagTable::TagParts => ("tag parts", "tag-parts.tsv"),
+        }
+    }
+
+    fn answer(self, alloc: Global, question: &[u8]) -> Result<Vec<u8>, AllocError> {
+        match self {
+            TagTable::Tags => tag_answer(alloc, question),
+            TagTable::TagTokens => tag_token_answer(alloc, question),
+            TagTable::TagNames => name_answer(alloc, question),
+            TagTable::GitTagNames => git_name_answer(alloc, question),
+            TagTable::GitTags | TagTable::TagTexts => git_tag_answer(alloc, question),
+            TagTable::TagParts => tag_parts_answer(alloc, question),
+        }
+    }
+
+    fn parts<'a>(self, line: &'a [u8]) -> Option<(&'a [u8], &'a [u8])> {
+        match self {
+            TagTable::Tags | TagTable::TagTokens | TagTable::TagNames => split_at_byte(line, b'\t'),
+            _ => named_parts(line),
+        }
+    }
+}
