@@ -1,7 +1,7 @@
--- Eight bytes, or four, stand in the order of the number that they spell, the first counting most.
+-- Eight bytes, four, or two, stand in the order of the number that they spell, the first counting most.
 use Rattle.std.proofs.Common.{◌≡◌, ◌≢◌, ℕ, zero, suc, ◌+◌, ◌*◌, ◌<◌, ◌≤◌, arith, Bool, true, false, List, [], ◌∷◌, length, get_or, take, drop, refl, sym, ap, ◌∙◌, Less, Equal, Greater, Ordering}
 use mathlib.Core.Bool.{true≢false}
-use Rattle.std.specs.Int.{from_be_bytes, w32, w64}
+use Rattle.std.specs.Int.{from_be_bytes, w16, w32, w64}
 use Rattle.std.specs.Ordering.{MatchOrdering, is_ne, nat_cmp, ordering_then}
 use Rattle.std.specs.Cmp.{nat_cmp_is}
 use Rattle.std.specs.Cmp.Lexicographic.{slice_cmp}
@@ -53,7 +53,7 @@ steps (suc n) (x ∷ xs) (y ∷ ys) t u a b =
 steps (suc n) [] ys t u a b = absurd (omega arith)
 steps (suc n) (x ∷ xs) [] t u a b = absurd (omega arith)
 
--- eight bytes, or four, whatever stands behind them
+-- eight bytes, four, or two, whatever stands behind them
 worth : (xs : List ℕ) → 8 ≤ length xs → from_be_bytes w64 (take 8 xs) ≡ value 0 (take 8 xs)
 worth (a ∷ b ∷ c ∷ d ∷ e ∷ f ∷ g ∷ h ∷ rest) l = omega arith
 worth [] l = absurd (omega arith)
@@ -71,6 +71,11 @@ worth_of_four [] l = absurd (omega arith)
 worth_of_four (a ∷ []) l = absurd (omega arith)
 worth_of_four (a ∷ b ∷ []) l = absurd (omega arith)
 worth_of_four (a ∷ b ∷ c ∷ []) l = absurd (omega arith)
+
+worth_of_two : (xs : List ℕ) → 2 ≤ length xs → from_be_bytes w16 (take 2 xs) ≡ value 0 (take 2 xs)
+worth_of_two (a ∷ b ∷ rest) l = omega arith
+worth_of_two [] l = absurd (omega arith)
+worth_of_two (a ∷ []) l = absurd (omega arith)
 
 long : (n : ℕ) (xs : List ℕ) → n ≤ length xs → length (take n xs) ≡ n
 long zero xs l = refl
@@ -98,6 +103,12 @@ pub four : (xs ys : List ℕ) → Bytes xs → Bytes ys → 4 ≤ length xs → 
 four xs ys a b l m =
     ap (λ n. nat_cmp n (from_be_bytes w32 (take 4 ys))) (worth_of_four xs l) ∙ ap (nat_cmp (value 0 (take 4 xs))) (worth_of_four ys m)
     ∙ numbered 4 xs ys a b l m
+
+pub two : (xs ys : List ℕ) → Bytes xs → Bytes ys → 2 ≤ length xs → 2 ≤ length ys
+    → nat_cmp (from_be_bytes w16 (take 2 xs)) (from_be_bytes w16 (take 2 ys)) ≡ slice_cmp nat_cmp (take 2 xs) (take 2 ys)
+two xs ys a b l m =
+    ap (λ n. nat_cmp n (from_be_bytes w16 (take 2 ys))) (worth_of_two xs l) ∙ ap (nat_cmp (value 0 (take 2 xs))) (worth_of_two ys m)
+    ∙ numbered 2 xs ys a b l m
 
 -- what the names compare as where their first bytes are not alike
 pub settled : (n : ℕ) (xs ys : List ℕ) (t u : Bool) → n ≤ length xs → n ≤ length ys → slice_cmp nat_cmp (take n xs) (take n ys) ≢ Equal

@@ -1,6 +1,6 @@
 //! The order of names in a tree (gitdatamodel, "trees").
 ghost use Rattle.std.specs.Prelude.{◌≡◌, ◌≤◌, length, take};
-ghost use Rattle.std.specs.Int.{from_be_bytes, w32, w64};
+ghost use Rattle.std.specs.Int.{from_be_bytes, w16, w32, w64};
 ghost use Rattle.std.specs.Cmp.Lexicographic.{slice_cmp};
 ghost use Rattle.std.specs.Ordering.{nat_cmp};
 ghost use Rattle.gixobj_tree.specs.Entries.{key_of, name_cmp, next_byte};
@@ -26,12 +26,17 @@ pub fn name_order(left: &[u8], left_is_tree: bool, right: &[u8], right_is_tree: 
         if fronts.is_ne() {
             return fronts;
         }
+    } else if left.len() >= 2 && right.len() >= 2 {
+        let firsts = two_order(left, right);
+        if firsts.is_ne() {
+            return firsts;
+        }
     }
     whole_order(left, left_is_tree, right, right_is_tree)
 }
 
-/// As [`name_order`]. Most names differ among their first four bytes, so this is called seldom, and
-/// stands apart, which keeps a search by halves short.
+/// As [`name_order`]. Most names differ among their first bytes, so this is called seldom, and stands
+/// apart, which keeps a search by halves short.
 #[inline(never)]
 fn whole_order(left: &[u8], left_is_tree: bool, right: &[u8], right_is_tree: bool) -> Ordering
     ensures { result ≡ name_cmp left.now left_is_tree right.now right_is_tree }
@@ -46,7 +51,7 @@ fn whole_order(left: &[u8], left_is_tree: bool, right: &[u8], right_is_tree: boo
     next_byte(rest, left_is_tree).cmp(&next_byte(other_rest, right_is_tree))
 }
 
-/// The order of as many bytes as others. The last eight or four may be in part those before.
+/// The order of as many bytes as others. The last four may be in part those before.
 fn bytes_order(left: &[u8], right: &[u8]) -> Ordering
     requires { length left.now ≡ length right.now }
     ensures { result ≡ slice_cmp nat_cmp left.now right.now }
@@ -56,7 +61,7 @@ fn bytes_order(left: &[u8], right: &[u8]) -> Ordering
         return long_order(left, right);
     }
     if len < 4 {
-        return left.cmp(right);
+        return short_order(left, right);
     }
     let fronts = four_order(left, right);
     if fronts.is_ne() {
@@ -65,7 +70,25 @@ fn bytes_order(left: &[u8], right: &[u8]) -> Ordering
     four_order(&left[len - 4..], &right[len - 4..])
 }
 
-/// The order of eight bytes or more as of as many others, eight at a time.
+/// The order of three bytes at most as of as many others. The last two may be in part those before.
+fn short_order(left: &[u8], right: &[u8]) -> Ordering
+    requires same_length { length left.now ≡ length right.now }
+    requires short { length left.now ≤ 3 }
+    ensures { result ≡ slice_cmp nat_cmp left.now right.now }
+{
+    let len = left.len();
+    if len < 2 {
+        return left.cmp(right);
+    }
+    let firsts = two_order(left, right);
+    if firsts.is_ne() {
+        return firsts;
+    }
+    two_order(&left[len - 2..], &right[len - 2..])
+}
+
+/// The order of eight bytes or more as of as many others, eight at a time. The last eight may be in
+/// part those before.
 fn long_order(left: &[u8], right: &[u8]) -> Ordering
     requires same_length { length left.now ≡ length right.now }
     requires long { 8 ≤ length left.now }
@@ -117,6 +140,23 @@ fn first_four(name: &[u8]) -> u32
     ensures { result ≡ from_be_bytes w32 (take 4 name.now) }
 {
     u32::from_be_bytes([name[0], name[1], name[2], name[3]])
+}
+
+/// The order of the first two bytes.
+fn two_order(left: &[u8], right: &[u8]) -> Ordering
+    requires left { 2 ≤ length left.now }
+    requires right { 2 ≤ length right.now }
+    ensures { result ≡ slice_cmp nat_cmp (take 2 left.now) (take 2 right.now) }
+{
+    first_two(left).cmp(&first_two(right))
+}
+
+/// The first two bytes as a number.
+fn first_two(name: &[u8]) -> u16
+    requires { 2 ≤ length name.now }
+    ensures { result ≡ from_be_bytes w16 (take 2 name.now) }
+{
+    u16::from_be_bytes([name[0], name[1]])
 }
 
 /// The order of the keys of two names, which have a `/` behind a tree's.
