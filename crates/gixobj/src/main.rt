@@ -1,3 +1,5 @@
+//! The program `gixobj`, with the commands `show`, `tree` and `edit`.
+//!
 //! `gixobj show [sha256]`: tells what a loose object is, from its uncompressed bytes on standard
 //! input, as `<kind> <size> <id>`. `gixobj tree [sha256]`: lists the entries of a loose tree, a line
 //! `<mode> <kind> <id> <name>` each. `gixobj edit [sha256]`: runs a script of edits on an empty tree, and

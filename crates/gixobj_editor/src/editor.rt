@@ -78,7 +78,9 @@ impl<S> Model for Editor<S> {
 /// Lifecycle
 impl<S> Editor<S> {
     /// An editor of this tree, over a store of objects, with ids of this kind of digest. The root
-    /// must be well-formed, as [`Tree::is_well_formed`] tells. It takes no memory.
+    /// must be well-formed, as [`Tree::is_well_formed`] tells. A directory that an edit makes has the
+    /// null id of this kind until a write; ids of the other kind are taken as they are. It takes no
+    /// memory.
     pub fn new(root: Tree, store: S, object_hash: hash::Kind) -> Editor<S>
         requires { IsWellFormed root }
         ensures dirs { result.dirs ≡ root_alone root }
@@ -124,7 +126,7 @@ impl<S> Editor<S> {
 
 /// Access
 impl<S> Editor<S> {
-    /// The store.
+    /// The store, to keep in it what a write handed out. Nothing else of the editor changes.
     pub fn store_mut(&mut self) -> &mut S
         ensures* writes_back { sem 𝓛 (Lends (the_row S.row) S.row self.entry result
             (with_store self.old)) }
@@ -133,7 +135,8 @@ impl<S> Editor<S> {
         &mut self.store
     }
 
-    /// How many trees were looked up in the store.
+    /// How many trees were looked up in the store since the editor was made, failed lookups too. The
+    /// count stays at the greatest `u64`.
     pub fn lookups(&self) -> u64
         ensures { result ≡ self.now.lookups }
     {
@@ -144,8 +147,8 @@ impl<S> Editor<S> {
 /// Editing
 impl<S: Find> Editor<S> {
     /// Puts in or replaces an entry, as [`Editor::try_upsert`], and lends the editor back, so that
-    /// calls chain. A caller's proof knows nothing of the editor behind it: who proves something
-    /// calls that one.
+    /// calls chain. A refusal leaves what that call's does. A caller's proof knows nothing of the
+    /// editor behind it: who proves something calls that one.
     pub fn upsert(
         &mut self,
         path: &[BString],
@@ -165,8 +168,8 @@ impl<S: Find> Editor<S> {
     }
 
     /// Takes out an entry, as [`Editor::try_remove`], and lends the editor back, so that calls
-    /// chain. A caller's proof knows nothing of the editor behind it: who proves something calls
-    /// that one.
+    /// chain. A refusal leaves what that call's does. A caller's proof knows nothing of the editor
+    /// behind it: who proves something calls that one.
     pub fn remove(&mut self, path: &[BString]) -> Result<&mut Editor<S>, Error>
         ensures same_reference { IfOk result (λ it. it.ghost_name ≡ self.entry.ghost_name) }
         ensures removed { IfOk result (λ it.
@@ -180,8 +183,8 @@ impl<S: Find> Editor<S> {
     }
 
     /// Takes out what is no directory, as [`Editor::try_remove_leaf`], and lends the editor back,
-    /// so that calls chain. A caller's proof knows nothing of the editor behind it: who proves
-    /// something calls that one.
+    /// so that calls chain. A refusal leaves what that call's does. A caller's proof knows nothing of
+    /// the editor behind it: who proves something calls that one.
     pub fn remove_leaf(&mut self, path: &[BString]) -> Result<&mut Editor<S>, Error>
         ensures same_reference { IfOk result (λ it. it.ghost_name ≡ self.entry.ghost_name) }
         ensures removed { IfOk result (λ it.
@@ -197,15 +200,19 @@ impl<S: Find> Editor<S> {
     /// Puts an entry of this kind and id at the path, in place of any entry of its name and of all
     /// that is below it. Each strict beginning of the path becomes a directory: one that isn't
     /// open is looked up, one that is missing is made, and an entry that is no tree is replaced. A
-    /// directory at the path itself is open no more. Without names nothing changes.
+    /// directory at the path itself is open no more. Without names nothing changes (git-update-index,
+    /// `--cacheinfo`).
+    ///
+    /// A name is bytes without `/`. One with a zero byte is accepted, and a write of its tree is refused.
     ///
     /// What a directory is opened with is kept beside it, to tell at a write whether it was
     /// changed: that takes memory for a copy.
     ///
     /// `EmptyPathComponent` or `SlashInPathComponent` for the first name that no entry may have;
     /// else `FindExistingObject` or `MalformedTree` for the first directory that the store doesn't
-    /// have as a well-formed tree, or whose lookup fails; `OutOfMemory` where memory ran out.
-    /// A refusal leaves the files as they were; what was opened on the way stays open.
+    /// have as a well-formed tree, or whose lookup fails; `OutOfMemory` where memory ran out, only
+    /// where the path has names. A refusal leaves the files as they were; what was opened on the way
+    /// stays open.
     pub fn try_upsert(
         &mut self,
         path: &[BString],
@@ -240,7 +247,8 @@ impl<S: Find> Editor<S> {
 
     /// Takes out the entry at the path and all that is below it. The directories above are looked
     /// up where they aren't open; where one is missing, or isn't a directory, there is nothing to
-    /// remove, and the names behind it aren't judged. Without names nothing changes.
+    /// remove, and the names behind it aren't judged. Without names nothing changes (git-update-index,
+    /// `--force-remove`).
     ///
     /// `EmptyPathComponent` or `SlashInPathComponent` for a name that no entry may have, and
     /// `FindExistingObject` or `MalformedTree` for a directory that the store doesn't have as a
@@ -353,7 +361,7 @@ impl<S> Editor<S> {
 
     /// Hands out the open directories that were changed, each behind those in it and in the order
     /// of their entries, and last the root, also where it is empty or as it was. Then the root
-    /// alone is open, with the tree that was handed out for it.
+    /// alone is open, with the tree that was handed out for it (git-write-tree).
     ///
     /// A directory was changed where its tree isn't the one that it was opened with. Any other
     /// that has entries keeps its id, and [`Written::saved`] counts it. One that is then empty is

@@ -1,5 +1,5 @@
-//! Objects of any kind, owned and borrowed: read by their kind or as loose objects, taken apart, written. Objects whose
-//! content is not yet read, trees read entry by entry, and what a store of objects is.
+//! Objects of any kind, owned and borrowed, objects whose content is not yet read, trees read entry by entry, and what a
+//! store of objects is. Objects are read by their kind or as loose objects, taken apart and written.
 #![tactic(auto)]
 
 pub mod data;

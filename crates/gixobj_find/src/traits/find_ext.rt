@@ -34,6 +34,9 @@ use std::alloc::Global;
 /// Each answers `NotFound` where the id names no object, and `Find` where the lookup fails. Those for one
 /// kind of object answer `ObjectKind` for an object of another kind. Those that give an object read it by
 /// its own kind first, and answer `Decode` where it isn't read; those that give a reader read nothing yet.
+///
+/// `buffer` gets the object's bytes, which the answer borrows; behind an error it may hold anything. Where
+/// memory runs out in a lookup the error is `Find`, where it runs out while an object is read `Decode`.
 pub trait FindExt: Find {
     /// The object that the id names, not yet read.
     final fn find<'a>(

@@ -11,7 +11,7 @@ use gixobj_object::FindHeader;
 
 /// Lookups of headers that have to be there. Every [`FindHeader`] has them.
 pub trait HeaderExt: FindHeader {
-    /// The kind and the size of the object that the id names.
+    /// The kind of the object that the id names, and the size of its content in bytes.
     ///
     /// `NotFound` where it names none, and `Find` where the lookup fails.
     final fn header(&self, id: oid<'_>) -> Result<Header, existing::Error>

@@ -47,7 +47,8 @@ pub trait Write {
         )
     }
 
-    /// Writes an object of this kind and content, and answers its id.
+    /// Writes an object of this kind and content, and answers its id. Its errors are those of
+    /// [`Write::write_stream`].
     fn write_buf(&self, alloc: Global, kind: Kind, from: &[u8]) -> Result<ObjectId, Error>
         ensures { answers self.now kind (length from.now) (Some from.now) result }
     {
@@ -55,7 +56,8 @@ pub trait Write {
         self.write_stream(alloc, kind, from.len() as u64, &mut stream)
     }
 
-    /// Writes an object of this kind and content whose id is known: the store may trust it.
+    /// Writes an object of this kind and content whose id is known: the store may trust it. Its errors are
+    /// those of [`Write::write_stream`].
     fn write_buf_with_known_id(
         &self,
         alloc: Global,
@@ -65,7 +67,8 @@ pub trait Write {
     ) -> Result<ObjectId, Error>
         ensures { answers_known self.now id kind (length from.now) (Some from.now) result };
 
-    /// Writes an object of this kind and size, whose content is read from the stream, and answers its id.
+    /// Writes an object of this kind and size in bytes, whose content is read from the stream, and answers its
+    /// id (git-hash-object, `-w`). When it refuses, the store's `answers` says.
     fn write_stream<R: Read>(
         &self,
         alloc: Global,
@@ -75,8 +78,8 @@ pub trait Write {
     ) -> Result<ObjectId, Error>
         ensures { answers self.now kind size (R.remaining from.old) result };
 
-    /// Writes an object of this kind and size, whose content is read from the stream and whose id is known: the
-    /// store may trust it.
+    /// Writes an object of this kind and size in bytes, whose content is read from the stream and whose id is
+    /// known: the store may trust it. When it refuses, the store's `answers_known` says.
     fn write_stream_with_known_id<R: Read>(
         &self,
         alloc: Global,

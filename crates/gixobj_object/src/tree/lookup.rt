@@ -91,7 +91,8 @@ impl<'a> TreeRefIter<'a> {
     ///
     /// In each tree the first entry of a name counts, and none behind a damaged one. `buffer` takes the
     /// trees of the store. `Store` where the store fails, which may come only where it says so of an id on
-    /// the path; `OutOfMemory` only where the first name was found.
+    /// the path; `OutOfMemory` only where the first name was found. Memory is taken for `buffer`, which an
+    /// error may leave with anything in it, and for the answered entry (git-rev-parse, `<rev>:<path>`).
     pub fn lookup_entry<S: Find>(
         &self,
         alloc: Global,
@@ -122,7 +123,7 @@ impl<'a> TreeRefIter<'a> {
     }
 
     /// As [`TreeRefIter::lookup_entry`], with the names of a path that stands in a text: what stands between
-    /// slashes. Where no byte does, there is no name; `.` is a name like others. A name is taken where it is
+    /// slashes. An empty part is no name; `.` is a name like others. A name is taken where it is
     /// sought, and so the path takes no memory.
     pub fn lookup_entry_by_path<S: Find>(
         &self,
