@@ -1,23 +1,25 @@
 //! Open directories handed out, those in a directory before the directory itself.
-ghost use Rattle.std.specs.Prelude.{◌≡◌, ◌≢◌, ◌↔◌, ◌+◌, ◌++◌, ◌∷◌, [], ℕ, IsTrue, Some, IfErr, IfOk, List, None, Ok, OnErr, OnOk, ◌==◌, ◌<◌, length, vec_capacity, vec_len};
+ghost use Rattle.std.specs.Prelude.{◌≡◌, ◌≢◌, ◌↔◌, ◌+◌, ◌++◌, ◌∷◌, [], ℕ, All, IsFalse, IsTrue, Some, IfErr, IfOk, List, None, Ok, OnErr, OnOk, ◌==◌, ◌<◌, length, vec_capacity, vec_len};
 ghost use Rattle.std.specs.Fn.{CalledAt};
 ghost use Rattle.std.specs.List.{FoldsTo};
 ghost use Rattle.std.specs.Option.{option_copied};
-ghost use Rattle.gixobj_tree.specs.Entries.{EntryView, Pair};
+ghost use Rattle.gixobj_tree.specs.Entries.{EntryView, IsWellFormed, Pair};
 ghost use Rattle.gixobj_files.specs.Bases.{edited_bases};
 ghost use Rattle.gixobj_files.specs.Edits.{only, raised, with_path};
-ghost use Rattle.gixobj_files.specs.Files.{Path};
+ghost use Rattle.gixobj_files.specs.Files.{Path, is_null};
 ghost use Rattle.gixobj_files.specs.HandingOut.{HandsOutSome, Leaves, Saves};
 ghost use Rattle.gixobj_files.specs.Opening.{in_path};
 ghost use Rattle.gixobj_directories.specs.Calls.{IsCallableOnTrees, IsStorable, names_of, answered, denied};
 ghost use Rattle.gixobj_directories.specs.Handing.{Stopped, Visits, pairs_behind_next, child_side, kept_with, next_child};
 ghost use Rattle.gixobj_directories.specs.Nested.{base_side, bases_of, dirs_of, entries_side, opened};
 ghost use Rattle.gixobj_entries.specs.OwnTrees.{IsBeside, so_far};
+ghost use Rattle.gixobj_entries.specs.Sifted.{IsSifted};
 ghost use Rattle.gixobj_directories.specs.Wholes.{Adds, child_wholes, inside_of, wholes};
 
 use crate::open::{Child, Open, child_at};
 use crate::wholes::{fill, take_wholes};
 use bstr::BString;
+use gixobj_entries::entries::copies;
 use gixobj_entries::own_tree::OwnTree;
 use gixobj_entries::sifted::become_tree;
 use gixobj_hash::hash::ObjectId;
@@ -165,7 +167,7 @@ fn visit<E, F: FnMut(&Tree) -> Result<ObjectId, E>>(
     Ok(Some(id))
 }
 
-/// As [`leaves`], with a copy of the directory's own tree.
+/// As [`leaves`], with a copy of the directory's own tree. One that goes out as it stands is copied at once.
 fn leaves_copied<E, F: FnMut(&Tree) -> Result<ObjectId, E>>(
     alloc: Global,
     node: &Open,
@@ -184,6 +186,10 @@ fn leaves_copied<E, F: FnMut(&Tree) -> Result<ObjectId, E>>(
         (λ ps. (own : List EntryView) × (count : ℕ)
         × Leaves (dirs_of node.now) (bases_of node.now) ps own count) out.old out.new) }
 {
+    if let Some(tree) = node.whole() {
+        let entries = copies(alloc, &tree.entries)?;
+        return Ok(Tree { entries });
+    }
     let base = base_of(node);
     let own = leaves(alloc, node, base, out, pairs, saved)?;
     let tree = own.into_tree(alloc, base)?;
@@ -335,12 +341,26 @@ pub fn write_all<E, F: FnMut(&Tree) -> Result<ObjectId, E>>(
     let own = leaves_copied(alloc, node, out, &mut trees, &mut saved)?;
     let mut wholes = Vec::with_capacity(alloc, trees.len())?;
     let id = ask(&own, out, &mut trees)?;
-    become_tree(&mut node.tree, &own);
+    let stands = node.whole().is_some();
+    become_own(&mut node.tree, &own, stands);
     let children = mem::replace(&mut node.children, Vec::new(alloc));
     take_wholes(children, &mut wholes);
     fill(&mut trees, wholes);
     let _ = trees.push((id, own));
     Ok(Written { id, trees, saved })
+}
+
+/// Makes a directory's tree its own tree, which it already is where that stands.
+fn become_own(tree: &mut Tree, own: &Tree, stands: bool)
+    requires well_formed { IsWellFormed tree.old }
+    requires sifted { IsSifted own.now tree.old }
+    requires filled { All (λ e. IsFalse (is_null e.id)) own.now }
+    requires stands { IsTrue stands → own.now ≡ tree.old }
+    ensures { tree.new ≡ own.now }
+{
+    if !stands {
+        become_tree(tree, own);
+    }
 }
 
 /// As [`write_all`], of the directory at a path, which must be open. All else stays open as it

@@ -1,5 +1,6 @@
 use Rattle.std.proofs.Common.{arith, ◌≡◌, ◌≢◌, ◌∙◌, ◌++◌, ℕ, length, [], ◌∷◌, List, Ok, Err, refl, sym, ap, subst, append-nil}
 use Rattle.std.specs.Fn.{CalledAt}
+use denote.Ref.{Bor}
 use Rattle.gixobj_tree.specs.Entries.{EachLater, EntryView, Pair}
 use Rattle.gixobj_hash.specs.declared.hash.object_id.ObjectId.{ObjectId}
 use Rattle.gixobj_directories.specs.Handing.{Stopped}
@@ -17,7 +18,7 @@ use Rattle.gixobj_directories.proofs.BaseSteps.{written_base}
 use Rattle.gixobj_directories.proofs.Levels.{based_root, level_root}
 use Rattle.gixobj_directories.proofs.Ordered.{level_apart}
 use Rattle.gixobj_entries.proofs.SiftedEntries.{leaves_sifted}
-use Rattle.gixobj_directories.proofs.WholeTrees.{fewer_wholes}
+use Rattle.gixobj_directories.proofs.WholeTrees.{fewer_wholes, stands_own}
 use Rattle.gixobj_directories.proofs.write.write_all.Goals as goal
 
 pub returns-in_err-own-clause-stopped : goal.returns-in_err-own-clause-stopped
@@ -67,8 +68,8 @@ returns-clause-ok g c =
     let filled : c.fill.new.pairs ≡ ok.0 = c.fill.ensures ok.0 (subst (λ us. Fills us (reverse c.take_wholes.new.trees.items) ok.0) (sym (c.deref_mut.ensures.value ∙ given)) fills) in
     let back = with_items_is c.ask.new.pairs c.fill.new.pairs (c.fill.auto.pairs ∙ c.deref_mut.ensures.len) in
     let pushed = (rw room at c.push.ensures.items) ∙ ap (λ ps. ps ++ (c.in_ok-id.id, own) ∷ []) (back ∙ filled) in
-    let left : opened c.become_tree.new.tree c.node.inside.base (parts c.replace-children.new.dest.items) ≡ opened own c.node.inside.base [] =
-    ap (λ (es : List EntryView). opened es c.node.inside.base (parts c.replace-children.new.dest.items)) c.become_tree.ensures
+    let left : opened c.become_own.new.tree c.node.inside.base (parts c.replace-children.new.dest.items) ≡ opened own c.node.inside.base [] =
+    ap (λ (es : List EntryView). opened es c.node.inside.base (parts c.replace-children.new.dest.items)) c.become_own.ensures
     ∙ ap (λ (cs : Vec Child Global). opened own c.node.inside.base (parts cs.items)) c.replace-children.ensures.after
     ∙ ap (λ (cs : List Child). opened own c.node.inside.base (parts cs)) c.new.ensures.items in
     let gave = λ (f : g.row.F.Denot) (p : Pair) (h : g.row.F.Denot). CalledAt g.F.FnMut f p.1 (Ok p.0) h in (
@@ -88,21 +89,27 @@ pub returns-clause-bases : goal.returns-clause-bases
 returns-clause-bases g c =
     let own = c.in_ok-own.own in
     let node = c.args.node.now in
-    let left : opened c.become_tree.new.tree c.node.inside.base (parts c.replace-children.new.dest.items) ≡ opened own c.node.inside.base [] =
-    ap (λ (es : List EntryView). opened es c.node.inside.base (parts c.replace-children.new.dest.items)) c.become_tree.ensures
+    let left : opened c.become_own.new.tree c.node.inside.base (parts c.replace-children.new.dest.items) ≡ opened own c.node.inside.base [] =
+    ap (λ (es : List EntryView). opened es c.node.inside.base (parts c.replace-children.new.dest.items)) c.become_own.ensures
     ∙ ap (λ (cs : Vec Child Global). opened own c.node.inside.base (parts cs.items)) c.replace-children.ensures.after
     ∙ ap (λ (cs : List Child). opened own c.node.inside.base (parts cs)) c.new.ensures.items in
     let ps = parts c.node.inside.children.items in
     λ at. subst (λ (ds : Opened). bases_of ds at ≡ base_edited (dirs_of node at) (dirs_of ds at) (bases_of node at)) (sym left)
     (written_base node c.node.inside.tree own c.node.inside.base (level_root node c.node.inside.tree ps c.node.view_is) (based_root node c.node.inside.tree ps c.node.view_is) at)
 
-pub become_tree-requires-clause-sifted : goal.become_tree-requires-clause-sifted
-become_tree-requires-clause-sifted g c =
+pub become_own-requires-clause-sifted : goal.become_own-requires-clause-sifted
+become_own-requires-clause-sifted g c =
     let ok = (c.in_ok-own.ensures {u = tt}).ok in
     leaves_sifted (dirs_of c.args.node.now) (bases_of c.args.node.now) ok.0 c.in_ok-own.own ok.1 c.node.inside.tree ok.2 (level_root c.args.node.now c.node.inside.tree (parts c.node.inside.children.items) c.node.view_is)
 
-pub become_tree-requires-clause-filled : goal.become_tree-requires-clause-filled
-become_tree-requires-clause-filled g c = (c.in_ok-own.ensures {u = tt}).storable.no_nulls
+pub become_own-requires-clause-filled : goal.become_own-requires-clause-filled
+become_own-requires-clause-filled g c = (c.in_ok-own.ensures {u = tt}).storable.no_nulls
+
+pub become_own-requires-clause-stands : goal.become_own-requires-clause-stands
+become_own-requires-clause-stands g c = λ stands.
+    let ok = (c.in_ok-own.ensures {u = tt}).ok in
+    let node = c.args.node.now in
+    stands_own (λ (t : Bor (List EntryView)). t.now) node c.whole.result c.whole.ensures.some (sym c.is_some-stands.ensures ∙ stands) c.node.inside.tree (level_root node c.node.inside.tree (parts c.node.inside.children.items) c.node.view_is) ok.0 c.in_ok-own.own ok.1 ok.2
 
 pub take_wholes-requires-clause-apart : goal.take_wholes-requires-clause-apart
 take_wholes-requires-clause-apart g c = subst (λ (cs : Vec Child Global). EachLater (λ x y. x.0 ≢ y.0) (parts cs.items)) (sym c.replace-children.ensures.value) (level_apart c.node.invariant)
