@@ -17,7 +17,7 @@ use std::io::Write;
 /// An object that can be written.
 ///
 /// An implementation says what is written and what is refused, and writes it to a [`Sink`]; the other
-/// ways to write stand on that.
+/// ways to write call that.
 pub trait WriteTo {
     ghost use Rattle.std.specs.Prelude.{ℕ, List, ⊤};
     ghost use Rattle.gixobj_fields.specs.Writing.{Refused};

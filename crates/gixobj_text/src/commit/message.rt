@@ -63,7 +63,7 @@ impl<'a> MessageRef<'a> {
     /// The title on one line (git-log, "PRETTY FORMATS", `%s`): borrowed where it has one line, and else
     /// its lines joined by spaces, up to the first empty one.
     ///
-    /// `OutOfMemory` where memory is wanting, which a title of one line takes none of.
+    /// `OutOfMemory` where memory runs out. A title of one line takes none.
     pub fn summary(&self, alloc: Global) -> Result<CowSlice<'a, u8>, OutOfMemory>
         ensures value { IfOk result (λ it. cow_slice_items it
             ≡ summary_of (bstr_bytes self.now.title)) }

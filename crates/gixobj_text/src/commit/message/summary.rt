@@ -15,7 +15,7 @@ use std::borrow::CowSlice;
 /// The summary of a text: borrowed where it has one line, and else its lines joined by spaces, up to the
 /// first empty one.
 ///
-/// `OutOfMemory` where memory is wanting, which a text of one line takes none of.
+/// `OutOfMemory` where memory runs out. A text of one line takes none.
 #[tactic(auto, using(crate::proofs::Sums::one_piece, crate::proofs::Sums::of_one, crate::proofs::Sums::of_more))]
 pub fn summary<'a>(alloc: Global, text: &'a [u8]) -> Result<CowSlice<'a, u8>, OutOfMemory>
     ensures value { IfOk result (λ it. cow_slice_items it ≡ summary_of text.now) }

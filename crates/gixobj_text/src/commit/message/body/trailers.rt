@@ -108,8 +108,8 @@ impl<'a> Trailers<'a> {
     }
 }
 
-/// A trailer of one line takes no memory. `OutOfMemory` where it is wanting for one of several lines: no
-/// trailer comes after that.
+/// A trailer of one line takes no memory. `OutOfMemory` where it runs out for one of several lines: no trailer
+/// comes after that.
 impl<'a> Iterator for Trailers<'a> {
     type Item = Result<TrailerRef<'a>, OutOfMemory>;
 
