@@ -69,6 +69,9 @@ pub use Rattle.gixobj_import.specs.Edited
 pub use Rattle.gixobj_import.specs.Imports
 pub use Rattle.gixobj_import.specs.Steps
 pub use Rattle.gixobj_import.specs.declared as import
+pub use Rattle.gixobj_mode.specs.Mode
+pub use Rattle.gixobj_mode.specs.ModeNumber
+pub use Rattle.gixobj_mode.specs.declared as mode
 pub use Rattle.gixobj_object.specs.BorrowedObjects
 pub use Rattle.gixobj_object.specs.Checksums
 pub use Rattle.gixobj_object.specs.EntryGiving
@@ -136,8 +139,6 @@ pub use Rattle.gixobj_text.specs.Unfolding
 pub use Rattle.gixobj_text.specs.declared as text
 pub use Rattle.gixobj_tree.specs.Entries
 pub use Rattle.gixobj_tree.specs.EntryOrder
-pub use Rattle.gixobj_tree.specs.Mode
-pub use Rattle.gixobj_tree.specs.ModeNumber
 pub use Rattle.gixobj_tree.specs.Rewriting as TreeRewriting
 pub use Rattle.gixobj_tree.specs.TreeReading
 pub use Rattle.gixobj_tree.specs.TreeText

@@ -17,10 +17,11 @@ pub use Rattle.gixobj_hash.specs.Hash
 pub use Rattle.gixobj_hash.specs.Kind
 pub use Rattle.gixobj_hash.specs.Texts
 pub use Rattle.gixobj_hash.specs.declared as hash
+pub use Rattle.gixobj_mode.specs.Mode
+pub use Rattle.gixobj_mode.specs.ModeNumber
+pub use Rattle.gixobj_mode.specs.declared as mode
 pub use Rattle.gixobj_tree.specs.Entries
 pub use Rattle.gixobj_tree.specs.EntryOrder
-pub use Rattle.gixobj_tree.specs.Mode
-pub use Rattle.gixobj_tree.specs.ModeNumber
 pub use Rattle.gixobj_tree.specs.TreeText
 pub use Rattle.gixobj_tree.specs.WellFormed
 pub use Rattle.gixobj_tree.specs.declared as tree

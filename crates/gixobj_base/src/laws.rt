@@ -3,4 +3,4 @@
 pub use gixobj_actor::laws::{actor_line_has_one_reading, actor_reads_back, time_reads_back};
 pub use gixobj_fields::laws::{header_fields_have_one_reading, writers_fail_as_their_sinks};
 pub use gixobj_hash::laws::{hex_reads_back, hex_writes_back, loose_header_reads_back};
-pub use gixobj_tree::laws::mode_reads_back;
+pub use gixobj_mode::laws::mode_reads_back;

@@ -2,7 +2,8 @@
 //! object, actors and times, read and written; trees and blobs, written.
 //!
 //! It has no code: it re-exports what the crates below it have, under the names by which users know it.
-//! Their modules are [`gixobj_hash`], [`gixobj_fields`], [`gixobj_actor`] and [`gixobj_tree`].
+//! Their modules are [`gixobj_hash`], [`gixobj_fields`], [`gixobj_actor`], [`gixobj_mode`] and
+//! [`gixobj_tree`].
 #![tactic(auto)]
 
 pub mod encode;

@@ -1,3 +1,4 @@
 //! Trees (gitdatamodel, "trees").
 
-pub use gixobj_tree::tree::{Entry, EntryKind, EntryMode, Tree, name_order};
+pub use gixobj_mode::{EntryKind, EntryMode};
+pub use gixobj_tree::tree::{Entry, Tree, name_order};

@@ -14,7 +14,7 @@ use Rattle.gixobj_files.proofs.HasTrees.{has_tree_of}
 use Rattle.gixobj_files.proofs.OpenedFiles.{name_other}
 use Rattle.gixobj_files.proofs.Sublists.{all_both, all_weaker}
 use Rattle.gixobj_tree.specs.Entries.{ComesBefore, EachLater, EntryView, entry_key, key_of}
-use Rattle.gixobj_tree.specs.Mode.{is_tree_mode}
+use Rattle.gixobj_mode.specs.Mode.{is_tree_mode}
 use Rattle.gixobj_directories.specs.declared.open.Child.{Child}
 use Rattle.gixobj_directories.specs.Handing.{pairs_behind_next, child_side, next_child}
 use Rattle.gixobj_directories.specs.Nested.{AreOrdered, IsLevel, Level, Opened, Part, at_side, below, length-under, opened, part, part_at, part_key, parts, under}

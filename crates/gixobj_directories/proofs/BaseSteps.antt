@@ -7,7 +7,7 @@ use Rattle.gixobj_directories.specs.declared.open.Child.{Child}
 use Rattle.std.specs.Cmp.Lexicographic.{bytes_decides}
 use Rattle.gixobj_tree.specs.Entries.{EachLater, EntryView}
 use Rattle.gixobj_files.specs.Bases.{base_edited, base_opened}
-use Rattle.gixobj_tree.specs.Mode.{is_tree_mode}
+use Rattle.gixobj_mode.specs.Mode.{is_tree_mode}
 use Rattle.gixobj_files.proofs.HasTrees.{of_has_tree}
 use Rattle.gixobj_files.specs.Edits.{IsEntryOf}
 use Rattle.gixobj_files.specs.Editing.{same_name}

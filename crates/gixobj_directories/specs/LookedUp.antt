@@ -7,7 +7,7 @@ use Rattle.gixobj_files.specs.Tables.{IsUnaskedId}
 use Rattle.gixobj_hash.specs.declared.hash.kind.Kind.{Kind}
 use Rattle.gixobj_hash.specs.declared.kind.Kind.TheVariants.{Tree}
 use Rattle.gixobj_tree.specs.Entries.{EntryView}
-use Rattle.gixobj_tree.specs.Mode.{is_tree_mode}
+use Rattle.gixobj_mode.specs.Mode.{is_tree_mode}
 use Rattle.gixobj_directories.specs.Openings.{NamesTree}
 
 -- the entry is a directory's: a tree's, by an id that names a well-formed one, and is neither null nor the empty tree's

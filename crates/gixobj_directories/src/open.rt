@@ -9,7 +9,7 @@ ghost use Rattle.bstr.specs.Owned.{bstring_bytes};
 ghost use Rattle.gixobj_hash.specs.Bytes.{slash};
 ghost use Rattle.gixobj_hash.specs.Texts.{IsFree};
 ghost use Rattle.gixobj_tree.specs.Entries.{EntryView, IsEntryName, IsWellFormed, key_of};
-ghost use Rattle.gixobj_tree.specs.Mode.{is_tree_mode, mode_bits};
+ghost use Rattle.gixobj_mode.specs.Mode.{is_tree_mode, mode_bits};
 ghost use Rattle.gixobj_files.specs.Editing.{has_tree, same_name, with_entry, without};
 ghost use Rattle.gixobj_files.specs.Edits.{IsEntryOf, entry_at, removed_dirs, upserted_dirs, with_directory};
 ghost use Rattle.gixobj_files.specs.Files.{Has, Path};

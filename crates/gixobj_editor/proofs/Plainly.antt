@@ -30,7 +30,7 @@ use Rattle.gixobj_files.specs.Tables.{AgreesWithPairs, AgreesWithStore}
 use Rattle.gixobj_hash.specs.Hash.{null_id}
 use Rattle.gixobj_hash.specs.declared.hash.object_id.ObjectId.{ObjectId}
 use Rattle.gixobj_tree.specs.Entries.{EntryView, Pair}
-use Rattle.gixobj_tree.specs.Mode.{is_tree_mode}
+use Rattle.gixobj_mode.specs.Mode.{is_tree_mode}
 use Rattle.gixobj_editor.proofs.Paths.{directory_is}
 use Rattle.gixobj_editor.proofs.Removing.{path_ends}
 

@@ -19,8 +19,8 @@ use Rattle.gixobj_object.specs.Stores.{Meaning}
 use Rattle.gixobj_tree.specs.Entries.{EntryView, IsWellFormed}
 use Rattle.gixobj_files.specs.State.{EditorFiles, State, open_bases, open_dirs, root_alone}
 use Rattle.gixobj_hash.specs.declared.hash.object_id.ObjectId.{ObjectId}
-use Rattle.gixobj_tree.specs.Mode.{mode_of_kind}
-use Rattle.gixobj_tree.specs.declared.tree.entry_kind.EntryKind.{EntryKind}
+use Rattle.gixobj_mode.specs.Mode.{mode_of_kind}
+use Rattle.gixobj_mode.specs.declared.entry_kind.EntryKind.{EntryKind}
 use Rattle.gixobj_editor.specs.Commands.{Place, at_cursor, path_at}
 use Rattle.gixobj_editor.specs.Replies.{Answers, AreEditReplies, IsEditReply, IsRefusedEdit, IsReplyAt, IsRootSet, RefusesEditAt, reply_to}
 use Rattle.gixobj_editor.specs.declared.reply.EditReply.{EditReply}

@@ -23,9 +23,9 @@ use Rattle.gixobj_files.specs.State.{DirMap, EditorFiles, State, root_alone}
 use Rattle.gixobj_files.specs.Tables.{AgreesWithPairs, HasOneId}
 use Rattle.gixobj_hash.specs.declared.hash.object_id.ObjectId.{ObjectId}
 use Rattle.gixobj_tree.specs.Entries.{EntryView, Pair}
-use Rattle.gixobj_tree.specs.Mode.{is_tree_mode, mode_of_kind}
-use Rattle.gixobj_tree.specs.declared.tree.entry_kind.EntryKind.{EntryKind}
-use Rattle.gixobj_tree.specs.declared.tree.entry_kind.EntryKind.TheVariants as kind
+use Rattle.gixobj_mode.specs.Mode.{is_tree_mode, mode_of_kind}
+use Rattle.gixobj_mode.specs.declared.entry_kind.EntryKind.{EntryKind}
+use Rattle.gixobj_mode.specs.declared.entry_kind.EntryKind.TheVariants as kind
 use Rattle.gixobj_editor.specs.Commands.{Place, accepted_steps, at_cursor, at_root, steps_of, steps_of_edit, steps_of_edits}
 use Rattle.gixobj_editor.specs.OneId.{NamesNoTree, PutsNoTree, files_before}
 use Rattle.gixobj_editor.specs.declared.reply.EditReply.{EditReply}

@@ -17,7 +17,7 @@ use Rattle.gixobj_files.specs.Unopened.{told_entry, unopened_count}
 use Rattle.gixobj_hash.specs.declared.hash.object_id.ObjectId.{ObjectId}
 use Rattle.gixobj_hash.specs.Bytes.{slash}
 use Rattle.gixobj_tree.specs.Entries.{EntryView, IsEntryName}
-use Rattle.gixobj_tree.specs.Mode.{is_tree_mode}
+use Rattle.gixobj_mode.specs.Mode.{is_tree_mode}
 use Rattle.gixobj_editor.specs.Upserts.{RefusesEntryName, directory_of}
 use Rattle.gixobj_editor.specs.declared.editor.error.Error.{Error}
 use Rattle.gixobj_editor.specs.declared.editor.error.Error.TheVariants as error

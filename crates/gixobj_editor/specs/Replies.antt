@@ -28,7 +28,7 @@ use Rattle.gixobj_hash.specs.declared.hash.object_id.ObjectId.{ObjectId}
 use Rattle.gixobj_find.specs.Keeping.{StopsKeeping, with_trees}
 use Rattle.gixobj_tree.specs.Entries.{EntryView, IsWellFormed, Pair}
 use Rattle.gixobj_tree.specs.TreeText.{HasText}
-use Rattle.gixobj_tree.specs.Mode.{mode_of_kind}
+use Rattle.gixobj_mode.specs.Mode.{mode_of_kind}
 use Rattle.gixobj_editor.specs.Commands.{Place, at_cursor, at_root, path_at}
 use Rattle.gixobj_editor.specs.declared.reply.EditReply.{EditReply}
 use Rattle.gixobj_editor.specs.declared.reply.EditReply.TheVariants as edit_reply

@@ -7,7 +7,7 @@ ghost use Rattle.std.specs.Borrow.{Lends, sem};
 ghost use Rattle.std.specs.Option.{option_copied};
 ghost use Rattle.gixobj_object.specs.Stores.{meaning};
 ghost use Rattle.gixobj_tree.specs.Entries.{IsWellFormed};
-ghost use Rattle.gixobj_tree.specs.Mode.{mode_of_kind};
+ghost use Rattle.gixobj_mode.specs.Mode.{mode_of_kind};
 ghost use Rattle.gixobj_files.specs.Edits.{IsNoTree, entry_at};
 ghost use Rattle.gixobj_files.specs.Files.{Files, SameFiles, Table};
 ghost use Rattle.gixobj_files.specs.Opening.{IsOpened};

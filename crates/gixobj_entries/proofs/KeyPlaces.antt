@@ -20,7 +20,7 @@ use Rattle.gixobj_hash.specs.Texts.{IsFree}
 use Rattle.gixobj_tree.proofs.NameKeys.{by_keys}
 use Rattle.gixobj_tree.proofs.WellFormed.{found, same_key, slash_ends}
 use Rattle.gixobj_tree.specs.Entries.{EntryView, IsEntryName, IsWellFormed, entry_key, key_of, name_cmp}
-use Rattle.gixobj_tree.specs.Mode.{is_tree_mode}
+use Rattle.gixobj_mode.specs.Mode.{is_tree_mode}
 use Rattle.gixobj_tree.specs.WellFormed.{HasKey}
 use Rattle.gixobj_entries.proofs.Halves.{IsNarrowed, compared, first, greater_from, halved_key, halved_place, is_before, later_at, less_to, lt_is, narrowed_none, position_at, position_none}
 

@@ -1,7 +1,7 @@
 -- What assuring a directory makes of the files: what stood at its place, and at a beginning of it, goes.
 use Rattle.std.proofs.Common.{◌≡◌, ◌≢◌, ◌⊎◌, inl, inr, ℕ, zero, suc, false, cond, List, [], ◌∷◌, ◌++◌, refl, sym, ap, subst, ◌∙◌, Option, Some, None}
 use Rattle.gixobj_tree.specs.Entries.{EntryView}
-use Rattle.gixobj_tree.specs.Mode.{is_tree_mode}
+use Rattle.gixobj_mode.specs.Mode.{is_tree_mode}
 use Rattle.gixobj_hash.specs.declared.hash.object_id.ObjectId.{ObjectId}
 use Rattle.gixobj_files.specs.Edits.{IsNoTree, Opens, arrived, assured_dirs, down, found, only, or_empty, stops, with_directory}
 use Rattle.gixobj_files.specs.Files.{Assured, Begins, FileSet, Files, Path, SameFiles, Table, Trees}

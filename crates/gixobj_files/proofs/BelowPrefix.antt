@@ -2,7 +2,7 @@
 use Rattle.std.proofs.Common.{◌≡◌, ◌≢◌, inl, inr, ℕ, ◌+◌, zero, suc, List, [], ◌∷◌, ◌++◌, append_assoc, append-nil, length, refl, sym, ap, subst, ◌∙◌, arith, Option, Some, None}
 use Rattle.std.specs.Prelude.{◌↔◌, IsTrue}
 use Rattle.gixobj_tree.specs.Entries.{EntryView, IsWellFormed}
-use Rattle.gixobj_tree.specs.Mode.{is_tree_mode}
+use Rattle.gixobj_mode.specs.Mode.{is_tree_mode}
 use Rattle.gixobj_files.specs.Edits.{only, with_path}
 use Rattle.gixobj_files.specs.Files.{Begins, Path, SameFiles, Table}
 use Rattle.gixobj_files.specs.Opening.{Dirs, HasAt, IsOpened, OpenFiles, in_dir, in_path}

@@ -5,7 +5,7 @@ use Rattle.std.specs.List.{AllByRecursion}
 use Rattle.std.proofs.lemmas.Cmp.{nat_list_cmp_total}
 use Rattle.std.proofs.lemmas.List.Elements.{All-contains}
 use Rattle.gixobj_tree.specs.Entries.{ComesBefore, EachLater, EntryView, IsWellFormed, Pair, entry_key, entry_of}
-use Rattle.gixobj_tree.specs.Mode.{is_tree_mode, tree_type}
+use Rattle.gixobj_mode.specs.Mode.{is_tree_mode, tree_type}
 use Rattle.gixobj_hash.specs.declared.hash.object_id.ObjectId.{ObjectId}
 use Rattle.gixobj_files.specs.Files.{Below, Files, Has, Path, SameFiles, Table, is_null}
 use Rattle.gixobj_files.specs.Tables.{AgreesWithPairs, HasOneId}

@@ -3,7 +3,7 @@ use Rattle.std.specs.Prelude.{◌≡◌, ◌⊎◌, ◌+◌, ◌-◌, ◌^◌, �
 use Rattle.std.specs.Option.{option_map}
 use Rattle.std.specs.List.{find}
 use Rattle.gixobj_tree.specs.Entries.{EntryView, IsWellFormed}
-use Rattle.gixobj_tree.specs.Mode.{is_tree_mode, tree_type}
+use Rattle.gixobj_mode.specs.Mode.{is_tree_mode, tree_type}
 use Rattle.gixobj_hash.specs.declared.hash.object_id.ObjectId.{ObjectId}
 use Rattle.gixobj_files.specs.Editing.{has_tree, same_name, with_entry, without}
 use Rattle.gixobj_files.specs.Files.{Path, Trees}

@@ -1,7 +1,7 @@
 -- Where the opening of the directories on a path comes to a halt.
 use Rattle.std.specs.Prelude.{◌≡◌, ◌⊎◌, ◌++◌, ℕ, true, List, [], ◌∷◌, Option, Some, None}
 use Rattle.gixobj_tree.specs.Entries.{EntryView}
-use Rattle.gixobj_tree.specs.Mode.{is_tree_mode}
+use Rattle.gixobj_mode.specs.Mode.{is_tree_mode}
 use Rattle.gixobj_hash.specs.declared.hash.object_id.ObjectId.{ObjectId}
 use Rattle.gixobj_files.specs.Edits.{Finds, IsEntryOf, only, with_dir}
 use Rattle.gixobj_files.specs.Files.{Path, Trees}

@@ -1,7 +1,7 @@
 -- The open directories of an editor, and its files.
 use Rattle.std.specs.Prelude.{◌≡◌, ◌≢◌, ℕ, zero, suc, List, [], ◌∷◌, ◌++◌, IsTrue, MatchOption, Option, Some, None}
 use Rattle.gixobj_tree.specs.Entries.{EntryView, IsWellFormed}
-use Rattle.gixobj_tree.specs.Mode.{is_tree_mode}
+use Rattle.gixobj_mode.specs.Mode.{is_tree_mode}
 use Rattle.gixobj_files.specs.Files.{Below, FileSet, Files, Has, Path, Table}
 
 -- the entries of each open directory, by its path

@@ -14,9 +14,9 @@ use Rattle.gixobj_script.specs.Paths.{ArePathNames, dot}
 use Rattle.gixobj_hash.proofs.Splits.{free_by_test, free_of_cut, one_cut}
 use Rattle.gixobj_hash.specs.Bytes.{slash}
 use Rattle.gixobj_hash.specs.Texts.{IsFree, SplitsAt}
-use Rattle.gixobj_tree.specs.Mode.{entry_word}
-use Rattle.gixobj_tree.specs.declared.tree.entry_kind.EntryKind.{EntryKind}
-use Rattle.gixobj_tree.specs.declared.tree.entry_kind.EntryKind.TheVariants.{Blob, BlobExecutable, Commit, Link, Tree}
+use Rattle.gixobj_mode.specs.Mode.{entry_word}
+use Rattle.gixobj_mode.specs.declared.entry_kind.EntryKind.{EntryKind}
+use Rattle.gixobj_mode.specs.declared.entry_kind.EntryKind.TheVariants.{Blob, BlobExecutable, Commit, Link, Tree}
 
 -- ---- the names of a path
 

@@ -7,8 +7,8 @@ use Rattle.gixobj_hash.specs.declared.hash.object_id.ObjectId.{ObjectId}
 use Rattle.gixobj_script.specs.Paths.{ArePathNames}
 use Rattle.gixobj_hash.specs.Bytes.{space}
 use Rattle.gixobj_hash.specs.Texts.{IsFree}
-use Rattle.gixobj_tree.specs.Mode.{entry_word}
-use Rattle.gixobj_tree.specs.declared.tree.entry_kind.EntryKind.{EntryKind}
+use Rattle.gixobj_mode.specs.Mode.{entry_word}
+use Rattle.gixobj_mode.specs.declared.entry_kind.EntryKind.{EntryKind}
 
 -- a word, a space, and what follows
 abbrev pub word_and : List ℕ → List ℕ → List ℕ

@@ -5,7 +5,7 @@ use Rattle.gixobj_hash.specs.Bytes.{newline, space}
 use Rattle.gixobj_hash.specs.Decode.{HasContent, IsShort}
 use Rattle.gixobj_tree.specs.Entries.{EntryView}
 use Rattle.gixobj_hash.specs.Hash.{hex_text}
-use Rattle.gixobj_tree.specs.Mode.{entry_word, kind_of_mode, mode_text}
+use Rattle.gixobj_mode.specs.Mode.{entry_word, kind_of_mode, mode_text}
 use Rattle.gixobj_hash.specs.declared.hash.kind.Kind as hash
 use Rattle.gixobj_hash.specs.declared.kind.Kind.{Kind}
 use Rattle.gixobj_hash.specs.declared.kind.Kind.TheVariants.{Tree}

@@ -10,7 +10,7 @@ use Rattle.gixobj_hash.specs.Texts.{IsFree}
 use Rattle.gixobj_tree.proofs.NameKeys.{by_keys}
 use Rattle.gixobj_tree.proofs.WellFormed.{found, same_key}
 use Rattle.gixobj_tree.specs.Entries.{EntryView, IsEntryName, IsWellFormed, entry_key, key_of, name_cmp}
-use Rattle.gixobj_tree.specs.Mode.{is_tree_mode}
+use Rattle.gixobj_mode.specs.Mode.{is_tree_mode}
 use Rattle.gixobj_tree.specs.WellFormed.{HasKey}
 
 module _ {X Y : Type 0} (view : X → Y) (cmp : X → Ordering) (R : Y → Ordering) where

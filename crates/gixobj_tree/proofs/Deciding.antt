@@ -12,9 +12,9 @@ use Rattle.gixobj_hash.specs.declared.hash.kind.Kind.{Kind}
 use Rattle.gixobj_hash.specs.declared.hash.kind.Kind.TheVariants as hash
 use Rattle.gixobj_hash.proofs.Splits.{free_of_cut, one_cut}
 use Rattle.gixobj_hash.specs.Texts.{IsFree, SplitsAt}
-use Rattle.gixobj_tree.proofs.ModeTexts.{octal_free}
+use Rattle.gixobj_mode.proofs.ModeTexts.{octal_free}
 use Rattle.gixobj_tree.specs.Entries.{EntryView, entry_of}
-use Rattle.gixobj_tree.specs.Mode.{BeginsWithMode, KeepsByteSix, mode_of_digits}
+use Rattle.gixobj_mode.specs.Mode.{BeginsWithMode, KeepsByteSix, mode_of_digits}
 use Rattle.gixobj_tree.proofs.EntryRuns.{one_run, read, told}
 use Rattle.gixobj_tree.proofs.OneEntry.{Parted, entry_of_parts, no_id, no_name, parted, shorter}
 use Rattle.gixobj_tree.specs.TreeReading.{BeginsWithEntry, BeginsWithId, BeginsWithNoEntry, IsNoTreeText, IsTreeText, TellsEntries}

@@ -10,9 +10,9 @@ use Rattle.gixobj_hash.specs.declared.hash.object_id.ObjectId.{ObjectId}
 use Rattle.gixobj_hash.specs.declared.hash.object_id.ObjectId.TheVariants as id
 use Rattle.gixobj_hash.proofs.Splits.{free_of_cut, one_cut}
 use Rattle.gixobj_hash.specs.Texts.{IsFree, SplitsAt}
-use Rattle.gixobj_tree.proofs.ModeTexts.{octal_free, one_ending}
+use Rattle.gixobj_mode.proofs.ModeTexts.{octal_free, one_ending}
 use Rattle.gixobj_tree.specs.Entries.{EntryView, entry_of}
-use Rattle.gixobj_tree.specs.Mode.{BeginsWithMode, KeepsByteSix, ReadsAsMode, mode_of_digits}
+use Rattle.gixobj_mode.specs.Mode.{BeginsWithMode, KeepsByteSix, ReadsAsMode, mode_of_digits}
 use Rattle.gixobj_tree.specs.TreeReading.{BeginsWithEntry, BeginsWithId, BeginsWithNoEntry, IsIdOf}
 
 -- ---- ids

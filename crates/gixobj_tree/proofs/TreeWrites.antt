@@ -13,7 +13,7 @@ use Rattle.gixobj_fields.specs.declared.encode.Error.{Error}
 use Rattle.gixobj_fields.specs.declared.encode.Error.TheVariants.{OutOfMemory}
 use Rattle.gixobj_hash.specs.Hash.{id_bytes}
 use Rattle.gixobj_hash.specs.declared.hash.object_id.ObjectId.{ObjectId}
-use Rattle.gixobj_tree.specs.Mode.{mode_text}
+use Rattle.gixobj_mode.specs.Mode.{mode_text}
 use Rattle.gixobj_fields.proofs.Puts.{front_first, front_more, puts_more}
 use Rattle.gixobj_fields.proofs.Refusals.{says_why_within}
 

@@ -11,7 +11,7 @@ use Rattle.std.proofs.lemmas.Cmp.{nat_list_cmp_total, tied_itself}
 use Rattle.std.proofs.lemmas.List.Elements.{All-contains, All-from_recursion, All-weaker, at_from_Contains, Contains-get_or, Contains-push, recursion_from_All}
 use Rattle.std.proofs.lemmas.List.Sorted.{searchable_from_sorted}
 use Rattle.gixobj_tree.specs.Entries.{ComesBefore, EachLater, EntryView, IsEntryName, entry_key, key_of}
-use Rattle.gixobj_tree.specs.Mode.{is_tree_mode}
+use Rattle.gixobj_mode.specs.Mode.{is_tree_mode}
 use Rattle.gixobj_hash.specs.Texts.{IsFree}
 use Rattle.gixobj_tree.specs.WellFormed.{AreApart, HasKey, HasNamesake, HaveEntryNames}
 

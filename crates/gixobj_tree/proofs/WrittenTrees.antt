@@ -1,16 +1,16 @@
 -- Borrowed trees written, and trees written back and read back.
 use Rattle.std.proofs.Common.{◌≡◌, ◌<◌, ◌+◌, ◌++◌, ◌∷◌, ◌==◌, ◌&&◌, ℕ, Bool, true, false, List, [], All, ap, append_assoc, arith, codes, get_or, length, length-append, if◌then◌else◌, map, refl, subst, sym, take, ◌∙◌}
-use Rattle.std.proofs.lemmas.Bool.Decides.{nat_tests}
 use Rattle.std.proofs.lemmas.List.Elements.{All-cons, All-head, All-nil, All-tail}
 use Rattle.std.specs.List.{AllZip, concat}
 use Rattle.gixobj_fields.specs.Writing.{RefusesNothing}
 use Rattle.gixobj_hash.specs.Hash.{id_bytes}
 use Rattle.gixobj_hash.specs.declared.hash.kind.Kind.{Kind}
 use Rattle.gixobj_hash.specs.Texts.{IsFree}
-use Rattle.gixobj_tree.proofs.ModesBack.{mode_reads_back}
+use Rattle.gixobj_mode.proofs.ByteSix.{six_kept}
+use Rattle.gixobj_mode.proofs.ModesBack.{mode_reads_back}
 use Rattle.gixobj_tree.proofs.TreeWrites.{AreFree, none_refused, text_more}
 use Rattle.gixobj_tree.specs.Entries.{EntryView}
-use Rattle.gixobj_tree.specs.Mode.{KeepsByteSix, first_digit, last_digits, mode_text, octal_digits, second_digit}
+use Rattle.gixobj_mode.specs.Mode.{KeepsByteSix, mode_text}
 use Rattle.gixobj_tree.specs.TreeText.{RefusesTree, entry_text, tree_text}
 use Rattle.gixobj_tree.proofs.Viewed.{seen_there, seen_within}
 use Rattle.gixobj_tree.specs.Rewriting.{HasOwnModes, IsOwnEntryText, ReadsBack}
@@ -57,19 +57,6 @@ pub nothing_refused : (kind : Kind) (text : List ℕ) (entries : List EntryView)
 nothing_refused kind text entries (texts, joined, are) = λ value parts refused. none_refused entries value parts (names_free kind entries texts are) refused
 
 -- ---- read back
-
--- a mode that is written of six digits is followed by byte 6, and one of five by byte 5
-six_of_text : (mode : ℕ) (rest : List ℕ) (zero four one : Bool) → zero ≡ false → KeepsByteSix ((if zero then codes "0" else if four && one then codes "0" ++ last_digits mode else if four then last_digits mode else octal_digits mode) ++ 32 ∷ rest)
-    (if zero then codes "0" else if four && one then codes "0" ++ last_digits mode else if four then last_digits mode else octal_digits mode)
-six_of_text mode rest true four one some = cc some
-six_of_text mode rest false true true some = λ is other. refl
-six_of_text mode rest false true false some = λ is other. absurd (other refl)
-six_of_text mode rest false false one some = λ is other. refl
-
-pub six_kept : (mode : ℕ) (rest : List ℕ) → 0 < mode → KeepsByteSix (mode_text mode ++ 32 ∷ rest) (mode_text mode)
-six_kept mode rest some =
-    let filled : (mode == 0) ≡ false = grind (arith, nat_tests, some) in
-    six_of_text mode rest (mode == 0) (second_digit mode == 4) (first_digit mode == 1) filled
 
 own_entry : (kind : Kind) (e : EntryView) → ReadsBack kind e → IsEntryText kind e (entry_text e)
 own_entry kind e it =

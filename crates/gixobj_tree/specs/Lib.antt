@@ -1,8 +1,6 @@
 pub mod Entries
 pub mod EntryOrder
 pub mod EntryOrderLaws
-pub mod Mode
-pub mod ModeNumber
 pub mod Rewriting
 pub mod TreeReading
 pub mod TreeText

@@ -4,7 +4,7 @@ use Rattle.std.specs.List.{AllZip, concat}
 use Rattle.gixobj_hash.specs.declared.hash.kind.Kind.{Kind}
 use Rattle.gixobj_hash.specs.Texts.{IsFree}
 use Rattle.gixobj_tree.specs.Entries.{EntryView}
-use Rattle.gixobj_tree.specs.Mode.{mode_text, old_tree_type}
+use Rattle.gixobj_mode.specs.Mode.{mode_text, old_tree_type}
 use Rattle.gixobj_tree.specs.TreeReading.{IsEntryText, IsIdOf}
 
 -- the text is that of the entry, and its mode stands in it as it is written

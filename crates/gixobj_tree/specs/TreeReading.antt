@@ -11,7 +11,7 @@ use Rattle.gixobj_hash.specs.declared.hash.object_id.ObjectId.{ObjectId}
 use Rattle.gixobj_hash.specs.Bytes.{space}
 use Rattle.gixobj_hash.specs.Texts.{IsFree}
 use Rattle.gixobj_tree.specs.Entries.{EntryView}
-use Rattle.gixobj_tree.specs.Mode.{KeepsByteSix, ReadsAsMode}
+use Rattle.gixobj_mode.specs.Mode.{KeepsByteSix, ReadsAsMode}
 
 -- an id of this kind, with as many bytes
 abbrev pub IsIdOf : Kind → ObjectId → Type 0

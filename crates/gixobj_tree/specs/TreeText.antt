@@ -6,7 +6,7 @@ use Rattle.gixobj_hash.specs.Hash.{id_bytes, id_of}
 use Rattle.gixobj_hash.specs.declared.hash.kind.Kind as hash
 use Rattle.gixobj_hash.specs.declared.hash.object_id.ObjectId.{ObjectId}
 use Rattle.gixobj_hash.specs.declared.kind.Kind.TheVariants.{Tree}
-use Rattle.gixobj_tree.specs.Mode.{mode_text}
+use Rattle.gixobj_mode.specs.Mode.{mode_text}
 use Rattle.gixobj_hash.specs.Texts.{IsFree}
 use Rattle.gixobj_fields.specs.Writing.{Refused, RefusesNothing, name_with_zero_byte}
 use Rattle.gixobj_fields.specs.declared.encode.Error.{Error}

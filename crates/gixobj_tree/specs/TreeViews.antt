@@ -3,7 +3,7 @@ use Rattle.std.specs.Prelude.{List, map}
 use Rattle.bstr.specs.BStr.{bstr_bytes}
 use Rattle.gixobj_hash.specs.Hash.Borrowed.{borrowed_id}
 use Rattle.gixobj_tree.specs.Entries.{EntryView, entry_of}
-use Rattle.gixobj_tree.specs.Mode.{mode_bits}
+use Rattle.gixobj_mode.specs.Mode.{mode_bits}
 use Rattle.gixobj_tree.specs.declared.tree.borrowed.entry_ref.EntryRef.{EntryRef}
 use Rattle.gixobj_tree.specs.declared.tree.borrowed.TreeRef.{TreeRef}
 

@@ -1,7 +1,7 @@
 -- What the parts of the test for well-formed trees answer.
 use Rattle.std.specs.Prelude.{◌≡◌, ◌≢◌, ℕ, List, All, Contains, IsTrue}
 use Rattle.gixobj_tree.specs.Entries.{EachLater, EntryView, IsEntryName, entry_key}
-use Rattle.gixobj_tree.specs.Mode.{is_tree_mode}
+use Rattle.gixobj_mode.specs.Mode.{is_tree_mode}
 
 abbrev pub HaveEntryNames : List EntryView → Type 0
 HaveEntryNames entries = All (λ e. IsEntryName e.name) entries

@@ -1,4 +1,4 @@
-//! Trees and blobs: modes, entries and their order; made, read whole, compared, copied and written, owned and borrowed
+//! Trees and blobs: entries and their order; made, read whole, compared, copied and written, owned and borrowed
 //! (gitdatamodel, "trees").
 #![tactic(auto)]
 

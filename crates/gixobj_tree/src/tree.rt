@@ -4,16 +4,13 @@ ghost use Rattle.std.specs.Prelude.{◌≡◌, []};
 mod borrowed;
 mod compared;
 mod entry;
-mod entry_kind;
-mod entry_mode;
 pub mod order;
 mod well_formed;
 pub mod write;
 
 pub use borrowed::{EntryRef, TreeRef, decode};
 pub use entry::Entry;
-pub use entry_kind::EntryKind;
-pub use entry_mode::EntryMode;
+pub use gixobj_mode::{EntryKind, EntryMode};
 pub use order::name_order;
 use std::alloc::Global;
 use std::marker::Model;

@@ -17,7 +17,7 @@ ghost use Rattle.gixobj_files.specs.Opening.{IsOpened, in_path};
 ghost use Rattle.gixobj_files.specs.State.{open_bases, open_dirs};
 ghost use Rattle.gixobj_files.specs.Unopened.{inside};
 ghost use Rattle.gixobj_object.specs.Stores.{meaning};
-ghost use Rattle.gixobj_tree.specs.Mode.{mode_of_kind};
+ghost use Rattle.gixobj_mode.specs.Mode.{mode_of_kind};
 
 use super::names::{check_names, copy_names, join_paths};
 use super::{Editor, Error, WriteError, Written};

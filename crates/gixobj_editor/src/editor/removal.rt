@@ -11,7 +11,7 @@ ghost use Rattle.gixobj_directories.specs.Openings.{EndsBefore, OfTrees};
 ghost use Rattle.gixobj_hash.specs.declared.hash.object_id.ObjectId.{ObjectId};
 ghost use Rattle.gixobj_hash.specs.Bytes.{slash};
 ghost use Rattle.gixobj_tree.specs.Entries.{EntryView, IsEntryName};
-ghost use Rattle.gixobj_tree.specs.Mode.{is_tree_mode};
+ghost use Rattle.gixobj_mode.specs.Mode.{is_tree_mode};
 ghost use Rattle.gixobj_editor.specs.Upserts.{IsOpenedInPart, RefusesNames, directory_of};
 ghost use Rattle.gixobj_editor.specs.Removals.{Judges, RefusesDirectoryAt, RefusesRemoval};
 

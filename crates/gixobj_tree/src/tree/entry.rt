@@ -30,7 +30,7 @@ pub struct Entry {
 impl Model for Entry {
     ghost use Rattle.bstr.specs.Owned.{bstring_bytes};
     ghost use Rattle.gixobj_tree.specs.Entries.{EntryView};
-    ghost use Rattle.gixobj_tree.specs.Mode.{mode_bits};
+    ghost use Rattle.gixobj_mode.specs.Mode.{mode_bits};
 
     ghost Value = { EntryView };
 

@@ -6,7 +6,7 @@ ghost use Rattle.gixobj_hash.specs.Hash.{id_bytes};
 ghost use Rattle.gixobj_hash.specs.Hash.Borrowed.{borrowed_id};
 ghost use Rattle.gixobj_hash.specs.Texts.{IsFree};
 ghost use Rattle.gixobj_tree.specs.Entries.{entry_of};
-ghost use Rattle.gixobj_tree.specs.Mode.{mode_bits, mode_text};
+ghost use Rattle.gixobj_mode.specs.Mode.{mode_bits, mode_text};
 ghost use Rattle.gixobj_tree.specs.TreeViews.{entry_view};
 ghost use Rattle.gixobj_tree.specs.TreeText.{IsAnsweredDigest, RefusesEntry, entry_text};
 ghost use Rattle.gixobj_fields.specs.Streams.{Puts, PutsOrFails};
@@ -20,6 +20,7 @@ use gixobj_fields::streams::{Sink, put_parts};
 use gixobj_hash::hash::{self, ObjectId, oid};
 use gixobj_hash::texts::has_byte;
 use gixobj_hash::{Kind, compute_hash};
+use gixobj_mode::{kind_text, text_len};
 use std::alloc::Global;
 use std::io;
 
@@ -125,7 +126,7 @@ fn put_mode<S: Sink>(mode: EntryMode, sink: &mut S) -> io::Result<()>
         (mode_text (mode_bits mode) ++ space ∷ []) }
     ensures same_loan { S.loan sink.new ≡ S.loan sink.old }
 {
-    if let Some(text) = mode.kind_text() {
+    if let Some(text) = kind_text(mode) {
         return sink.put(text);
     }
     let mut backing = [0; 6];
@@ -163,7 +164,7 @@ pub fn size_with(size: u64, mode: EntryMode, name: &[u8], id: oid<'_>) -> Option
     ensures { AddsSize result size (entry_text
         (entry_of (mode_bits mode) name.now (borrowed_id id.entry))) }
 {
-    let beside_name = mode.text_len() + 2 + id.as_bytes().len();
+    let beside_name = text_len(mode) + 2 + id.as_bytes().len();
     let with_name = size.checked_add(name.len() as u64)?;
     with_name.checked_add(beside_name as u64)
 }

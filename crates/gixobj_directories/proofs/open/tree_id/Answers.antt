@@ -1,7 +1,7 @@
 use Rattle.std.proofs.Common.{◌∙◌, sym, ap}
 use Rattle.bstr.specs.Owned.{bstring_bytes}
 use Rattle.gixobj_tree.specs.Entries.{EntryView}
-use Rattle.gixobj_tree.specs.Mode.{is_tree_mode}
+use Rattle.gixobj_mode.specs.Mode.{is_tree_mode}
 use Rattle.gixobj_directories.proofs.OpeningSteps.{copied_none, copied_some, first_entry, no_entry, none_weaker}
 use Rattle.gixobj_directories.proofs.open.tree_id.Goals as goal
 

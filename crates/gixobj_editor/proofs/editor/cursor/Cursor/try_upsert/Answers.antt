@@ -1,6 +1,6 @@
 -- The editor's own edit, at the path from the root.
 use Rattle.std.proofs.Common.{◌∙◌, ap, subst}
-use Rattle.gixobj_tree.specs.Mode.{mode_of_kind}
+use Rattle.gixobj_mode.specs.Mode.{mode_of_kind}
 use Rattle.gixobj_files.specs.Files.{Path}
 use Rattle.gixobj_directories.specs.Calls.{names_of}
 use Rattle.gixobj_entries.proofs.OwnTrees.{on_err}

@@ -1,7 +1,7 @@
 use Rattle.std.proofs.Common.{List, ℕ, subst, sym}
 use Rattle.gixobj_hash.specs.Hash.Borrowed.{borrowed_id}
 use Rattle.gixobj_tree.specs.Entries.{entry_of}
-use Rattle.gixobj_tree.specs.Mode.{mode_bits}
+use Rattle.gixobj_mode.specs.Mode.{mode_bits}
 use Rattle.gixobj_tree.proofs.OneEntry.{entry_of_parts, no_id, no_mode, no_name, no_space}
 use Rattle.gixobj_tree.proofs.tree.borrowed.decode.read_entry.Goals as goal
 use Rattle.gixobj_tree.specs.TreeReading.{BeginsWithEntry}

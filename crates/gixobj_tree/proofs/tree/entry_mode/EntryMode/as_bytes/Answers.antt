@@ -1,5 +1,0 @@
-use Rattle.std.proofs.Common.{rules}
-use Rattle.gixobj_tree.proofs.tree.entry_mode.EntryMode.as_bytes.Goals as goal
-
-pub returns-clause-text : goal.returns-clause-text
-returns-clause-text c = search rules
