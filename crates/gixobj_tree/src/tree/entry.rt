@@ -19,12 +19,12 @@ use std::marker::Model;
 /// An entry of a tree: the file or the directory of a name.
 #[derive(Clone, Debug, Drop)]
 pub struct Entry {
-    /// What kind of object the entry names, and a file's permissions.
-    pub mode: EntryMode,
     /// The name, one part of a path.
     pub filename: BString,
     /// The id of the object.
     pub oid: ObjectId,
+    /// What kind of object the entry names, and a file's permissions.
+    pub mode: EntryMode,
 }
 
 impl Model for Entry {
