@@ -1,5 +1,5 @@
 -- The field of a number stands behind so many spaces, up to the next one.
-use Rattle.std.proofs.Common.{◌≡◌, ◌≢◌, ◌∷◌, ◌++◌, ◌==◌, ◌∙◌, ◌<◌, ◌≤◌, ◌-◌, arith, [], ap, sym, true, false, cond, zero, suc, ℕ, Bool, List, Option, Some, None, refl}
+use Rattle.std.proofs.Common.{◌≡◌, ◌≢◌, ◌∷◌, ◌++◌, ◌==◌, ◌∙◌, ◌<◌, ◌≤◌, ◌-◌, arith, [], ap, sym, true, false, cond, length, zero, suc, ℕ, Bool, List, Option, Some, None, refl}
 use Rattle.std.proofs.lemmas.Bool.{eqb-true}
 use Rattle.std.proofs.lemmas.List.Elements.{All-head, All-tail}
 use Rattle.std.specs.Option.{option_map}
@@ -94,17 +94,53 @@ pub field_so : (number : ℕ) (line : List ℕ) (behind_them : Option (List ℕ)
     → field_at number (fields_of line) ≡ if_not_empty (option_map first_word behind_them)
 field_so number line behind_them is = ap if_not_empty (fields_behind_spaces number line ∙ ap (option_map first_word) (sym is))
 
+-- what stands behind some space is the rest, or none
+some_behind : (front rest : List ℕ) → IsFree space front → Some rest ≡ behind_some_space (front ++ space ∷ rest)
+some_behind [] rest free = refl
+some_behind (byte ∷ front) rest free =
+    let other : (byte == space) ≡ false = no_space byte (All-head (λ it. it ≢ space) byte front free) in
+    some_behind front rest (All-tail (λ it. it ≢ space) byte front free)
+    ∙ sym (ap (λ (t : Bool). cond t (Some (front ++ space ∷ rest)) (behind_some_space (front ++ space ∷ rest))) other)
+
+pub some_split : (front rest line : List ℕ) → SplitsAt space line front rest → Some rest ≡ behind_some_space line
+some_split front rest line splits = some_behind front rest splits.first ∙ sym (ap behind_some_space splits.joined)
+
+pub none_alone : (line : List ℕ) → IsFree space line → None ≡ behind_some_space line
+none_alone [] free = refl
+none_alone (byte ∷ line) free =
+    let other : (byte == space) ≡ false = no_space byte (All-head (λ it. it ≢ space) byte line free) in
+    none_alone line (All-tail (λ it. it ≢ space) byte line free)
+    ∙ sym (ap (λ (t : Bool). cond t (Some line) (behind_some_space line)) other)
+
 -- the walk over spaces: one passed, none left to pass, or none there
-pub spaces_more : (left : ℕ) (line next : List ℕ) (whole : Option (List ℕ)) → 0 < left → Some next ≡ behind_some_space line → behind_spaces left line ≡ whole → behind_spaces (left - 1) next ≡ whole
-spaces_more zero line next whole some is same = absurd (omega arith)
-spaces_more (suc left) line next whole some is same =
+pub spaces_more : (left : ℕ) (line next : List ℕ) (found : Option (List ℕ)) → left ≢ 0 → Some next ≡ behind_some_space line → found ≡ behind_spaces (left - 1) next → found ≡ behind_spaces left line
+spaces_more zero line next found some is same = absurd (some refl)
+spaces_more (suc left) line next found some is same =
     let one : suc left - 1 ≡ left = omega arith in
-    ap (λ m. behind_spaces m next) one ∙ ap (if_some (behind_spaces left)) is ∙ same
+    same ∙ ap (λ m. behind_spaces m next) one ∙ ap (if_some (behind_spaces left)) is
 
 pub spaces_none : (left : ℕ) (line : List ℕ) (whole : Option (List ℕ)) → left ≤ 0 → behind_spaces left line ≡ whole → Some line ≡ whole
 spaces_none zero line whole none same = same
 spaces_none (suc left) line whole none same = absurd (omega arith)
 
-pub spaces_out : (left : ℕ) (line : List ℕ) (whole : Option (List ℕ)) → 0 < left → None ≡ behind_some_space line → behind_spaces left line ≡ whole → None ≡ whole
-spaces_out zero line whole some is same = absurd (omega arith)
-spaces_out (suc left) line whole some is same = ap (if_some (behind_spaces left)) is ∙ same
+pub spaces_out : (left : ℕ) (line : List ℕ) → left ≢ 0 → None ≡ behind_some_space line → None ≡ behind_spaces left line
+spaces_out zero line some is = absurd (some refl)
+spaces_out (suc left) line some is = ap (if_some (behind_spaces left)) is
+
+-- the same, byte by byte
+pub space_more : (left byte : ℕ) (line next : List ℕ) (whole : Option (List ℕ)) → 0 < left → line ≡ byte ∷ next → byte ≡ space → behind_spaces left line ≡ whole → behind_spaces (left - 1) next ≡ whole
+space_more zero byte line next whole some is same all = absurd (omega arith)
+space_more (suc left) byte line next whole some is same all =
+    let one : suc left - 1 ≡ left = omega arith in
+    ap (λ m. behind_spaces m next) one ∙ sym (ap (behind_spaces (suc left)) (is ∙ ap (λ b. b ∷ next) same)) ∙ all
+
+pub byte_more : (left byte : ℕ) (line next : List ℕ) (whole : Option (List ℕ)) → 0 < left → line ≡ byte ∷ next → byte ≢ space → behind_spaces left line ≡ whole → behind_spaces left next ≡ whole
+byte_more zero byte line next whole some is other all = absurd (omega arith)
+byte_more (suc left) byte line next whole some is other all =
+    sym (ap (λ (t : Bool). if_some (behind_spaces left) (cond t (Some next) (behind_some_space next))) (no_space byte other))
+    ∙ sym (ap (behind_spaces (suc left)) is) ∙ all
+
+pub bytes_out : (left : ℕ) (line : List ℕ) (whole : Option (List ℕ)) → 0 < left → length line ≡ 0 → behind_spaces left line ≡ whole → None ≡ whole
+bytes_out zero line whole some empty all = absurd (omega arith)
+bytes_out (suc left) [] whole some empty all = all
+bytes_out (suc left) (byte ∷ line) whole some empty all = absurd (cc empty)

@@ -1,4 +1,6 @@
 mod FieldPlaces
+mod FirstBytes
 mod LastPlaces
 mod Rows
+mod Taken
 mod Told

@@ -5,8 +5,8 @@ use Rattle.std.specs.List.{cons_option, filter_map}
 use Rattle.std.specs.Option.{option_map}
 use Rattle.bstr.specs.Owned.{bstring_bytes}
 use Rattle.gixobj_hash.specs.Bytes.{space}
-use Rattle.gixobj_report.specs.Fields.{behind}
-use Rattle.gixobj_report.specs.GpgReports.{Verdict, status_of, verdict}
+use Rattle.gixobj_report.specs.Fields.{behind, either}
+use Rattle.gixobj_report.specs.GpgReports.{Verdict, status_of, verdict, with_status}
 use Rattle.gixobj_report.specs.declared.report.Status.{Status}
 use Rattle.gixobj_report.specs.declared.report.Status.TheVariants as status
 use Rattle.gixobj_report.specs.declared.report.gpg.Said.{Said}
@@ -22,6 +22,13 @@ said_view it = record {
   key = option_map bstring_bytes it.key;
   signer = option_map bstring_bytes it.signer;
 }
+
+-- the status that a line says whose word begins with E
+abbrev pub error_of : List ℕ → Option (Status × List ℕ)
+error_of line =
+    either (option_map (with_status status.Error) (behind (codes "ERRSIG ") line))
+    (either (option_map (with_status status.Expired) (behind (codes "EXPSIG ") line))
+    (either (option_map (with_status status.ExpiredKey) (behind (codes "EXPKEYSIG ") line)) None))
 
 -- the status that a line says to programs, or none of a line that isn't told to them
 abbrev pub status_from : Option (List ℕ) → Option (Status × List ℕ)

@@ -1,12 +1,12 @@
 //! Reports of programs of OpenPGP and of X.509 (gnupg, doc/DETAILS, "Format of the --status-fd output").
-ghost use Rattle.std.specs.Prelude.{◌≡◌, [], ◌∷◌, IfOk, None, codes};
+ghost use Rattle.std.specs.Prelude.{◌≡◌, ◌≢◌, [], ◌∷◌, IfOk, None, OnErr, codes};
 ghost use Rattle.std.specs.List.{filter_map};
 ghost use Rattle.std.specs.Option.{option_map};
 ghost use Rattle.bstr.specs.Owned.{bstring_bytes};
 ghost use Rattle.gixobj_report.specs.Fields.{behind, behind_space, either, field_at, fields_of, first_word, unless_empty};
-ghost use Rattle.gixobj_report.specs.GpgReports.{fields_said, gpg_report, late_status_of, status_of, told_lines, trust_in, trust_said, valid_fields, verdict, with_status};
+ghost use Rattle.gixobj_report.specs.GpgReports.{fields_said, gpg_report, status_of, told_lines, trust_in, trust_said, valid_fields, verdict, with_status};
 ghost use Rattle.gixobj_report.specs.Outcomes.{outcome_view};
-ghost use Rattle.gixobj_report.specs.Telling.{HasOneMore, behind_some_space, behind_spaces, said_view, status_view, told_behind, told_status, verdict_of};
+ghost use Rattle.gixobj_report.specs.Telling.{HasOneMore, behind_spaces, error_of, said_view, status_view, told_behind, told_status, verdict_of};
 ghost use Rattle.gixobj_report.specs.Trust.{or_undefined, trust_of};
 
 use super::{Outcome, Status, TrustLevel};
@@ -23,15 +23,18 @@ use std::alloc::Global;
 /// no key and no signer. The trust and the fingerprints are those of the last lines that say them. Nothing is
 /// accepted by reading alone.
 ///
-/// `OutOfMemory` where the texts of the outcome find no memory.
+/// `OutOfMemory` where the texts of the outcome find no memory, which comes only where something was written for
+/// programs.
+#[tactic(auto, using(crate::proofs::Told::verdict_of_bytes, crate::proofs::Told::field_of_bytes))]
 pub fn parse_gpg_output(
     alloc: Global,
     format: Format,
     output: BString,
     raw_output: BString,
 ) -> Result<Outcome, OutOfMemory>
-    ensures { IfOk result (λ it. outcome_view it
+    ensures told { IfOk result (λ it. outcome_view it
         ≡ gpg_report format (bstring_bytes output) (bstring_bytes raw_output)) }
+    ensures taken { OnErr result (bstring_bytes raw_output ≢ []) }
 {
     let told = told_in(raw_output.as_bytes());
     let said = said_by(alloc, told.statuses)?;
@@ -124,7 +127,7 @@ fn with_line<'a>(before: Told<'a>, line: &'a [u8]) -> Told<'a>
         Some(said) => Told {
             statuses: with_status_if_any(before.statuses, status_of_line(said)),
             trust: behind_here(said, b"TRUST_", before.trust),
-            valid: behind_here(said, b"VALIDSIG ", before.valid),
+            valid: valid_here(said, before.valid),
         },
         None => before,
     }
@@ -144,7 +147,8 @@ fn with_status_if_any<'a>(before: Statuses<'a>, found: Option<(Status, &'a [u8])
 
 /// What the statuses of all lines say together.
 fn said_by(alloc: Global, statuses: Statuses<'_>) -> Result<Said, OutOfMemory>
-    ensures { IfOk result (λ it. said_view it ≡ verdict_of statuses.entry []) }
+    ensures said { IfOk result (λ it. said_view it ≡ verdict_of statuses.entry []) }
+    ensures taken { OnErr result (verdict_of statuses.entry [] ≢ verdict []) }
 {
     match statuses {
         Statuses::None => Ok(nothing_but(Status::Unknown)),
@@ -165,8 +169,10 @@ fn nothing_but(status: Status) -> Said
 }
 
 /// What a single line says that says this status, with this rest behind it.
+#[tactic(auto, using(crate::proofs::Taken::key_taken, crate::proofs::Taken::signer_taken))]
 fn said_by_one(alloc: Global, status: Status, rest: &[u8]) -> Result<Said, OutOfMemory>
-    ensures { IfOk result (λ it. said_view it ≡ verdict ((status, rest.now) ∷ [])) }
+    ensures said { IfOk result (λ it. said_view it ≡ verdict ((status, rest.now) ∷ [])) }
+    ensures taken { OnErr result (verdict ((status, rest.now) ∷ []) ≢ verdict []) }
 {
     let (word, behind) = cut_at_space(rest);
     let key = copy_unless_empty(alloc, word)?;
@@ -190,40 +196,33 @@ fn cut_at_space<'a>(line: &'a [u8]) -> (&'a [u8], &'a [u8])
     }
 }
 
-/// The status that a line says, without the beginning of all lines.
+/// The status that a line says, without the beginning of all lines. Its first byte says which words are sought.
 #[inline(always)]
+#[tactic(auto, using(crate::proofs::FirstBytes::good_first, crate::proofs::FirstBytes::bad_first, crate::proofs::FirstBytes::error_first, crate::proofs::FirstBytes::revoked_first, crate::proofs::FirstBytes::other_first, crate::proofs::FirstBytes::no_first))]
 fn status_of_line<'a>(line: &'a [u8]) -> Option<(Status, &'a [u8])>
     ensures { option_map status_view result ≡ status_of line.now }
 {
-    let late = late_status_of_line(line);
-    let error = status_or(line, b"ERRSIG ", Status::Error, late);
-    let bad = status_or(line, b"BADSIG ", Status::Bad, error);
-    status_or(line, b"GOODSIG ", Status::Good, bad)
-}
-
-/// The status that a line says of a signature that was good once.
-#[inline(always)]
-fn late_status_of_line<'a>(line: &'a [u8]) -> Option<(Status, &'a [u8])>
-    ensures { option_map status_view result ≡ late_status_of line.now }
-{
-    let revoked = status_if(line, b"REVKEYSIG ", Status::RevokedKey);
-    let expired_key = status_or(line, b"EXPKEYSIG ", Status::ExpiredKey, revoked);
-    status_or(line, b"EXPSIG ", Status::Expired, expired_key)
-}
-
-/// This status, where the line begins with this text, with what stands behind the text.
-#[inline(always)]
-fn status_if<'a>(line: &'a [u8], text: &[u8], status: Status) -> Option<(Status, &'a [u8])>
-    ensures { option_map status_view result
-        ≡ option_map (with_status status) (behind text.now line.now) }
-{
-    match line.strip_prefix(text) {
-        Some(rest) => Some((status, rest)),
-        None => None,
+    let (first, _) = line.split_first()?;
+    match *first {
+        b'G' => status_or(line, b"GOODSIG ", Status::Good, None),
+        b'B' => status_or(line, b"BADSIG ", Status::Bad, None),
+        b'E' => error_or_expired(line),
+        b'R' => status_or(line, b"REVKEYSIG ", Status::RevokedKey, None),
+        _ => None,
     }
 }
 
-/// The same, and the other one where the line begins otherwise.
+/// The status that a line says whose word begins with `E`.
+#[inline(always)]
+fn error_or_expired<'a>(line: &'a [u8]) -> Option<(Status, &'a [u8])>
+    ensures { option_map status_view result ≡ error_of line.now }
+{
+    let expired_key = status_or(line, b"EXPKEYSIG ", Status::ExpiredKey, None);
+    let expired = status_or(line, b"EXPSIG ", Status::Expired, expired_key);
+    status_or(line, b"ERRSIG ", Status::Error, expired)
+}
+
+/// This status, where the line begins with this text, with what stands behind the text, or else the other one.
 #[inline(always)]
 fn status_or<'a>(
     line: &'a [u8],
@@ -267,8 +266,10 @@ fn field_told(
     told: Option<&[u8]>,
     number: usize,
 ) -> Result<Option<BString>, OutOfMemory>
-    ensures { IfOk result (λ it. option_map bstring_bytes it
+    ensures field { IfOk result (λ it. option_map bstring_bytes it
         ≡ field_at number (fields_said (option_map (λ it. it.now) told.entry))) }
+    ensures taken { OnErr result (field_at number
+        (fields_said (option_map (λ it. it.now) told.entry)) ≢ None) }
 {
     match told {
         Some(rest) => field_of(alloc, rest, number),
@@ -277,10 +278,11 @@ fn field_told(
 }
 
 /// The field of this number, unless it is missing or empty.
-#[tactic(auto, using(crate::proofs::FieldPlaces::field_so))]
+#[tactic(auto, using(crate::proofs::FieldPlaces::field_so, crate::proofs::Taken::field_taken))]
 fn field_of(alloc: Global, line: &[u8], number: usize) -> Result<Option<BString>, OutOfMemory>
-    ensures { IfOk result (λ it. option_map bstring_bytes it
+    ensures field { IfOk result (λ it. option_map bstring_bytes it
         ≡ field_at number (fields_of line.now)) }
+    ensures taken { OnErr result (field_at number (fields_of line.now) ≢ None) }
 {
     match fields_behind(line, number) {
         Some(rest) => copy_unless_empty(alloc, first_word_of(rest)),
@@ -289,31 +291,32 @@ fn field_of(alloc: Global, line: &[u8], number: usize) -> Result<Option<BString>
 }
 
 /// The line from the field of this number on, or none where it has fewer.
-#[tactic(auto, using(crate::proofs::FieldPlaces::spaces_more, crate::proofs::FieldPlaces::spaces_out, crate::proofs::FieldPlaces::spaces_none))]
+#[tactic(auto, using(crate::proofs::FieldPlaces::some_split, crate::proofs::FieldPlaces::none_alone, crate::proofs::FieldPlaces::spaces_more, crate::proofs::FieldPlaces::spaces_out, crate::proofs::FieldPlaces::spaces_none))]
 fn fields_behind<'a>(line: &'a [u8], number: usize) -> Option<&'a [u8]>
+    ensures { option_map (λ it. it.now) result ≡ behind_spaces number line.now }
+{
+    if number == 0 {
+        return Some(line);
+    }
+    let (_, behind) = split_at_byte(line, b' ')?;
+    behind_so_many(behind, number - 1)
+}
+
+/// What stands behind so many spaces, or none where there are fewer. Fields are short, so all bytes are looked at.
+#[tactic(auto, using(crate::proofs::FieldPlaces::space_more, crate::proofs::FieldPlaces::byte_more, crate::proofs::FieldPlaces::bytes_out, crate::proofs::FieldPlaces::spaces_none))]
+fn behind_so_many<'a>(line: &'a [u8], number: usize) -> Option<&'a [u8]>
     ensures { option_map (λ it. it.now) result ≡ behind_spaces number line.now }
 {
     let mut rest = line;
     let mut left = number;
-    'fields: while left > 0 {
-        rest = behind_space_if_any(rest)?;
-        left -= 1;
-    }
-    Some(rest)
-}
-
-/// What stands behind the first space, or none without one.
-fn behind_space_if_any<'a>(line: &'a [u8]) -> Option<&'a [u8]>
-    ensures { option_map (λ it. it.now) result ≡ behind_some_space line.now }
-{
-    let mut rest = line;
-    'bytes: while let Some((byte, behind)) = rest.split_first() {
+    'bytes: while left > 0 {
+        let (byte, behind) = rest.split_first()?;
         if *byte == b' ' {
-            return Some(behind);
+            left -= 1;
         }
         rest = behind;
     }
-    None
+    Some(rest)
 }
 
 /// What stands before the first space, or all without one.
@@ -329,7 +332,8 @@ fn first_word_of<'a>(line: &'a [u8]) -> &'a [u8]
 
 /// A copy of a text, or none of an empty one.
 fn copy_unless_empty(alloc: Global, text: &[u8]) -> Result<Option<BString>, OutOfMemory>
-    ensures { IfOk result (λ it. option_map bstring_bytes it ≡ unless_empty text.now) }
+    ensures copied { IfOk result (λ it. option_map bstring_bytes it ≡ unless_empty text.now) }
+    ensures taken { OnErr result (text.now ≢ []) }
 {
     if text.is_empty() {
         return Ok(None);
@@ -347,4 +351,20 @@ fn behind_here<'a>(bytes: &'a [u8], text: &[u8], before: Option<&'a [u8]>) -> Op
         Some(rest) => Some(rest),
         None => before,
     }
+}
+
+/// The same of whose key it is. The first byte of a line tells most others apart.
+#[inline(always)]
+#[tactic(auto, using(crate::proofs::FirstBytes::not_valid, crate::proofs::FirstBytes::no_valid))]
+fn valid_here<'a>(said: &'a [u8], before: Option<&'a [u8]>) -> Option<&'a [u8]>
+    ensures { option_map (λ it. it.now) result
+        ≡ either (behind (codes "VALIDSIG ") said.now) (option_map (λ it. it.now) before.entry) }
+{
+    let Some((first, _)) = said.split_first() else {
+        return before;
+    };
+    if *first == b'V' {
+        return behind_here(said, b"VALIDSIG ", before);
+    }
+    before
 }

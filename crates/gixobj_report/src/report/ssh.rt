@@ -1,5 +1,5 @@
 //! Reports of programs of SSH (ssh-keygen(1), `-Y verify`).
-ghost use Rattle.std.specs.Prelude.{◌≡◌, ◌≤◌, IfOk, drop, length};
+ghost use Rattle.std.specs.Prelude.{◌≡◌, ◌≢◌, ◌≤◌, [], IfOk, None, OnErr, codes, drop, length};
 ghost use Rattle.std.specs.Option.{option_map};
 ghost use Rattle.bstr.specs.Owned.{bstring_bytes};
 ghost use Rattle.bstr.specs.Text.{lines_of};
@@ -10,6 +10,7 @@ ghost use Rattle.gixobj_report.specs.SshReports.{behind_last, first_line, ssh_ke
 use super::{Outcome, Status, TrustLevel};
 use bstr::{BString, ByteSlice};
 use gixobj_hash::OutOfMemory;
+use gixobj_hash::texts::split_at_last_byte;
 use gixobj_text::signature::Format;
 use std::alloc::Global;
 
@@ -18,18 +19,20 @@ use std::alloc::Global;
 /// The status is `Good` where it begins with `Good "git" signature`, and else `Bad`. The key is what stands behind the
 /// last ` key ` of the first line. Nothing is accepted by reading alone.
 ///
-/// `OutOfMemory` where the texts of the outcome find no memory.
+/// `OutOfMemory` where the texts of the outcome find no memory, which comes only where something was written.
+#[tactic(auto, using(crate::proofs::LastPlaces::key_of_bytes))]
 pub fn parse_ssh_output(
     alloc: Global,
     output: BString,
     signer: Option<BString>,
     trust_level: TrustLevel,
 ) -> Result<Outcome, OutOfMemory>
-    ensures { IfOk result (λ it. outcome_view it
+    ensures told { IfOk result (λ it. outcome_view it
         ≡ ssh_report (bstring_bytes output) (option_map bstring_bytes signer) trust_level) }
+    ensures taken { OnErr result (bstring_bytes output ≢ []) }
 {
     let status = status_of(output.as_bytes());
-    let raw_output = BString::from_slice(alloc, output.as_bytes())?;
+    let raw_output = text_of(alloc, output.as_bytes())?;
     let found = key_in(output.as_bytes());
     let key = copy_of(alloc, found)?;
     let fingerprint = copy_of(alloc, found)?;
@@ -62,18 +65,30 @@ fn status_of(output: &[u8]) -> Status
 fn key_in<'a>(output: &'a [u8]) -> Option<&'a [u8]>
     ensures { option_map (λ it. it.now) result ≡ ssh_key output.now }
 {
-    behind_last_of(first_line_of(output), b" key ")
+    behind_last_key(first_line_of(output))
 }
 
 /// A copy of a text, if there is one.
 fn copy_of(alloc: Global, text: Option<&[u8]>) -> Result<Option<BString>, OutOfMemory>
-    ensures { IfOk result (λ it. option_map bstring_bytes it
+    ensures copied { IfOk result (λ it. option_map bstring_bytes it
         ≡ option_map (λ it. it.now) text.entry) }
+    ensures taken { OnErr result (option_map (λ it. it.now) text.entry ≢ None) }
 {
     match text {
-        Some(text) => Ok(Some(BString::from_slice(alloc, text)?)),
+        Some(text) => Ok(Some(text_of(alloc, text)?)),
         None => Ok(None),
     }
+}
+
+/// A copy of these bytes. Without bytes it takes no memory.
+fn text_of(alloc: Global, bytes: &[u8]) -> Result<BString, OutOfMemory>
+    ensures copied { IfOk result (λ it. bstring_bytes it ≡ bytes.now) }
+    ensures taken { OnErr result (bytes.now ≢ []) }
+{
+    if bytes.is_empty() {
+        return Ok(BString::new(Vec::new(alloc)));
+    }
+    Ok(BString::from_slice(alloc, bytes)?)
 }
 
 /// The first line without its end, or nothing without a line.
@@ -86,17 +101,17 @@ fn first_line_of(text: &[u8]) -> &[u8]
     }
 }
 
-/// What stands behind the last place of a text, or none without one. It is sought from the end.
-#[tactic(auto, using(crate::proofs::LastPlaces::place_here, crate::proofs::LastPlaces::no_place_here))]
-fn behind_last_of<'a>(bytes: &'a [u8], text: &[u8]) -> Option<&'a [u8]>
-    ensures { option_map (λ it. it.now) result ≡ behind_last text.now bytes.now }
+/// What stands behind the last ` key ` of a line, or none without one. It is sought from the end, where spaces stand.
+#[tactic(auto, using(crate::proofs::LastPlaces::no_key_here, crate::proofs::LastPlaces::no_key_left, crate::proofs::LastPlaces::joined_here, crate::proofs::LastPlaces::inside_here, crate::proofs::LastPlaces::shorter))]
+fn behind_last_key<'a>(line: &'a [u8]) -> Option<&'a [u8]>
+    ensures { option_map (λ it. it.now) result ≡ behind_last (codes " key ") line.now }
 {
-    let mut at = bytes.len();
-    'places: while at > 0 {
-        if let Some(rest) = behind_at(bytes, at - 1, text) {
+    let mut left = line;
+    'places: while let Some((front, _)) = split_at_last_byte(left, b' ') {
+        if let Some(rest) = behind_at(line, front.len(), b" key ") {
             return Some(rest);
         }
-        at -= 1;
+        left = front;
     }
     None
 }
