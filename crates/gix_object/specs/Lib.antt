@@ -79,6 +79,7 @@ pub use Rattle.gixobj_object.specs.Lookups
 pub use Rattle.gixobj_object.specs.LooseObjects
 pub use Rattle.gixobj_object.specs.ObjectReading
 pub use Rattle.gixobj_object.specs.Objects
+pub use Rattle.gixobj_object.specs.Parts
 pub use Rattle.gixobj_object.specs.Stores
 pub use Rattle.gixobj_object.specs.TreeReaders
 pub use Rattle.gixobj_object.specs.declared as object

@@ -5,6 +5,7 @@ pub mod Lookups
 pub mod LooseObjects
 pub mod ObjectReading
 pub mod Objects
+pub mod Parts
 pub mod Stores
 pub mod TreeReaders
 pub use Rattle.gixobj_commit.specs.Commit

@@ -1,4 +1,7 @@
 //! Why a store of objects finds none.
+ghost use Rattle.std.specs.Prelude.{◌≡◌};
+ghost use Rattle.gixobj_object.specs.declared.find.Error.TheVariants as find;
+
 use bstr::BString;
 use gixobj_hash::OutOfMemory;
 use std::alloc::{AllocError, AllocFailed};
@@ -15,9 +18,6 @@ pub enum Error {
 }
 
 impl From<OutOfMemory> for Error {
-    ghost use Rattle.std.specs.Prelude.{◌≡◌};
-    ghost use Rattle.gixobj_object.specs.declared.find.Error.TheVariants as find;
-
     ghost from_gives = { λ _ error. error ≡ find.OutOfMemory };
 
     fn from(_: OutOfMemory) -> Error {
@@ -26,9 +26,6 @@ impl From<OutOfMemory> for Error {
 }
 
 impl From<AllocError> for Error {
-    ghost use Rattle.std.specs.Prelude.{◌≡◌};
-    ghost use Rattle.gixobj_object.specs.declared.find.Error.TheVariants as find;
-
     ghost from_gives = { λ _ error. error ≡ find.OutOfMemory };
 
     fn from(_: AllocError) -> Error {
@@ -37,9 +34,6 @@ impl From<AllocError> for Error {
 }
 
 impl<T: Drop> From<AllocFailed<T>> for Error {
-    ghost use Rattle.std.specs.Prelude.{◌≡◌};
-    ghost use Rattle.gixobj_object.specs.declared.find.Error.TheVariants as find;
-
     ghost from_gives = { λ _ error. error ≡ find.OutOfMemory };
 
     fn from(_: AllocFailed<T>) -> Error {

@@ -1,6 +1,7 @@
 //! Objects of any kind, borrowed (gitdatamodel, "objects").
 ghost use Rattle.std.specs.Prelude.{◌≡◌, ◌≢◌, MatchOption};
 ghost use Rattle.gixobj_object.specs.BorrowedObjects.{borrowed_kind};
+ghost use Rattle.gixobj_object.specs.Parts.{IsPartOrNone};
 
 mod convert;
 mod decode;
@@ -85,32 +86,28 @@ impl<'a> ObjectRef<'a> {
 
     /// The tree by itself, or none where the object is of another kind.
     pub fn into_tree(self) -> Option<TreeRef<'a>>
-        ensures { MatchOption result (borrowed_kind self.entry ≢ Kind.Tree)
-            (λ tree. self.entry ≡ ObjectRef.Tree tree) }
+        ensures { IsPartOrNone borrowed_kind Kind.Tree ObjectRef.Tree self.entry result }
     {
         TreeRef::try_from(self).ok()
     }
 
     /// The blob by itself, or none where the object is of another kind.
     pub fn into_blob(self) -> Option<BlobRef<'a>>
-        ensures { MatchOption result (borrowed_kind self.entry ≢ Kind.Blob)
-            (λ blob. self.entry ≡ ObjectRef.Blob blob) }
+        ensures { IsPartOrNone borrowed_kind Kind.Blob ObjectRef.Blob self.entry result }
     {
         BlobRef::try_from(self).ok()
     }
 
     /// The commit by itself, or none where the object is of another kind.
     pub fn into_commit(self) -> Option<CommitRef<'a>>
-        ensures { MatchOption result (borrowed_kind self.entry ≢ Kind.Commit)
-            (λ commit. self.entry ≡ ObjectRef.Commit commit) }
+        ensures { IsPartOrNone borrowed_kind Kind.Commit ObjectRef.Commit self.entry result }
     {
         CommitRef::try_from(self).ok()
     }
 
     /// The tag by itself, or none where the object is of another kind.
     pub fn into_tag(self) -> Option<TagRef<'a>>
-        ensures { MatchOption result (borrowed_kind self.entry ≢ Kind.Tag)
-            (λ tag. self.entry ≡ ObjectRef.Tag tag) }
+        ensures { IsPartOrNone borrowed_kind Kind.Tag ObjectRef.Tag self.entry result }
     {
         TagRef::try_from(self).ok()
     }

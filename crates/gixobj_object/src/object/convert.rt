@@ -1,6 +1,9 @@
 //! Objects made of trees, blobs, commits and tags, and taken apart into them. Nothing here takes memory.
-ghost use Rattle.std.specs.Prelude.{◌≡◌, ◌≢◌, MatchOption, MatchResult};
+ghost use Rattle.std.specs.Prelude.{◌≡◌, ◌≢◌, MatchOption};
+ghost use Rattle.gixobj_hash.specs.declared.kind.Kind.TheVariants as kind;
 ghost use Rattle.gixobj_object.specs.Objects.{owned_kind};
+ghost use Rattle.gixobj_object.specs.Parts.{IsPartOrBack};
+ghost use Rattle.gixobj_object.specs.declared.object.Object.TheVariants as object;
 
 use super::Object;
 use gixobj_commit::Commit;
@@ -23,8 +26,7 @@ impl Object {
 
     /// The tree, or the object back where it is of another kind.
     pub fn try_into_tree(self) -> Result<Tree, Object>
-        ensures { MatchResult result (λ tree. self ≡ Object.Tree tree)
-            (λ back. (back ≡ self) × (owned_kind self ≢ Kind.Tree)) }
+        ensures { IsPartOrBack owned_kind Kind.Tree Object.Tree self result }
     {
         match self {
             Object::Tree(tree) => Ok(tree),
@@ -34,8 +36,7 @@ impl Object {
 
     /// The blob, or the object back where it is of another kind.
     pub fn try_into_blob(self) -> Result<Blob, Object>
-        ensures { MatchResult result (λ blob. self ≡ Object.Blob blob)
-            (λ back. (back ≡ self) × (owned_kind self ≢ Kind.Blob)) }
+        ensures { IsPartOrBack owned_kind Kind.Blob Object.Blob self result }
     {
         match self {
             Object::Blob(blob) => Ok(blob),
@@ -45,8 +46,7 @@ impl Object {
 
     /// The commit, or the object back where it is of another kind.
     pub fn try_into_commit(self) -> Result<Commit, Object>
-        ensures { MatchResult result (λ commit. self ≡ Object.Commit commit)
-            (λ back. (back ≡ self) × (owned_kind self ≢ Kind.Commit)) }
+        ensures { IsPartOrBack owned_kind Kind.Commit Object.Commit self result }
     {
         match self {
             Object::Commit(commit) => Ok(commit),
@@ -56,8 +56,7 @@ impl Object {
 
     /// The tag, or the object back where it is of another kind.
     pub fn try_into_tag(self) -> Result<Tag, Object>
-        ensures { MatchResult result (λ tag. self ≡ Object.Tag tag)
-            (λ back. (back ≡ self) × (owned_kind self ≢ Kind.Tag)) }
+        ensures { IsPartOrBack owned_kind Kind.Tag Object.Tag self result }
     {
         match self {
             Object::Tag(tag) => Ok(tag),
@@ -111,8 +110,6 @@ impl Object {
 }
 
 impl From<Tree> for Object {
-    ghost use Rattle.gixobj_object.specs.declared.object.Object.TheVariants as object;
-
     ghost from_gives = { λ tree it. it ≡ object.Tree tree };
 
     fn from(tree: Tree) -> Object {
@@ -121,8 +118,6 @@ impl From<Tree> for Object {
 }
 
 impl From<Blob> for Object {
-    ghost use Rattle.gixobj_object.specs.declared.object.Object.TheVariants as object;
-
     ghost from_gives = { λ blob it. it ≡ object.Blob blob };
 
     fn from(blob: Blob) -> Object {
@@ -131,8 +126,6 @@ impl From<Blob> for Object {
 }
 
 impl From<Commit> for Object {
-    ghost use Rattle.gixobj_object.specs.declared.object.Object.TheVariants as object;
-
     ghost from_gives = { λ commit it. it ≡ object.Commit commit };
 
     fn from(commit: Commit) -> Object {
@@ -141,8 +134,6 @@ impl From<Commit> for Object {
 }
 
 impl From<Tag> for Object {
-    ghost use Rattle.gixobj_object.specs.declared.object.Object.TheVariants as object;
-
     ghost from_gives = { λ tag it. it ≡ object.Tag tag };
 
     fn from(tag: Tag) -> Object {
@@ -152,13 +143,9 @@ impl From<Tag> for Object {
 
 /// The tree, or the object back where it is of another kind.
 impl TryFrom<Object> for Tree {
-    ghost use Rattle.std.specs.Prelude.{MatchResult};
-    ghost use Rattle.gixobj_hash.specs.declared.kind.Kind.TheVariants as kind;
-    ghost use Rattle.gixobj_object.specs.declared.object.Object.TheVariants as object;
-
     type Error = Object;
 
-    ghost try_from_gives = { λ it result. MatchResult result (λ tree. it ≡ object.Tree tree) (λ back. (back ≡ it) × (owned_kind it ≢ kind.Tree)) };
+    ghost try_from_gives = { IsPartOrBack owned_kind kind.Tree object.Tree };
 
     fn try_from(object: Object) -> Result<Tree, Object> {
         object.try_into_tree()
@@ -167,13 +154,9 @@ impl TryFrom<Object> for Tree {
 
 /// The blob, or the object back where it is of another kind.
 impl TryFrom<Object> for Blob {
-    ghost use Rattle.std.specs.Prelude.{MatchResult};
-    ghost use Rattle.gixobj_hash.specs.declared.kind.Kind.TheVariants as kind;
-    ghost use Rattle.gixobj_object.specs.declared.object.Object.TheVariants as object;
-
     type Error = Object;
 
-    ghost try_from_gives = { λ it result. MatchResult result (λ blob. it ≡ object.Blob blob) (λ back. (back ≡ it) × (owned_kind it ≢ kind.Blob)) };
+    ghost try_from_gives = { IsPartOrBack owned_kind kind.Blob object.Blob };
 
     fn try_from(object: Object) -> Result<Blob, Object> {
         object.try_into_blob()
@@ -182,13 +165,9 @@ impl TryFrom<Object> for Blob {
 
 /// The commit, or the object back where it is of another kind.
 impl TryFrom<Object> for Commit {
-    ghost use Rattle.std.specs.Prelude.{MatchResult};
-    ghost use Rattle.gixobj_hash.specs.declared.kind.Kind.TheVariants as kind;
-    ghost use Rattle.gixobj_object.specs.declared.object.Object.TheVariants as object;
-
     type Error = Object;
 
-    ghost try_from_gives = { λ it result. MatchResult result (λ commit. it ≡ object.Commit commit) (λ back. (back ≡ it) × (owned_kind it ≢ kind.Commit)) };
+    ghost try_from_gives = { IsPartOrBack owned_kind kind.Commit object.Commit };
 
     fn try_from(object: Object) -> Result<Commit, Object> {
         object.try_into_commit()
@@ -197,13 +176,9 @@ impl TryFrom<Object> for Commit {
 
 /// The tag, or the object back where it is of another kind.
 impl TryFrom<Object> for Tag {
-    ghost use Rattle.std.specs.Prelude.{MatchResult};
-    ghost use Rattle.gixobj_hash.specs.declared.kind.Kind.TheVariants as kind;
-    ghost use Rattle.gixobj_object.specs.declared.object.Object.TheVariants as object;
-
     type Error = Object;
 
-    ghost try_from_gives = { λ it result. MatchResult result (λ tag. it ≡ object.Tag tag) (λ back. (back ≡ it) × (owned_kind it ≢ kind.Tag)) };
+    ghost try_from_gives = { IsPartOrBack owned_kind kind.Tag object.Tag };
 
     fn try_from(object: Object) -> Result<Tag, Object> {
         object.try_into_tag()

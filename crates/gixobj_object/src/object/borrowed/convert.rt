@@ -1,6 +1,9 @@
 //! Borrowed objects made of trees, blobs, commits and tags, taken apart into them, and copied.
-ghost use Rattle.std.specs.Prelude.{◌≡◌, ◌≢◌, IfErr, IfOk};
+ghost use Rattle.std.specs.Prelude.{◌≡◌, IfErr, IfOk};
+ghost use Rattle.gixobj_hash.specs.declared.kind.Kind.TheVariants as kind;
 ghost use Rattle.gixobj_object.specs.BorrowedObjects.{HasObjectIds, IsOwnedObject, RefusesOwningObject, borrowed_kind};
+ghost use Rattle.gixobj_object.specs.Parts.{IsPartOrBack};
+ghost use Rattle.gixobj_object.specs.declared.object.borrowed.ObjectRef.TheVariants as object;
 
 use super::ObjectRef;
 use crate::Object;
@@ -40,8 +43,6 @@ impl ObjectRef<'_> {
 }
 
 impl<'a> From<TreeRef<'a>> for ObjectRef<'a> {
-    ghost use Rattle.gixobj_object.specs.declared.object.borrowed.ObjectRef.TheVariants as object;
-
     ghost from_gives = { λ tree it. it ≡ object.Tree tree };
 
     fn from(tree: TreeRef<'a>) -> ObjectRef<'a> {
@@ -50,8 +51,6 @@ impl<'a> From<TreeRef<'a>> for ObjectRef<'a> {
 }
 
 impl<'a> From<BlobRef<'a>> for ObjectRef<'a> {
-    ghost use Rattle.gixobj_object.specs.declared.object.borrowed.ObjectRef.TheVariants as object;
-
     ghost from_gives = { λ blob it. it ≡ object.Blob blob };
 
     fn from(blob: BlobRef<'a>) -> ObjectRef<'a> {
@@ -60,8 +59,6 @@ impl<'a> From<BlobRef<'a>> for ObjectRef<'a> {
 }
 
 impl<'a> From<CommitRef<'a>> for ObjectRef<'a> {
-    ghost use Rattle.gixobj_object.specs.declared.object.borrowed.ObjectRef.TheVariants as object;
-
     ghost from_gives = { λ commit it. it ≡ object.Commit commit };
 
     fn from(commit: CommitRef<'a>) -> ObjectRef<'a> {
@@ -70,8 +67,6 @@ impl<'a> From<CommitRef<'a>> for ObjectRef<'a> {
 }
 
 impl<'a> From<TagRef<'a>> for ObjectRef<'a> {
-    ghost use Rattle.gixobj_object.specs.declared.object.borrowed.ObjectRef.TheVariants as object;
-
     ghost from_gives = { λ tag it. it ≡ object.Tag tag };
 
     fn from(tag: TagRef<'a>) -> ObjectRef<'a> {
@@ -81,13 +76,9 @@ impl<'a> From<TagRef<'a>> for ObjectRef<'a> {
 
 /// The tree, or the object back where it is of another kind.
 impl<'a> TryFrom<ObjectRef<'a>> for TreeRef<'a> {
-    ghost use Rattle.std.specs.Prelude.{MatchResult};
-    ghost use Rattle.gixobj_hash.specs.declared.kind.Kind.TheVariants as kind;
-    ghost use Rattle.gixobj_object.specs.declared.object.borrowed.ObjectRef.TheVariants as object;
-
     type Error = ObjectRef<'a>;
 
-    ghost try_from_gives = { λ it result. MatchResult result (λ tree. it ≡ object.Tree tree) (λ back. (back ≡ it) × (borrowed_kind it ≢ kind.Tree)) };
+    ghost try_from_gives = { IsPartOrBack borrowed_kind kind.Tree object.Tree };
 
     fn try_from(object: ObjectRef<'a>) -> Result<TreeRef<'a>, ObjectRef<'a>> {
         match object {
@@ -99,13 +90,9 @@ impl<'a> TryFrom<ObjectRef<'a>> for TreeRef<'a> {
 
 /// The blob, or the object back where it is of another kind.
 impl<'a> TryFrom<ObjectRef<'a>> for BlobRef<'a> {
-    ghost use Rattle.std.specs.Prelude.{MatchResult};
-    ghost use Rattle.gixobj_hash.specs.declared.kind.Kind.TheVariants as kind;
-    ghost use Rattle.gixobj_object.specs.declared.object.borrowed.ObjectRef.TheVariants as object;
-
     type Error = ObjectRef<'a>;
 
-    ghost try_from_gives = { λ it result. MatchResult result (λ blob. it ≡ object.Blob blob) (λ back. (back ≡ it) × (borrowed_kind it ≢ kind.Blob)) };
+    ghost try_from_gives = { IsPartOrBack borrowed_kind kind.Blob object.Blob };
 
     fn try_from(object: ObjectRef<'a>) -> Result<BlobRef<'a>, ObjectRef<'a>> {
         match object {
@@ -117,13 +104,9 @@ impl<'a> TryFrom<ObjectRef<'a>> for BlobRef<'a> {
 
 /// The commit, or the object back where it is of another kind.
 impl<'a> TryFrom<ObjectRef<'a>> for CommitRef<'a> {
-    ghost use Rattle.std.specs.Prelude.{MatchResult};
-    ghost use Rattle.gixobj_hash.specs.declared.kind.Kind.TheVariants as kind;
-    ghost use Rattle.gixobj_object.specs.declared.object.borrowed.ObjectRef.TheVariants as object;
-
     type Error = ObjectRef<'a>;
 
-    ghost try_from_gives = { λ it result. MatchResult result (λ commit. it ≡ object.Commit commit) (λ back. (back ≡ it) × (borrowed_kind it ≢ kind.Commit)) };
+    ghost try_from_gives = { IsPartOrBack borrowed_kind kind.Commit object.Commit };
 
     fn try_from(object: ObjectRef<'a>) -> Result<CommitRef<'a>, ObjectRef<'a>> {
         match object {
@@ -135,13 +118,9 @@ impl<'a> TryFrom<ObjectRef<'a>> for CommitRef<'a> {
 
 /// The tag, or the object back where it is of another kind.
 impl<'a> TryFrom<ObjectRef<'a>> for TagRef<'a> {
-    ghost use Rattle.std.specs.Prelude.{MatchResult};
-    ghost use Rattle.gixobj_hash.specs.declared.kind.Kind.TheVariants as kind;
-    ghost use Rattle.gixobj_object.specs.declared.object.borrowed.ObjectRef.TheVariants as object;
-
     type Error = ObjectRef<'a>;
 
-    ghost try_from_gives = { λ it result. MatchResult result (λ tag. it ≡ object.Tag tag) (λ back. (back ≡ it) × (borrowed_kind it ≢ kind.Tag)) };
+    ghost try_from_gives = { IsPartOrBack borrowed_kind kind.Tag object.Tag };
 
     fn try_from(object: ObjectRef<'a>) -> Result<TagRef<'a>, ObjectRef<'a>> {
         match object {

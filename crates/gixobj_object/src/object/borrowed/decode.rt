@@ -4,6 +4,7 @@ ghost use Rattle.gixobj_hash.specs.declared.decode.LooseContentError.TheVariants
 ghost use Rattle.gixobj_object.specs.BorrowedObjects.{HasObjectIds, IsReadyToWrite};
 ghost use Rattle.gixobj_object.specs.LooseObjects.{IsContentRefusal, IsLooseObject, RefusesLooseObject};
 ghost use Rattle.gixobj_object.specs.ObjectReading.{IsObjectText, RefusesObjectText};
+ghost use Rattle.gixobj_object.specs.declared.object.borrowed.decode.LooseDecodeError.TheVariants as refusal;
 
 use super::ObjectRef;
 use gixobj_commit::CommitRef;
@@ -31,9 +32,7 @@ pub enum LooseDecodeError {
 }
 
 impl From<LooseHeaderDecodeError> for LooseDecodeError {
-    ghost use Rattle.gixobj_object.specs.declared.object.borrowed.decode.LooseDecodeError.TheVariants.{InvalidHeader};
-
-    ghost from_gives = { λ error it. it ≡ InvalidHeader error };
+    ghost from_gives = { λ error it. it ≡ refusal.InvalidHeader error };
 
     fn from(error: LooseHeaderDecodeError) -> LooseDecodeError {
         LooseDecodeError::InvalidHeader(error)
@@ -52,9 +51,7 @@ impl From<LooseContentError> for LooseDecodeError {
 }
 
 impl From<Error> for LooseDecodeError {
-    ghost use Rattle.gixobj_object.specs.declared.object.borrowed.decode.LooseDecodeError.TheVariants.{InvalidContent};
-
-    ghost from_gives = { λ error it. it ≡ InvalidContent error };
+    ghost from_gives = { λ error it. it ≡ refusal.InvalidContent error };
 
     fn from(error: Error) -> LooseDecodeError {
         LooseDecodeError::InvalidContent(error)
