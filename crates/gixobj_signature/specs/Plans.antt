@@ -1,5 +1,5 @@
 -- Plans of calls, where each answer chooses what follows.
-use Rattle.std.specs.Prelude.{◌≡◌, ◌⊎◌, Option, Some, None}
+use Rattle.std.specs.Prelude.{◌≡◌, ◌⊎◌, IfNone, Option, Some, None, ⊤}
 use Rattle.gixobj_signature.specs.Calls.{CallView, Answer}
 
 -- what is to be done: nothing, with this outcome; or a call, and then what its answer chooses; or nothing more, because memory ran out
@@ -19,6 +19,16 @@ abbrev pub BeginsPlan : {S R : Type 0} → (S → CallView → Answer → S → 
 BeginsPlan runs (done outcome) s t = t ≡ s
 BeginsPlan {S} runs (ask call next) s t = (t ≡ s) ⊎ ((answer : Answer) × (m : S) × runs s call answer m × BeginsPlan runs (next answer) m t)
 BeginsPlan runs no_more s t = t ≡ s
+
+-- the plan makes a call
+abbrev pub MakesCall : {R : Type 0} → Plan R → Type 0
+MakesCall (done outcome) = ⊥
+MakesCall (ask call next) = ⊤
+MakesCall no_more = ⊥
+
+-- memory ran out, so that there is no outcome, only where the plan makes a call
+abbrev pub TakesForCalls : {R : Type 0} → Plan R → Option R → Type 0
+TakesForCalls plan outcome = IfNone outcome (MakesCall plan)
 
 -- the plan is carried out where there is an outcome, and begun where memory ran out
 abbrev pub Goes : {S R : Type 0} → (S → CallView → Answer → S → Type 0) → Plan R → S → Option R → S → Type 0

@@ -10,7 +10,7 @@ use Rattle.bstr.specs.declared.bstr.BStr.{BStr}
 use Rattle.gixobj_signature.specs.Calls.{Answer, CallView, Failure, OutputView, failed, no_file, no_memory, no_time, not_spawned, not_told, output_view, ran}
 use Rattle.gixobj_report.specs.GpgReports.{gpg_report}
 use Rattle.gixobj_report.specs.Outcomes.{OutcomeView, judged, outcome_view}
-use Rattle.gixobj_signature.specs.Plans.{Goes, Plan, ask, done, no_more}
+use Rattle.gixobj_signature.specs.Plans.{Goes, Plan, TakesForCalls, ask, done, no_more}
 use Rattle.gixobj_report.specs.SshReports.{ssh_report}
 use Rattle.gixobj_signature.specs.declared.signature.Output.{Output}
 use Rattle.gixobj_signature.specs.declared.signature.RunError.{RunError}
@@ -131,6 +131,7 @@ pub record Verifies {S : Type 0} (runs : S → CallView → Answer → S → Typ
   pub format : Option Format
   pub is_format : IsFormatOf (bstr_bytes signature) format
   pub went : ComesOf runs (verify_plan (options_view options) (bstr_bytes signature) (signed_bytes signed) format) old result new
+  pub taken : TakesForCalls (verify_plan (options_view options) (bstr_bytes signature) (signed_bytes signed) format) (verify_view result)
 
 abbrev pub refused_run : RunError → Error
 refused_run (run.TemporaryFile why) = verify.TemporaryFile why

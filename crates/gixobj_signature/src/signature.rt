@@ -45,7 +45,7 @@ pub struct Call {
 /// What a program that ran to its end answered.
 #[derive(Clone, Debug, Drop, PartialEq, Eq)]
 pub struct Output {
-    /// Whether it says that it succeeded.
+    /// Whether it ended with status 0.
     pub success: bool,
     /// What it wrote on its standard output.
     pub stdout: Vec<u8>,
@@ -86,7 +86,8 @@ pub trait Runner {
     /// From this state, this call may have this answer, and then the runner is in that state.
     ghost runs: { Self → CallView → Answer → Self → Type 0 };
 
-    /// Runs the program of this call to its end, and tells what it answered, or why it didn't run so far.
+    /// Makes the files, runs the program with `environment` set for it alone, hands it `input`, and takes the files
+    /// away. Tells what it answered, or else the case of [`RunError`].
     fn run(&mut self, call: &Call) -> Result<Output, RunError>
         ensures { runs self.old (call_view call.now) (answer_view result) self.new };
 }

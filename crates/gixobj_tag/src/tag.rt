@@ -36,7 +36,7 @@ pub struct TagRef<'a> {
     pub name: BStr<'a>,
     /// The line of the tagger, white space and all, or none. [`TagRef::tagger`] takes it apart.
     pub tagger: Option<BStr<'a>>,
-    /// The message.
+    /// The message, without the newline before the signature, if there is one.
     pub message: BStr<'a>,
     /// The signature at the end of the tag, from its marker on, or none. [`TagRef::signature`] says of
     /// which format it is.
@@ -54,7 +54,7 @@ pub struct Tag {
     pub name: BString,
     /// Who made the tag, or none.
     pub tagger: Option<Signature>,
-    /// The message.
+    /// The message, without the newline before the signature, if there is one.
     pub message: BString,
     /// The signature, which is written behind the message and a newline, or none.
     pub signature: Option<BString>,
@@ -63,6 +63,8 @@ pub struct Tag {
 /// Access
 impl<'a> TagRef<'a> {
     /// The id of the object that is tagged. It takes no memory.
+    ///
+    /// The hex field `target` must be an id, as that of every tag that was read is.
     pub fn target(&self) -> ObjectId
         requires { IsHexOfAnId (tag_lines self.now).target }
         ensures { Spells (tag_lines self.now).target result }
@@ -98,6 +100,8 @@ impl<'a> TagRef<'a> {
 impl TagRef<'_> {
     /// The same tag, with parts of its own: the id, the tagger as it stands with its time, and copies of
     /// the rest. The time is the start of 1970 in UTC where its text says none.
+    ///
+    /// The hex field `target` must be an id, as that of every tag that was read is.
     ///
     /// `Malformed` where bytes follow the actor of the tagger's line, or it is none, and else
     /// `OutOfMemory` where memory runs out.

@@ -3,6 +3,7 @@ ghost use Rattle.std.specs.Prelude.{◌≡◌, Err, IfOk, MatchOption, ⊤};
 ghost use Rattle.std.specs.Option.{option_map};
 ghost use Rattle.bstr.specs.Owned.{bstring_bytes};
 ghost use Rattle.gixobj_signature.specs.Calls.{answer_view};
+ghost use Rattle.gixobj_signature.specs.Plans.{TakesForCalls};
 ghost use Rattle.gixobj_signature.specs.Signing.{IsFailed, Signs, confirms, gpg_plan, is_return_before, left_signature, literal_key, not_run_view, options_view, sign_plan, sign_view, signer_refusal, ssh_plan, without_returns};
 
 mod calls;
@@ -15,7 +16,7 @@ use gixobj_hash::{OutOfMemory, decode};
 use gixobj_text::signature::Format;
 use std::alloc::Global;
 
-/// Who signs, and how.
+/// Who signs, and how (git-config, `gpg.format`, `gpg.program`, `user.signingKey`).
 #[derive(Clone, Debug, Drop)]
 pub struct Options {
     /// The format of the signature.
@@ -34,7 +35,7 @@ pub struct Options {
 #[derive(Debug, Drop, thiserror::Error)]
 pub enum Error {
     /// A borrowed object couldn't be copied. No call was made.
-    #[error("not made owned: {0}")]
+    #[error("not copied: {0}")]
     Decode(decode::Error),
     /// What is to be signed couldn't be written. No call was made.
     #[error("not written: {0}")]
@@ -100,19 +101,20 @@ pub fn is_literal_ssh_key(key: &[u8]) -> Option<&[u8]>
 /// Has these bytes signed, by one call of the program, and answers the signature, without each return that stands
 /// directly before a newline. All that signs an object depends on it.
 ///
-/// `MissingSigningKey` where the key is empty, before any call. `TemporaryFile`, `Spawn` and `Communicate` where the
-/// runner says so, `Failed` where the program does. `MissingSignatureConfirmation` where no line that a program of
-/// OpenPGP or X.509 wrote on its standard error begins with `[GNUPG:] SIG_CREATED ` (gnupg, doc/DETAILS),
-/// `MissingSshSignature` where one of SSH left no file. `OutOfMemory` where memory runs out for the call or for the
-/// signature, or where the runner wants it.
+/// `MissingSigningKey` where the key is empty: then no call is made, and `OutOfMemory` never comes in its place.
+/// `TemporaryFile`, `Spawn` and `Communicate` where the runner says so, `Failed` where the program does.
+/// `MissingSignatureConfirmation` where no line that a program of OpenPGP or X.509 wrote on its standard error begins
+/// with `[GNUPG:] SIG_CREATED ` (gnupg, doc/DETAILS), `MissingSshSignature` where one of SSH left no file.
+/// `OutOfMemory` where memory runs out for the call or for the signature, or where the runner wants it.
 pub fn sign_payload<R: Runner>(
     alloc: Global,
     payload: &[u8],
     options: Options,
     runner: &mut R,
 ) -> Result<BString, Error>
-    ensures { Signs R.runs (sign_plan (options_view options) payload.now) runner.old result
+    ensures signed { Signs R.runs (sign_plan (options_view options) payload.now) runner.old result
         runner.new }
+    ensures taken { TakesForCalls (sign_plan (options_view options) payload.now) (sign_view result) }
 {
     if options.signing_key.is_empty() {
         return Err(Error::MissingSigningKey);

@@ -7,7 +7,8 @@ use bstr::BString;
 use gixobj_hash::OutOfMemory;
 use std::alloc::Global;
 
-/// What a signature signs: the bytes of an object but for those of the signature, in two pieces, which it borrows.
+/// What a signature signs: the bytes of an object but for those of the signature, in two pieces, which it borrows
+/// (gitformat-signature).
 #[derive(Clone, Copy, Debug, PartialEq, Eq, Hash)]
 pub struct SignedData<'a> {
     pub(crate) before: &'a [u8],
@@ -24,7 +25,7 @@ impl<'a> SignedData<'a> {
 
     /// A copy of the bytes, in one piece.
     ///
-    /// `OutOfMemory` where it finds no memory.
+    /// `OutOfMemory` where memory runs out for the copy.
     pub fn to_bstring(&self, alloc: Global) -> Result<BString, OutOfMemory>
         ensures { IfOk result (λ it. bstring_bytes it ≡ signed_bytes self.now) }
     {

@@ -2,7 +2,8 @@
 ghost use Rattle.std.specs.Prelude.{◌≡◌, Some};
 ghost use Rattle.gixobj_signature.specs.SignedBytes.{signed_bytes};
 ghost use Rattle.gixobj_signature.specs.Verifiers.{by_open_pgp, by_ssh, by_x509, options_view, program_of, ssh_of, ssh_program_of, verifier_view};
-ghost use Rattle.gixobj_signature.specs.Verifying.{Asked, ComesOf, Verifies, verify_plan};
+ghost use Rattle.gixobj_signature.specs.Plans.{TakesForCalls};
+ghost use Rattle.gixobj_signature.specs.Verifying.{Asked, ComesOf, Verifies, verify_plan, verify_view};
 ghost use Rattle.gixobj_signature.specs.Calls.{call_view};
 
 mod gpg;
@@ -158,9 +159,10 @@ impl SignedData<'_> {
     /// Has a signature of these bytes verified by the program of the options, and tells what comes of it.
     ///
     /// `UnsupportedFormat` where the signature begins with no marker, and `FormatMismatch` where its marker is not of
-    /// the program's format: then no call is made, and no memory is taken. `TemporaryFile`, `Spawn`, `Communicate` and
-    /// `CommitTime` where the runner says so. `OutOfMemory` where memory runs out for a call or for what it
-    /// answered, or where the runner wants it. A signature that isn't accepted is no error: [`Outcome::is_valid`] tells.
+    /// the program's format: then no call is made, and `OutOfMemory` never comes in their place. `TemporaryFile`,
+    /// `Spawn`, `Communicate` and `CommitTime` where the runner says so. `OutOfMemory` where memory runs out for a
+    /// call or for what it answered, or where the runner wants it. A signature that isn't accepted is no error:
+    /// [`Outcome::is_valid`] tells.
     ///
     /// A program of SSH is asked for the principals of the key, and then for each of them in turn until one is
     /// accepted. Where none is named it is asked whether the signature holds for any key, and then the outcome isn't
@@ -190,8 +192,10 @@ fn verify_as<R: Runner>(
     options: Options,
     runner: &mut R,
 ) -> Result<Outcome, Error>
-    ensures { ComesOf R.runs (verify_plan (options_view options) signature.now
+    ensures came { ComesOf R.runs (verify_plan (options_view options) signature.now
         (signed_bytes signed.now) (Some format)) runner.old result runner.new }
+    ensures taken { TakesForCalls (verify_plan (options_view options) signature.now
+        (signed_bytes signed.now) (Some format)) (verify_view result) }
 {
     match verifier_of(options) {
         Verifier::OpenPgp(by) => verify_open_pgp(alloc, &by, format, signature, signed, runner),

@@ -1,5 +1,5 @@
 //! The words of calls and what is set for them, copied.
-ghost use Rattle.std.specs.Prelude.{◌≡◌, IfOk, map};
+ghost use Rattle.std.specs.Prelude.{◌≡◌, ◌≢◌, [], IfOk, OnErr, map};
 ghost use Rattle.bstr.specs.Owned.{bstring_bytes};
 ghost use Rattle.gixobj_signature.specs.Calls.{pair_view, text, word_view};
 
@@ -8,16 +8,18 @@ use bstr::{BString, ByteSlice};
 use gixobj_hash::OutOfMemory;
 use std::alloc::Global;
 
-/// The word of these bytes.
+/// The word of these bytes. `OutOfMemory` where a copy of them finds no memory.
 pub fn text(alloc: Global, bytes: &[u8]) -> Result<Word, OutOfMemory>
     ensures { IfOk result (λ it. word_view it ≡ text bytes.now) }
 {
     Ok(Word::Text(BString::from_slice(alloc, bytes)?))
 }
 
-/// A word for each of these texts.
+/// A word for each of these texts. `OutOfMemory` where they find no memory, only where there is a text.
 pub fn words_of(alloc: Global, texts: &[BString]) -> Result<Vec<Word>, OutOfMemory>
-    ensures { IfOk result (λ it. map word_view it.items ≡ map text (map bstring_bytes texts.now)) }
+    ensures words { IfOk result (λ it. map word_view it.items
+        ≡ map text (map bstring_bytes texts.now)) }
+    ensures taken { OnErr result (texts.now ≢ []) }
 {
     let mut words = Vec::new(alloc);
     for one in texts {
@@ -26,12 +28,13 @@ pub fn words_of(alloc: Global, texts: &[BString]) -> Result<Vec<Word>, OutOfMemo
     Ok(words)
 }
 
-/// Copies of these names and values.
+/// Copies of these names and values. `OutOfMemory` where they find no memory, only where there is a name.
 pub fn environment_of(
     alloc: Global,
     environment: &[(BString, BString)],
 ) -> Result<Vec<(BString, BString)>, OutOfMemory>
-    ensures { IfOk result (λ it. map pair_view it.items ≡ map pair_view environment.now) }
+    ensures copied { IfOk result (λ it. map pair_view it.items ≡ map pair_view environment.now) }
+    ensures taken { OnErr result (environment.now ≢ []) }
 {
     let mut copies = Vec::new(alloc);
     for one in environment {

@@ -8,7 +8,8 @@ ghost use Rattle.gixobj_text.specs.declared.signature.Format.TheVariants as form
 ghost use Rattle.gixobj_signature.specs.SignedBytes.{signed_bytes};
 ghost use Rattle.gixobj_signature.specs.Verifiers.{by_open_pgp, by_x509, program_of};
 ghost use Rattle.gixobj_signature.specs.VerifyingCalls.{open_pgp_call, open_pgp_words, whole_call, x509_call, x509_options, x509_words};
-ghost use Rattle.gixobj_signature.specs.Verifying.{ComesOf, gpg_verified, gpg_verify_plan, reported, verify_plan};
+ghost use Rattle.gixobj_signature.specs.Plans.{TakesForCalls};
+ghost use Rattle.gixobj_signature.specs.Verifying.{ComesOf, gpg_verified, gpg_verify_plan, reported, verify_plan, verify_view};
 
 use super::{Error, Program, ask_one};
 use crate::signature::words::{environment_of, text, words_of};
@@ -28,8 +29,10 @@ pub(crate) fn verify_open_pgp<R: Runner>(
     signed: &SignedData<'_>,
     runner: &mut R,
 ) -> Result<Outcome, Error>
-    ensures { ComesOf R.runs (verify_plan (by_open_pgp (program_of by.now)) signature.now
+    ensures came { ComesOf R.runs (verify_plan (by_open_pgp (program_of by.now)) signature.now
         (signed_bytes signed.now) (Some format)) runner.old result runner.new }
+    ensures taken { TakesForCalls (verify_plan (by_open_pgp (program_of by.now)) signature.now
+        (signed_bytes signed.now) (Some format)) (verify_view result) }
 {
     match format {
         Format::OpenPgp => by_open_pgp_call(alloc, by, signature, signed, runner),
@@ -49,8 +52,10 @@ pub(crate) fn verify_x509<R: Runner>(
     signed: &SignedData<'_>,
     runner: &mut R,
 ) -> Result<Outcome, Error>
-    ensures { ComesOf R.runs (verify_plan (by_x509 (program_of by.now)) signature.now
+    ensures came { ComesOf R.runs (verify_plan (by_x509 (program_of by.now)) signature.now
         (signed_bytes signed.now) (Some format)) runner.old result runner.new }
+    ensures taken { TakesForCalls (verify_plan (by_x509 (program_of by.now)) signature.now
+        (signed_bytes signed.now) (Some format)) (verify_view result) }
 {
     match format {
         Format::X509 => by_x509_call(alloc, by, signature, signed, runner),

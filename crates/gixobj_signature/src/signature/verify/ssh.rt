@@ -8,7 +8,8 @@ ghost use Rattle.gixobj_report.specs.declared.report.TrustLevel.TheVariants as t
 ghost use Rattle.gixobj_signature.specs.SignedBytes.{signed_bytes};
 ghost use Rattle.gixobj_signature.specs.Verifiers.{by_ssh, ssh_of, ssh_program_of};
 ghost use Rattle.gixobj_signature.specs.VerifyingCalls.{novalidate_call, principal_call, principals_call};
-ghost use Rattle.gixobj_signature.specs.Verifying.{Asked, ComesOf, accepts, human, lossy, principals_in, reported, rest_plan, ssh_verified, ssh_verify_plan, tries, verify_plan};
+ghost use Rattle.gixobj_signature.specs.Plans.{TakesForCalls};
+ghost use Rattle.gixobj_signature.specs.Verifying.{Asked, ComesOf, accepts, human, lossy, principals_in, reported, rest_plan, ssh_verified, ssh_verify_plan, tries, verify_plan, verify_view};
 ghost use Rattle.gixobj_hash.specs.Texts.{is_filled};
 
 mod calls;
@@ -31,8 +32,10 @@ pub(crate) fn verify_if_ssh<R: Runner>(
     signed: &SignedData<'_>,
     runner: &mut R,
 ) -> Result<Outcome, Error>
-    ensures { ComesOf R.runs (verify_plan (by_ssh (ssh_program_of by.now) (ssh_of by.now))
+    ensures came { ComesOf R.runs (verify_plan (by_ssh (ssh_program_of by.now) (ssh_of by.now))
         signature.now (signed_bytes signed.now) (Some format)) runner.old result runner.new }
+    ensures taken { TakesForCalls (verify_plan (by_ssh (ssh_program_of by.now) (ssh_of by.now))
+        signature.now (signed_bytes signed.now) (Some format)) (verify_view result) }
 {
     match format {
         Format::Ssh => verify_ssh(alloc, by, signature, signed, runner),

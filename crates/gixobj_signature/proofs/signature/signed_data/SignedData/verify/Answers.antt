@@ -14,4 +14,5 @@ returns-in-None g c = record {
   is_format = subst (λ (bytes : List ℕ). BeginsWithNoMarker bytes) c.as_bytes.ensures c.in-None.ensures.none;
   went = subst (λ (plan : Plan Verified). Goes g.R.Runner.runs plan c.args.runner.now (Some unsupported) c.args.runner.now)
       (sym (no_plan (options_view c.args.options) (bstr_bytes c.args.signature) (signed_bytes c.args.self.now))) (refl, refl);
+  taken = tt;
 }
