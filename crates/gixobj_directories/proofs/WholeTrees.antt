@@ -1,7 +1,7 @@
 -- Trees of directories that go out as they stand: in what order they come, and how they fill the pairs that were made for them.
 use mathlib.Core.Bool.{true≢false}
 use Rattle.std.proofs.Common.{◌≡◌, ◌≢◌, ◌∙◌, ◌≤◌, ◌+◌, ℕ, inl, inr, Bool, true, false, not, cond, List, [], ◌∷◌, ◌++◌, Option, Some, None, length, refl, sym, ap, subst, arith, append_assoc, append-nil, length-append}
-use Rattle.std.specs.Prelude.{◌&&◌, ◌==◌, IfSome, IsFalse, is_some}
+use Rattle.std.specs.Prelude.{◌&&◌, ◌==◌, IsFalse}
 use Rattle.std.specs.List.{AllByRecursion}
 use Rattle.std.specs.Option.{option_copied}
 use Rattle.std.proofs.lemmas.Bool.{and_parts}
@@ -14,8 +14,7 @@ use Rattle.gixobj_tree.specs.Entries.{EachLater, EntryView, Pair}
 use Rattle.gixobj_tree.specs.EntryOrder.{same_tree}
 use Rattle.gixobj_files.specs.Editing.{has_tree, same_name}
 use Rattle.gixobj_files.specs.Files.{Path, is_null}
-use Rattle.gixobj_files.specs.HandingOut.{Leaves, Walks, emptied, end, leaves, shut, unchanged, written}
-use Rattle.gixobj_files.specs.Opening.{Dirs, in_dir}
+use Rattle.gixobj_files.specs.HandingOut.{Leaves, Walks, end, leaves, shut}
 use Rattle.gixobj_files.proofs.OpenedFiles.{name_itself, name_other}
 use Rattle.gixobj_files.proofs.Sublists.{all_weaker}
 use Rattle.gixobj_directories.specs.declared.open.Child.{Child}
@@ -160,36 +159,9 @@ whole_goes ds tree base is whole =
       adds = ap wholes is ∙ wholes_alone tree base true whole;
     }
 
--- no directory that goes out is shut
-leaves_open : (dirs bases : Dirs) (ps : List Pair) (own : List EntryView) (n : ℕ) → Leaves dirs bases ps own n → dirs [] ≡ None → ⊥
-leaves_open dirs bases ps own n (leaves d b items below os m is walk) none = let both : Some items ≡ None = sym is ∙ none in cc both
-
--- where nothing is open below, entries without null ids stay as they are
-alone_walk : (dirs bases : Dirs) (es : List EntryView) (ps : List Pair) (own : List EntryView) (n : ℕ) → Walks dirs bases es ps own n → ((name : List ℕ) → dirs (name ∷ []) ≡ None) → AllByRecursion (λ e. IsFalse (is_null e.id)) es → own ≡ es
-alone_walk dirs bases es ps own n (end d b) alone filled = refl
-alone_walk dirs bases es ps own n (shut d b e rest below os m none walk) alone filled = ap (λ k. cond k [] (e ∷ []) ++ os) filled.0 ∙ ap (λ xs. e ∷ xs) (alone_walk d b rest below os m walk alone filled.1)
-alone_walk dirs bases es ps own n (emptied d b e rest inner below os i m found walk) alone filled = absurd (leaves_open (in_dir e.name d) (in_dir e.name b) inner [] i found (alone e.name))
-alone_walk dirs bases es ps own n (unchanged d b e first rest more inner below os i m found same walk) alone filled = absurd (leaves_open (in_dir e.name d) (in_dir e.name b) inner (first ∷ more) i found (alone e.name))
-alone_walk dirs bases es ps own n (written d b e first rest more inner below os i m id found changed walk) alone filled = absurd (leaves_open (in_dir e.name d) (in_dir e.name b) inner (first ∷ more) i found (alone e.name))
-
-some_is : (xs ys : List EntryView) → Some xs ≡ Some ys → xs ≡ ys
+-- of two lists
+pub some_is : (xs ys : List EntryView) → Some xs ≡ Some ys → xs ≡ ys
 some_is xs ys is = cc is
-
-alone_own : (dirs bases : Dirs) (ps : List Pair) (own : List EntryView) (n : ℕ) (es : List EntryView) → Leaves dirs bases ps own n → dirs [] ≡ Some es → ((name : List ℕ) → dirs (name ∷ []) ≡ None) → AllByRecursion (λ e. IsFalse (is_null e.id)) es → own ≡ es
-alone_own dirs bases ps own n es (leaves d b items below os m is walk) there alone filled =
-    let same = some_is items es (sym is ∙ there) in
-    alone_walk d b items below os m walk alone (subst (AllByRecursion (λ e. IsFalse (is_null e.id))) (sym same) filled) ∙ same
-
--- the own tree of one that goes out as it stands
-pub whole_own : (ds : Opened) (tree base : List EntryView) → ds ≡ opened tree base [] → is_whole (tree, base) ≡ true → (ps : List Pair) (own : List EntryView) (n : ℕ) → Leaves (dirs_of ds) (bases_of ds) ps own n → own ≡ tree
-whole_own ds tree base is whole ps own n found =
-    alone_own (dirs_of ds) (bases_of ds) ps own n tree found (ap (λ (d : Opened). dirs_of d []) is) (λ name. ap (λ (d : Opened). dirs_of d (name ∷ [])) is) (whole_goes ds tree base is whole).storing
-
--- that of a directory that is found to go out so, or not
-pub stands_own : {X : Type 0} (seen : X → List EntryView) (ds : Opened) (found : Option X) → IfSome found (λ x. (base : List EntryView) × (ds ≡ opened (seen x) base []) × (is_whole (seen x, base) ≡ true)) → is_some found ≡ true → (es : List EntryView) → dirs_of ds [] ≡ Some es
-    → (ps : List Pair) (own : List EntryView) (n : ℕ) → Leaves (dirs_of ds) (bases_of ds) ps own n → own ≡ es
-stands_own seen ds None h stands es there ps own n goes = absurd (true≢false (sym stands))
-stands_own seen ds (Some x) h stands es there ps own n goes = whole_own ds (seen x) h.0 h.1 h.2 ps own n goes ∙ some_is (seen x) es (sym (ap (λ (d : Opened). dirs_of d []) h.1) ∙ there)
 
 -- one pair that has its tree, and one that gets the first of these
 pub fills_kept : (q : Pair) (rest ps : List Pair) (ts : List (List EntryView)) → q.1 ≢ [] → Fills (q ∷ rest) ts ps → (more : List Pair) × (ps ≡ q ∷ more) × Fills rest ts more

@@ -143,11 +143,6 @@ impl Open {
         }
     }
 
-    /// What its memory is taken from.
-    pub fn alloc(&self) -> Global {
-        *self.tree.entries.allocator()
-    }
-
     /// The tree of the directory at a path, where that is open. Without names that is the directory's own.
     ///
     /// It takes no memory.

@@ -167,33 +167,35 @@ fn visit<E, F: FnMut(&Tree) -> Result<ObjectId, E>>(
     Ok(Some(id))
 }
 
-/// As [`leaves`], with a copy of the directory's own tree. One that goes out as it stands is copied at once.
+/// As [`leaves`], with a copy of the directory's own tree, and whether that is the tree that it has: one that goes
+/// out as it stands is copied at once.
 fn leaves_copied<E, F: FnMut(&Tree) -> Result<ObjectId, E>>(
     alloc: Global,
     node: &Open,
     out: &mut F,
     pairs: &mut Vec<(ObjectId, Tree)>,
     saved: &mut usize,
-) -> Result<Tree, WriteError<E>>
+) -> Result<(Tree, bool), WriteError<E>>
     requires callable { IsCallableOnTrees F.pre (answered F.FnMut) out.old }
-    ensures ok { IfOk result (λ own. (below : List Pair) × (count : ℕ)
-        × Leaves (dirs_of node.now) (bases_of node.now) below own count
+    ensures ok { IfOk result (λ it. (below : List Pair) × (count : ℕ)
+        × Leaves (dirs_of node.now) (bases_of node.now) below it.0 count
         × (saved.new ≡ raised saved.old count)
         × Adds pairs.old.items pairs.new.items (wholes (inside_of node.now)) below
         × FoldsTo (answered F.FnMut) out.old below out.new) }
-    ensures storable { IfOk result IsStorable }
+    ensures storable { IfOk result (λ it. IsStorable it.0) }
+    ensures stands { IfOk result (λ it. IsTrue it.1 → dirs_of node.now [] ≡ Some it.0) }
     ensures stopped { IfErr result (Stopped (answered F.FnMut) (denied F.FnMut)
         (λ ps. (own : List EntryView) × (count : ℕ)
         × Leaves (dirs_of node.now) (bases_of node.now) ps own count) out.old out.new) }
 {
     if let Some(tree) = node.whole() {
         let entries = copies(alloc, &tree.entries)?;
-        return Ok(Tree { entries });
+        return Ok((Tree { entries }, true));
     }
     let base = base_of(node);
     let own = leaves(alloc, node, base, out, pairs, saved)?;
     let tree = own.into_tree(alloc, base)?;
-    Ok(tree)
+    Ok((tree, false))
 }
 
 /// The entries of the tree.
@@ -338,10 +340,9 @@ pub fn write_all<E, F: FnMut(&Tree) -> Result<ObjectId, E>>(
 {
     let mut trees = Vec::new(alloc);
     let mut saved = 0;
-    let own = leaves_copied(alloc, node, out, &mut trees, &mut saved)?;
+    let (own, stands) = leaves_copied(alloc, node, out, &mut trees, &mut saved)?;
     let mut wholes = Vec::with_capacity(alloc, trees.len())?;
     let id = ask(&own, out, &mut trees)?;
-    let stands = node.whole().is_some();
     become_own(&mut node.tree, &own, stands);
     let children = mem::replace(&mut node.children, Vec::new(alloc));
     take_wholes(children, &mut wholes);

@@ -228,7 +228,7 @@ impl<S: Find> Editor<S> {
             RefusesUpsert (names_of path.now)) }
         ensures unasked { IfErr result (λ error. IsForAName error → self.new ≡ self.old) }
     {
-        let alloc = self.root.alloc();
+        let alloc = *self.prefix.allocator();
         check_names(path)?;
         let Some((_last, directory)) = path.split_last() else {
             return Ok(());
@@ -263,7 +263,9 @@ impl<S: Find> Editor<S> {
         ensures refusal { IfErr result (RefusedIn (meaning S.objects S.may_fail) self.old
             (RefusesRemoval IsNoTree) (names_of path.now)) }
     {
+        let alloc = *self.prefix.allocator();
         open_for_removal(
+            alloc,
             &mut self.root,
             path,
             Unasked::Opened,
@@ -287,14 +289,16 @@ impl<S: Find> Editor<S> {
         ensures refusal { IfErr result (RefusedIn (meaning S.objects S.may_fail) self.old
             RefusesLeafRemoval (names_of path.now)) }
     {
+        let alloc = *self.prefix.allocator();
         open_for_removal(
+            alloc,
             &mut self.root,
             path,
             Unasked::Left,
             &self.store,
             &mut self.lookups,
         )?;
-        check_leaf(&self.root, path)?;
+        check_leaf(alloc, &self.root, path)?;
         self.root.take(path);
         Ok(())
     }
@@ -325,9 +329,10 @@ impl<S: Clone> Editor<S> {
         requires { (copied : S) → S.is_clone self.now.store copied → copied ≡ self.now.store }
         ensures { IfOk result (λ it. it ≡ self.now) }
     {
-        let root = self.root.copy(self.root.alloc())?;
+        let alloc = *self.prefix.allocator();
+        let root = self.root.copy(alloc)?;
         let store = self.store.clone()?;
-        let prefix = copy_names(self.root.alloc(), &self.prefix)?;
+        let prefix = copy_names(alloc, &self.prefix)?;
         Ok(Editor {
             root,
             store,
@@ -385,7 +390,7 @@ impl<S> Editor<S> {
             (HandsOutSome (open_dirs self.old) (open_bases self.old)) out.old out.new) }
         ensures unchanged { OnErr result (self.new ≡ self.old) }
     {
-        let alloc = self.root.alloc();
+        let alloc = *self.prefix.allocator();
         write_all(alloc, &mut self.root, out)
     }
 }

@@ -140,7 +140,7 @@ impl<S: Find> Editor<S> {
             RefusesCursor (names_of path.now)) }
         ensures unasked { IfErr result (λ error. IsForAName error → self.new ≡ self.old) }
     {
-        let alloc = self.root.alloc();
+        let alloc = *self.prefix.allocator();
         check_names(path)?;
         let null = ObjectId::null(self.object_hash);
         self.root.open_along(alloc, path, Unasked::Opened, &self.store, &mut self.lookups)?;
@@ -161,7 +161,7 @@ impl<S> Editor<S> {
         ensures idle { (at : Path) → open_bases self.now at
             ≡ opened_bases (open_dirs self.now) (open_dirs self.now) (open_bases self.now) at }
     {
-        join_paths(self.root.alloc(), &self.prefix, path)
+        join_paths(*self.prefix.allocator(), &self.prefix, path)
     }
 
     /// The entry at a path from the prefix.
@@ -190,7 +190,7 @@ impl<S> Editor<S> {
             (in_path self.old.prefix (open_bases self.old))) out.old out.new) }
         ensures unchanged { OnErr result (self.new ≡ self.old) }
     {
-        let alloc = self.root.alloc();
+        let alloc = *self.prefix.allocator();
         write_at(alloc, &mut self.root, &self.prefix, out)
     }
 }

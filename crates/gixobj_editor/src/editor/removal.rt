@@ -25,6 +25,7 @@ use std::alloc::{AllocError, Global};
 
 /// Opens the directories above a path, as far as there are any, and judges each name that it comes to.
 pub(crate) fn open_for_removal<S: Find>(
+    alloc: Global,
     root: &mut Open,
     path: &[BString],
     unasked: Unasked,
@@ -47,7 +48,6 @@ pub(crate) fn open_for_removal<S: Find>(
     ensures bases { (at : Path) → bases_of root.new at
         ≡ opened_bases (dirs_of root.old) (dirs_of root.new) (bases_of root.old) at }
 {
-    let alloc = root.alloc();
     let (directory, refused) = judged(path);
     root.open_along(alloc, directory, unasked, store, lookups)?;
     check_reached(root, directory, refused)
@@ -68,7 +68,7 @@ fn check_reached(root: &Open, directory: &[BString], names: &[BString]) -> Resul
 }
 
 /// Refuses a path at which a directory is.
-pub(crate) fn check_leaf(root: &Open, path: &[BString]) -> Result<(), Error>
+pub(crate) fn check_leaf(alloc: Global, root: &Open, path: &[BString]) -> Result<(), Error>
     ensures accepted { OnOk result ((e : EntryView)
         → entry_at (names_of path.now) (dirs_of root.now) ≡ Some e → is_tree_mode e.mode ≡ false) }
     ensures refusal { IfErr result (λ error. (e : EntryView)
@@ -81,7 +81,7 @@ pub(crate) fn check_leaf(root: &Open, path: &[BString]) -> Result<(), Error>
     if !entry.mode.is_tree() {
         return Ok(());
     }
-    let rela_path = join_names(root.alloc(), path)?;
+    let rela_path = join_names(alloc, path)?;
     Err(Error::CannotRemoveNonLeaf { rela_path })
 }
 

@@ -1,4 +1,4 @@
-use Rattle.std.proofs.Common.{◌∙◌, ℕ, [], List, Ok, Err, refl, sym, ap, subst, append-nil}
+use Rattle.std.proofs.Common.{◌∙◌, ℕ, [], List, Some, Ok, Err, refl, sym, ap, subst, append-nil}
 use Rattle.std.specs.Fn.{CalledAt}
 use Rattle.gixobj_tree.specs.Entries.{EntryView}
 use Rattle.gixobj_directories.specs.Calls.{IsStorable}
@@ -7,6 +7,7 @@ use Rattle.gixobj_directories.specs.Nested.{Opened, bases_of, dirs_of}
 use Rattle.gixobj_entries.specs.OwnTrees.{so_far}
 use Rattle.gixobj_directories.specs.Wholes.{Adds, inside_of, wholes}
 use Rattle.gixobj_directories.proofs.Handing.{err_weaker, stopped_here}
+use Rattle.gixobj_directories.proofs.Levels.{level_root}
 use Rattle.gixobj_directories.proofs.WholeTrees.{adds_none, whole_goes}
 use Rattle.gixobj_directories.proofs.write.leaves_copied.Goals as goal
 
@@ -28,6 +29,11 @@ returns-in-Some-clause-ok g c =
 
 pub returns-in-Some-clause-storable : goal.returns-in-Some-clause-storable
 returns-in-Some-clause-storable g c = subst IsStorable (sym ((c.in_ok-entries.ensures {u = tt}) ∙ c.deref.ensures.value ∙ c.tree.view_is)) (c.in-Some.ensures {u = tt}).storable
+
+pub returns-in-Some-clause-stands : goal.returns-in-Some-clause-stands
+returns-in-Some-clause-stands g c = λ _.
+    let some = (c.in-Some.ensures {u = tt}).some in
+    level_root c.args.node.now c.in-Some.tree.now [] (sym some.1) ∙ ap Some (sym ((c.in_ok-entries.ensures {u = tt}) ∙ c.deref.ensures.value ∙ c.tree.view_is))
 
 pub returns-in_err-tree-clause-stopped : goal.returns-in_err-tree-clause-stopped
 returns-in_err-tree-clause-stopped g c =

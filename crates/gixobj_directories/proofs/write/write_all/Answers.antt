@@ -1,6 +1,5 @@
 use Rattle.std.proofs.Common.{arith, ◌≡◌, ◌≢◌, ◌∙◌, ◌++◌, ℕ, length, [], ◌∷◌, List, Ok, Err, refl, sym, ap, subst, append-nil}
 use Rattle.std.specs.Fn.{CalledAt}
-use denote.Ref.{Bor}
 use Rattle.gixobj_tree.specs.Entries.{EachLater, EntryView, Pair}
 use Rattle.gixobj_hash.specs.declared.hash.object_id.ObjectId.{ObjectId}
 use Rattle.gixobj_directories.specs.Handing.{Stopped}
@@ -18,7 +17,7 @@ use Rattle.gixobj_directories.proofs.BaseSteps.{written_base}
 use Rattle.gixobj_directories.proofs.Levels.{based_root, level_root}
 use Rattle.gixobj_directories.proofs.Ordered.{level_apart}
 use Rattle.gixobj_entries.proofs.SiftedEntries.{leaves_sifted}
-use Rattle.gixobj_directories.proofs.WholeTrees.{fewer_wholes, stands_own}
+use Rattle.gixobj_directories.proofs.WholeTrees.{fewer_wholes, some_is}
 use Rattle.gixobj_directories.proofs.write.write_all.Goals as goal
 
 pub returns-in_err-own-clause-stopped : goal.returns-in_err-own-clause-stopped
@@ -107,9 +106,8 @@ become_own-requires-clause-filled g c = (c.in_ok-own.ensures {u = tt}).storable.
 
 pub become_own-requires-clause-stands : goal.become_own-requires-clause-stands
 become_own-requires-clause-stands g c = λ stands.
-    let ok = (c.in_ok-own.ensures {u = tt}).ok in
     let node = c.args.node.now in
-    stands_own (λ (t : Bor (List EntryView)). t.now) node c.whole.result c.whole.ensures.some (sym c.is_some-stands.ensures ∙ stands) c.node.inside.tree (level_root node c.node.inside.tree (parts c.node.inside.children.items) c.node.view_is) ok.0 c.in_ok-own.own ok.1 ok.2
+    some_is c.in_ok-own.own c.node.inside.tree (sym ((c.in_ok-own.ensures {u = tt}).stands stands) ∙ level_root node c.node.inside.tree (parts c.node.inside.children.items) c.node.view_is)
 
 pub take_wholes-requires-clause-apart : goal.take_wholes-requires-clause-apart
 take_wholes-requires-clause-apart g c = subst (λ (cs : Vec Child Global). EachLater (λ x y. x.0 ≢ y.0) (parts cs.items)) (sym c.replace-children.ensures.value) (level_apart c.node.invariant)
