@@ -9,7 +9,6 @@ pub use Rattle.gixobj_commit.specs.CommitViews
 pub use Rattle.gixobj_commit.specs.CommitWriting
 pub use Rattle.gixobj_commit.specs.ExtraHeaders
 pub use Rattle.gixobj_commit.specs.HeadersLeft
-pub use Rattle.gixobj_commit.specs.Lines
 pub use Rattle.gixobj_commit.specs.Mergetags
 pub use Rattle.gixobj_commit.specs.ParentsLeft
 pub use Rattle.gixobj_commit.specs.Rewriting
@@ -69,6 +68,8 @@ pub use Rattle.gixobj_import.specs.Edited
 pub use Rattle.gixobj_import.specs.Imports
 pub use Rattle.gixobj_import.specs.Steps
 pub use Rattle.gixobj_import.specs.declared as import
+pub use Rattle.gixobj_line.specs.Lines
+pub use Rattle.gixobj_line.specs.declared as line
 pub use Rattle.gixobj_mode.specs.Mode
 pub use Rattle.gixobj_mode.specs.ModeNumber
 pub use Rattle.gixobj_mode.specs.declared as mode

@@ -9,7 +9,6 @@ pub use Rattle.gixobj_commit.specs.CommitViews
 pub use Rattle.gixobj_commit.specs.CommitWriting
 pub use Rattle.gixobj_commit.specs.ExtraHeaders
 pub use Rattle.gixobj_commit.specs.HeadersLeft
-pub use Rattle.gixobj_commit.specs.Lines
 pub use Rattle.gixobj_commit.specs.Mergetags
 pub use Rattle.gixobj_commit.specs.ParentsLeft
 pub use Rattle.gixobj_commit.specs.Rewriting
@@ -29,6 +28,8 @@ pub use Rattle.gixobj_hash.specs.Kind
 pub use Rattle.gixobj_hash.specs.Optional
 pub use Rattle.gixobj_hash.specs.Texts
 pub use Rattle.gixobj_hash.specs.declared as hash
+pub use Rattle.gixobj_line.specs.Lines
+pub use Rattle.gixobj_line.specs.declared as line
 pub use Rattle.gixobj_object.specs.BorrowedObjects
 pub use Rattle.gixobj_object.specs.Checksums
 pub use Rattle.gixobj_object.specs.EntryGiving

@@ -11,10 +11,10 @@ use Rattle.gixobj_hash.specs.Hash.Hex.{IsHexOf}
 use Rattle.gixobj_hash.specs.declared.hash.kind.Kind.{Kind}
 use Rattle.gixobj_commit.specs.Commit.{AreHeaderTexts, BeginsCommit, CommitLines, IsCommitText, IsEncoding, before_encoding, encoding_text, ids_text, parent_text}
 use Rattle.gixobj_commit.specs.Gathering.{gather, gathered, nothing}
-use Rattle.gixobj_commit.specs.Lines.{HasLine, LineView, author_comes, committer_comes, encoding_comes, first_header_comes, first_message_comes, header_comes, header_line, message_comes, parent_comes, tree_comes}
+use Rattle.gixobj_line.specs.Lines.{HasLine, LineView, author_comes, committer_comes, encoding_comes, first_header_comes, first_message_comes, header_comes, header_line, message_comes, parent_comes, tree_comes}
 use Rattle.gixobj_actor.specs.Actor.{NamesActor}
-use Rattle.gixobj_commit.specs.declared.lines.State.{State}
-use Rattle.gixobj_commit.specs.declared.lines.State.TheVariants as state
+use Rattle.gixobj_line.specs.declared.lines.State.{State}
+use Rattle.gixobj_line.specs.declared.lines.State.TheVariants as state
 
 -- ---- what stands at each place
 

@@ -4,10 +4,8 @@ pub mod CommitsRead
 mod HeaderSearches
 pub mod HeadersFound
 mod HexFields
-mod LineRefusals
 pub mod LinesTold
 mod MergetagsFound
-pub mod OneLine
 pub mod ParentHexes
 pub mod WholeCommits
 mod WritingBack

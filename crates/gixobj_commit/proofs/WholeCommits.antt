@@ -15,13 +15,13 @@ use Rattle.gixobj_hash.specs.declared.decode.Error.TheVariants.{Malformed, OutOf
 use Rattle.gixobj_hash.specs.declared.hash.kind.Kind.{Kind}
 use Rattle.gixobj_commit.proofs.CommitsRead.{Reads, encoding_more, first_named, put_header, reads_from_start, reads_line, some_header}
 use Rattle.gixobj_commit.proofs.LinesTold.{text_told}
-use Rattle.gixobj_commit.proofs.OneLine.{no_line_of_nothing, one_line}
+use Rattle.gixobj_line.proofs.OneLine.{no_line_of_nothing, one_line}
 use Rattle.gixobj_commit.specs.Commit.{CommitLines, IsCommitText, IsNoCommitText, ReachesHeader, ReachesSecondParent, RefusesCommit, encoding_lines, lines_of_commit, parent_text}
 use Rattle.gixobj_commit.specs.Gathering.{Gathers, TakesMemory, gather, gathered, nothing}
-use Rattle.gixobj_commit.specs.Lines.{HasLine, LineView, MayFold, RefusesLine, author_comes, author_line, committer_comes, committer_line, encoding_comes, first_header_comes, first_message_comes, header_comes, header_line, message_comes, message_line, parent_comes, parent_line, tree_comes, tree_line}
+use Rattle.gixobj_line.specs.Lines.{HasLine, LineView, MayFold, RefusesLine, author_comes, author_line, committer_comes, committer_line, encoding_comes, first_header_comes, first_message_comes, header_comes, header_line, message_comes, message_line, parent_comes, parent_line, tree_comes, tree_line}
 use Rattle.gixobj_hash.specs.Texts.{IsFree}
-use Rattle.gixobj_commit.specs.declared.lines.State.{State}
-use Rattle.gixobj_commit.specs.declared.lines.State.TheVariants as state
+use Rattle.gixobj_line.specs.declared.lines.State.{State}
+use Rattle.gixobj_line.specs.declared.lines.State.TheVariants as state
 
 -- ---- the lines of a commit, put together
 

@@ -6,7 +6,6 @@ pub mod CommitWriting
 pub mod ExtraHeaders
 pub mod Gathering
 pub mod HeadersLeft
-pub mod Lines
 pub mod Mergetags
 pub mod ParentsLeft
 pub mod Rewriting
@@ -23,3 +22,4 @@ pub use Rattle.gixobj_hash.specs.Encode
 pub use Rattle.gixobj_hash.specs.Hash
 pub use Rattle.gixobj_hash.specs.Kind
 pub use Rattle.gixobj_hash.specs.Texts
+pub use Rattle.gixobj_line.specs.Lines

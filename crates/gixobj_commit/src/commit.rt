@@ -46,9 +46,9 @@ pub struct CommitRef<'a> {
     pub author: BStr<'a>,
     /// The line of the committer, white space and all. [`CommitRef::committer`] takes it apart.
     pub committer: BStr<'a>,
-    /// The name of the message's encoding, UTF-8 without one.
+    /// The name of the message's encoding, which is UTF-8 without one (git-commit, "DISCUSSION").
     pub encoding: Option<BStr<'a>>,
-    /// The message.
+    /// The message in that encoding, bytes as they stand.
     pub message: BStr<'a>,
     /// The headers behind these, a name and a value each, in the order in which they stand.
     pub extra_headers: Vec<(BStr<'a>, CowSlice<'a, u8>)>,
@@ -65,9 +65,9 @@ pub struct Commit {
     pub author: Signature,
     /// Who made the commit.
     pub committer: Signature,
-    /// The name of the message's encoding, UTF-8 without one.
+    /// The name of the message's encoding, which is UTF-8 without one (git-commit, "DISCUSSION").
     pub encoding: Option<BString>,
-    /// The message.
+    /// The message in that encoding, bytes as they stand.
     pub message: BString,
     /// The headers behind these, a name and a value each, in the order in which they are written.
     pub extra_headers: Vec<(BString, BString)>,
@@ -76,6 +76,8 @@ pub struct Commit {
 /// Access
 impl<'a> CommitRef<'a> {
     /// The id of the tree. It takes no memory.
+    ///
+    /// The tree's hex field must be an id, as that of every commit that was read is.
     pub fn tree(&self) -> ObjectId
         requires { IsHexOfAnId (commit_lines self.now).tree }
         ensures { Spells (commit_lines self.now).tree result }
@@ -84,6 +86,8 @@ impl<'a> CommitRef<'a> {
     }
 
     /// The ids of the parents, in order. It takes no memory.
+    ///
+    /// Their hex fields must be ids, as those of every commit that was read are.
     #[tactic(auto, using(gixobj_hash::proofs::HexIds::all_spelled))]
     pub fn parents(&self) -> Parents<'_>
         requires { All IsHexOfAnId (commit_lines self.now).parents }
@@ -93,6 +97,8 @@ impl<'a> CommitRef<'a> {
     }
 
     /// The headers behind the author, the committer and the encoding. It takes no memory.
+    ///
+    /// The tree's hex field must be an id, as that of every commit that was read is: it tells the kind of ids.
     pub fn extra_headers(&self) -> ExtraHeaders<BorrowedHeaders<'_, 'a>>
         requires { IsHexOfAnId (commit_lines self.now).tree }
         ensures headers { headers_left (iterator_of result)
@@ -147,6 +153,8 @@ impl CommitRef<'_> {
     /// The same commit, with parts of its own: ids, actors as they stand, their times, and copies of
     /// the rest. A time is the start of 1970 in UTC where its text says none.
     ///
+    /// The hex fields must be ids, as those of every commit that was read are.
+    ///
     /// `Malformed` where the line of the author or of the committer is no actor's, and else
     /// `OutOfMemory` where memory runs out.
     pub fn into_owned(self, alloc: Global) -> Result<Commit, Error>
@@ -157,7 +165,7 @@ impl CommitRef<'_> {
         owned_copy(alloc, &self)
     }
 
-    /// What [`CommitRef::into_owned`] gives.
+    /// What [`CommitRef::into_owned`] gives. The hex fields must be ids, as those of every commit that was read are.
     pub fn to_owned(self, alloc: Global) -> Result<Commit, Error>
         requires { HasIds (commit_lines self) }
         ensures owned { IfOk result (IsOwnedFormOfCommit (commit_lines self.entry)) }
@@ -179,7 +187,8 @@ impl Commit {
     }
 }
 
-/// What [`CommitRef::into_owned`] gives, of a commit that is only borrowed.
+/// What [`CommitRef::into_owned`] gives, of a commit that is only borrowed. Its hex fields must be ids, as those of
+/// every commit that was read are.
 pub fn owned_copy(alloc: Global, commit: &CommitRef<'_>) -> Result<Commit, Error>
     requires { HasIds (commit_lines commit.now) }
     ensures owned { IfOk result (IsOwnedFormOfCommit (commit_lines commit.now)) }

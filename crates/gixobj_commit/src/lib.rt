@@ -1,11 +1,10 @@
-//! Commits, read whole, copied, signed and written (gitdatamodel, "commits"). The reader depends on the reader of one
-//! line, in [`lines`], as that of tokens does, in a crate above.
+//! Commits, read whole, copied, signed and written (gitdatamodel, "commits"). They are read line by line, as tokens are
+//! in a crate above, by [`gixobj_line::lines`].
 #![tactic(auto)]
 
 pub mod commit;
 mod extra_headers;
 pub mod laws;
-pub mod lines;
 mod parents;
 
 pub use commit::{Commit, CommitRef};

@@ -8,9 +8,9 @@ use Rattle.gixobj_commit.proofs.LinesTold.{text_told}
 use Rattle.gixobj_commit.proofs.WholeCommits.{ends_behind_message, message_last, whole}
 use Rattle.gixobj_commit.specs.Commit.{CommitLines, IsCommitText}
 use Rattle.gixobj_commit.specs.Gathering.{gathered, nothing}
-use Rattle.gixobj_commit.specs.Lines.{HasLine, LineView, message_line}
-use Rattle.gixobj_commit.specs.declared.lines.State.{State}
-use Rattle.gixobj_commit.specs.declared.lines.State.TheVariants as state
+use Rattle.gixobj_line.specs.Lines.{HasLine, LineView, message_line}
+use Rattle.gixobj_line.specs.declared.lines.State.{State}
+use Rattle.gixobj_line.specs.declared.lines.State.TheVariants as state
 use Rattle.gixobj_ref_iter.proofs.CommitRuns.{one_run}
 use Rattle.gixobj_ref_iter.proofs.CommitTokens.{lines_of_tokens, tokens_of_lines}
 use Rattle.gixobj_ref_iter.specs.CommitRuns.{TellsCommit}

@@ -6,9 +6,9 @@ use Rattle.gixobj_fields.proofs.Runs as runs
 use Rattle.gixobj_fields.specs.Runs.{Ending, complete}
 use Rattle.gixobj_hash.specs.declared.decode.Error.{Error}
 use Rattle.gixobj_hash.specs.declared.hash.kind.Kind.{Kind}
-use Rattle.gixobj_commit.proofs.OneLine.{line_shortens}
-use Rattle.gixobj_commit.specs.Lines.{WantsMemory}
-use Rattle.gixobj_commit.specs.declared.lines.State.{State}
+use Rattle.gixobj_line.proofs.OneLine.{line_shortens}
+use Rattle.gixobj_line.specs.Lines.{WantsMemory}
+use Rattle.gixobj_line.specs.declared.lines.State.{State}
 use Rattle.gixobj_ref_iter.proofs.CommitTokens.{no_token_of_nothing, one_token, text_of_token}
 use Rattle.gixobj_ref_iter.specs.CommitRuns.{TellsCommit}
 use Rattle.gixobj_ref_iter.specs.CommitTokens.{CommitTokenView, HasCommitToken, IsCommitTokenText, commit_token_view}

@@ -12,9 +12,9 @@ use Rattle.gixobj_fields.specs.Runs as runs
 use Rattle.gixobj_hash.proofs.HexIds.{one_id, spelled}
 use Rattle.gixobj_hash.specs.Hash.Hex.{spelled_id}
 use Rattle.gixobj_hash.specs.declared.hash.kind.Kind.{Kind}
-use Rattle.gixobj_commit.proofs.OneLine.{no_line_of_nothing, one_line}
-use Rattle.gixobj_commit.specs.Lines.{HasLine, LineView, author_comes, committer_comes, encoding_comes, first_header_comes, first_message_comes, header_comes, message_comes, parent_comes, tree_comes}
-use Rattle.gixobj_commit.specs.declared.lines.State.{State}
+use Rattle.gixobj_line.proofs.OneLine.{no_line_of_nothing, one_line}
+use Rattle.gixobj_line.specs.Lines.{HasLine, LineView, author_comes, committer_comes, encoding_comes, first_header_comes, first_message_comes, header_comes, message_comes, parent_comes, tree_comes}
+use Rattle.gixobj_line.specs.declared.lines.State.{State}
 use Rattle.gixobj_ref_iter.specs.CommitRuns.{TellsCommit}
 use Rattle.gixobj_ref_iter.specs.CommitTokens.{HasCommitToken, IsCommitTokenText, TellsLine, CommitTokenView, author_token, committer_token, encoding_token, header_token, message_token, parent_token, tells_author, tells_committer, tells_encoding, tells_header, tells_message, tells_parent, tells_tree, tree_token}
 

@@ -5,8 +5,8 @@ use Rattle.gixobj_fields.specs.Readers.{Standing}
 use Rattle.gixobj_fields.specs.Runs.{HasNoPiece, broken, complete, tells_end, tells_error}
 use Rattle.gixobj_hash.specs.declared.decode.Error.TheVariants.{Malformed}
 use Rattle.gixobj_hash.specs.declared.hash.kind.Kind.{Kind}
-use Rattle.gixobj_commit.specs.declared.lines.State.{State}
-use Rattle.gixobj_commit.specs.declared.lines.State.TheVariants as state
+use Rattle.gixobj_line.specs.declared.lines.State.{State}
+use Rattle.gixobj_line.specs.declared.lines.State.TheVariants as state
 use Rattle.gixobj_ref_iter.specs.CommitRuns.{TellsCommit}
 use Rattle.gixobj_ref_iter.specs.CommitTokens.{HasCommitToken, CommitTokenView, commit_token_view}
 use Rattle.gixobj_ref_iter.specs.TokenGiving.{GivesCommitToken, IsAtStartOfCommit, standing_in_commit}

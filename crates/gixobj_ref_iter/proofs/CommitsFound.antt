@@ -14,9 +14,9 @@ use Rattle.gixobj_hash.specs.declared.hash.kind.Kind.{Kind}
 use Rattle.gixobj_hash.specs.declared.hash.object_id.ObjectId.{ObjectId}
 use Rattle.gixobj_commit.proofs.WholeCommits.{message_last}
 use Rattle.gixobj_commit.specs.Commit.{CommitLines, IsCommitText, encoding_lines, lines_of_commit}
-use Rattle.gixobj_commit.specs.Lines.{LineView, MayFold, author_line, committer_line, encoding_line, header_line, message_line, parent_line, tree_line}
-use Rattle.gixobj_commit.specs.declared.lines.State.{State}
-use Rattle.gixobj_commit.specs.declared.lines.State.TheVariants as state
+use Rattle.gixobj_line.specs.Lines.{LineView, MayFold, author_line, committer_line, encoding_line, header_line, message_line, parent_line, tree_line}
+use Rattle.gixobj_line.specs.declared.lines.State.{State}
+use Rattle.gixobj_line.specs.declared.lines.State.TheVariants as state
 use Rattle.gixobj_ref_iter.proofs.CommitLanguage as language
 use Rattle.gixobj_ref_iter.proofs.CommitRuns.{one_run}
 use Rattle.gixobj_ref_iter.proofs.CommitTokens.{no_token_of_nothing, one_token}

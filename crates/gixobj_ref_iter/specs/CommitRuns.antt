@@ -4,7 +4,7 @@ use Rattle.gixobj_fields.specs.Runs as runs
 use Rattle.gixobj_fields.specs.Runs.{Ending}
 use Rattle.gixobj_hash.specs.declared.hash.kind.Kind.{Kind}
 use Rattle.gixobj_ref_iter.specs.CommitTokens.{HasCommitToken, CommitTokenView}
-use Rattle.gixobj_commit.specs.declared.lines.State.{State}
+use Rattle.gixobj_line.specs.declared.lines.State.{State}
 
 -- from this state over this input these tokens are told, and then the run ends so
 abbrev pub TellsCommit : Kind → State → List ℕ → List CommitTokenView → Ending → Type 0

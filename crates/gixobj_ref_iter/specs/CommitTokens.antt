@@ -7,8 +7,8 @@ use Rattle.gixobj_fields.specs.HeaderText.{Header}
 use Rattle.gixobj_hash.specs.Hash.{Spells}
 use Rattle.gixobj_hash.specs.declared.hash.kind.Kind.{Kind}
 use Rattle.gixobj_hash.specs.declared.hash.object_id.ObjectId.{ObjectId}
-use Rattle.gixobj_commit.specs.Lines.{HasLine, LineView, author_line, committer_line, encoding_line, header_line, message_line, parent_line, tree_line}
-use Rattle.gixobj_commit.specs.declared.lines.State.{State}
+use Rattle.gixobj_line.specs.Lines.{HasLine, LineView, author_line, committer_line, encoding_line, header_line, message_line, parent_line, tree_line}
+use Rattle.gixobj_line.specs.declared.lines.State.{State}
 use Rattle.gixobj_ref_iter.specs.declared.commit.Token.{Token}
 use Rattle.gixobj_ref_iter.specs.declared.commit.Token.TheVariants as token
 

@@ -6,7 +6,7 @@ use Rattle.gixobj_actor.specs.declared.actor.SignatureRef.{SignatureRef}
 use Rattle.gixobj_hash.specs.declared.hash.object_id.ObjectId.{ObjectId}
 use Rattle.gixobj_ref_iter.specs.CommitTokens.{CommitTokenView, HasCommitToken, parent_token}
 use Rattle.gixobj_fields.specs.Readers as readers
-use Rattle.gixobj_commit.specs.Lines.{WantsMemory}
+use Rattle.gixobj_line.specs.Lines.{WantsMemory}
 use Rattle.gixobj_ref_iter.specs.TokenGiving.{commit_tokens_left, standing_in_commit}
 use Rattle.gixobj_ref_iter.specs.TokenPassing.{IsActorToken, IsActorTokenOf, IsParentToken}
 use Rattle.gixobj_ref_iter.specs.declared.commit.CommitRefIter.{CommitRefIter}

@@ -6,12 +6,12 @@ use Rattle.gixobj_hash.specs.declared.decode.Error.TheVariants.{Malformed}
 use Rattle.gixobj_hash.specs.declared.hash.kind.Kind.{Kind}
 use Rattle.gixobj_hash.specs.declared.hash.object_id.ObjectId.{ObjectId}
 use Rattle.gixobj_fields.specs.Readers.{Gives, Standing}
-use Rattle.gixobj_commit.specs.Lines.{WantsMemory}
+use Rattle.gixobj_line.specs.Lines.{WantsMemory}
 use Rattle.gixobj_ref_iter.specs.CommitTokens.{HasCommitToken, CommitTokenView, commit_token_view}
 use Rattle.gixobj_ref_iter.specs.CommitTokens.CommitTokenView.{tree_token, parent_token, author_token, committer_token, encoding_token, header_token, message_token}
 use Rattle.gixobj_ref_iter.specs.declared.commit.CommitRefIter.{CommitRefIter}
-use Rattle.gixobj_commit.specs.declared.lines.State.{State}
-use Rattle.gixobj_commit.specs.declared.lines.State.TheVariants as state
+use Rattle.gixobj_line.specs.declared.lines.State.{State}
+use Rattle.gixobj_line.specs.declared.lines.State.TheVariants as state
 use Rattle.gixobj_ref_iter.specs.declared.commit.Token.{Token}
 use Rattle.gixobj_ref_iter.specs.declared.commit.Token.TheVariants as token
 use Rattle.gixobj_fields.specs.HeaderReading.{BorrowsOneLine}

@@ -7,8 +7,8 @@ use Rattle.gixobj_hash.specs.declared.hash.kind.Kind.{Kind}
 use Rattle.gixobj_fields.specs.Readers as readers
 use Rattle.gixobj_fields.specs.Runs as runs
 use Rattle.gixobj_fields.specs.Runs.{Ending, complete}
-use Rattle.gixobj_commit.specs.Lines.{WantsMemory}
-use Rattle.gixobj_commit.specs.declared.lines.State.TheVariants as state
+use Rattle.gixobj_line.specs.Lines.{WantsMemory}
+use Rattle.gixobj_line.specs.declared.lines.State.TheVariants as state
 use Rattle.gixobj_ref_iter.specs.CommitTokens.{CommitTokenView, HasCommitToken, IsCommitTokenText, author_token, committer_token, message_token, parent_token}
 use Rattle.gixobj_ref_iter.specs.TokenGiving.{standing_in_commit}
 use Rattle.gixobj_ref_iter.specs.declared.commit.CommitRefIter.{CommitRefIter}

@@ -1,7 +1,7 @@
 //! Commits read token by token.
 ghost use Rattle.std.specs.Prelude.{◌≡◌, MatchOption, None, Some};
 ghost use Rattle.gixobj_hash.specs.Hash.Borrowed.{borrowed_id};
-ghost use Rattle.gixobj_commit.specs.Lines.{HasHex, IsParsedLine, line_view};
+ghost use Rattle.gixobj_line.specs.Lines.{HasHex, IsParsedLine, line_view};
 ghost use Rattle.gixobj_ref_iter.specs.CommitTokens.{TellsLine, commit_token_view};
 ghost use Rattle.gixobj_ref_iter.specs.TokenGiving.{BorrowsValue, GivesCommitToken, IsAtStartOfCommit, commit_token_id, commit_tokens_left};
 
@@ -13,10 +13,10 @@ mod signature;
 use bstr::BStr;
 pub use filters::{ParentIds, Signatures};
 use gixobj_actor::actor::SignatureRef;
-use gixobj_commit::lines::{Line, State, read_line};
 use gixobj_hash::decode::Error;
 use gixobj_hash::hash::{Kind, ObjectId, oid};
 use gixobj_hash::parse::id_of_hex;
+use gixobj_line::lines::{Line, State, read_line};
 use std::alloc::Global;
 use std::borrow::CowSlice;
 

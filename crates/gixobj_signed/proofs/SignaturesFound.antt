@@ -10,11 +10,11 @@ use Rattle.gixobj_fields.specs.Runs.{Tells, broken, complete, tells_end, tells_e
 use Rattle.gixobj_hash.specs.declared.decode.Error.TheVariants.{Malformed}
 use Rattle.gixobj_hash.specs.declared.hash.kind.Kind.{Kind}
 use Rattle.gixobj_commit.proofs.LinesTold.{text_told}
-use Rattle.gixobj_commit.proofs.OneLine.{longer_header, no_header, no_line_of_nothing, one_line}
+use Rattle.gixobj_line.proofs.OneLine.{longer_header, no_header, no_line_of_nothing, one_line}
 use Rattle.gixobj_commit.specs.Commit.{AreHeaderTexts, CommitLines, IsCommitText, lines_of_commit}
-use Rattle.gixobj_commit.specs.Lines.{HasLine, LineView}
-use Rattle.gixobj_commit.specs.declared.lines.State.{State}
-use Rattle.gixobj_commit.specs.declared.lines.State.TheVariants as state
+use Rattle.gixobj_line.specs.Lines.{HasLine, LineView}
+use Rattle.gixobj_line.specs.declared.lines.State.{State}
+use Rattle.gixobj_line.specs.declared.lines.State.TheVariants as state
 use Rattle.gixobj_signed.proofs.CommitsExtracted.{Blocks, IsBlockLine, block_line, comes_last, comes_more, ends_at_header, join, no_block, read_again, signature_name, signed_text, the_header, unsigned_front, written_blocks, written_header}
 use Rattle.gixobj_ref_iter.specs.Extracting.{HasNoSignature, IsNamedLine, RefusesCommitSignature}
 use Rattle.gixobj_commit.specs.CommitSigning.{with_signature}

@@ -5,13 +5,13 @@ ghost use Rattle.gixobj_commit.specs.CommitWriting.{HasIds};
 ghost use Rattle.gixobj_hash.specs.declared.decode.Error.TheVariants.{OutOfMemory};
 ghost use Rattle.gixobj_commit.specs.Commit.{IsCommitText, RefusesCommit};
 ghost use Rattle.gixobj_commit.specs.Gathering.{TakesMemory, gather, nothing};
-ghost use Rattle.gixobj_commit.specs.Lines.{IsParsedLine, line_view};
+ghost use Rattle.gixobj_line.specs.Lines.{IsParsedLine, line_view};
 
 use super::CommitRef;
-use crate::lines::{Line, State, read_line};
 use bstr::BStr;
 use gixobj_hash::decode::Error;
 use gixobj_hash::hash::Kind;
+use gixobj_line::lines::{Line, State, read_line};
 use smallvec::SmallVec;
 use std::alloc::Global;
 

@@ -19,8 +19,9 @@ use std::alloc::Global;
 
 /// Signing
 impl Commit {
-    /// The same commit with a new signature, in a header that stands last, and without all headers of that name, which
-    /// is that for the kind of the tree's id. What is signed is the written commit without them.
+    /// The same commit with a new signature, in a header that stands last, and without all others of its name: `gpgsig`,
+    /// or `gpgsig-sha256` where the tree's id is of SHA-256 (gitformat-signature). What is signed is the written commit
+    /// without any of that name.
     ///
     /// `Encode` where the commit can't be written, before any call; else the refusals of signing, as
     /// [`gixobj_signature::signature::sign::sign_payload`] has them. The commit is gone then.
@@ -45,7 +46,8 @@ impl Commit {
 
 /// Signing
 impl CommitRef<'_> {
-    /// The commit copied, and signed as [`Commit::sign`] does.
+    /// The commit copied, and signed as [`Commit::sign`] does. The hex fields must be ids, as those of every commit that
+    /// was read are.
     ///
     /// `Decode` where it can't be copied, as [`CommitRef::into_owned`] says, before any call; else what
     /// [`Commit::sign`] refuses.

@@ -1,15 +1,15 @@
 //! The signature of a commit, found in its text, and what it signs (gitformat-signature, "Commit signatures").
 ghost use Rattle.std.specs.Prelude.{◌≡◌, IfErr, IfOk, MatchOption};
 ghost use Rattle.std.specs.Cow.{cow_slice_items};
-ghost use Rattle.gixobj_commit.specs.Lines.{header_line, line_view};
+ghost use Rattle.gixobj_line.specs.Lines.{header_line, line_view};
 ghost use Rattle.gixobj_ref_iter.specs.Extracting.{GivesSignatureOfCommit, HasNoSignature, HasCommitSignature, IsNamedLine, RefusesCommitSignature};
 ghost use Rattle.gixobj_signature.specs.SignedBytes.{signed_bytes};
 
 use super::CommitRefIter;
-use gixobj_commit::lines::{Line, State, read_line};
 use gixobj_commit::signature_field_name;
 use gixobj_hash::decode::Error;
 use gixobj_hash::hash::Kind;
+use gixobj_line::lines::{Line, State, read_line};
 use gixobj_signature::signature::SignedData;
 use std::alloc::Global;
 use std::borrow::CowSlice;

@@ -17,7 +17,7 @@ ghost use Rattle.gixobj_ref_iter.specs.TokenFilters.{GivesParent, parents_reader
 ghost use Rattle.gixobj_ref_iter.specs.TokenGiving.{GivesCommitToken, GivesIdOfCommit, IsAtStartOfCommit};
 ghost use Rattle.gixobj_ref_iter.specs.TokenPassing.{FindsAuthor, FindsCommitter, FindsMessage, FindsNoToken, FindsTokenFault, HasPassedCommitTokens, IsAuthorToken, IsCommitterToken, IsMessageToken};
 ghost use Rattle.gixobj_ref_iter.specs.declared.commit.CommitRefIter.{CommitRefIter};
-ghost use Rattle.gixobj_commit.specs.declared.lines.State.TheVariants as state;
+ghost use Rattle.gixobj_line.specs.declared.lines.State.TheVariants as state;
 ghost use Rattle.gixobj_ref_iter.specs.declared.commit.Token.{Token};
 ghost use Rattle.gixobj_ref_iter.specs.declared.commit.filters.ParentIds.{ParentIds};
 

@@ -5,7 +5,7 @@ ghost use Rattle.gixobj_fields.specs.Runs.{Ending, complete};
 ghost use Rattle.gixobj_ref_iter.specs.CommitRuns.{TellsCommit};
 ghost use Rattle.gixobj_ref_iter.specs.CommitTokens.{HasCommitToken, CommitTokenView};
 ghost use Rattle.gixobj_ref_iter.specs.TokenPassing.{AreCommitTokenTexts};
-ghost use Rattle.gixobj_commit.specs.declared.lines.State.{State};
+ghost use Rattle.gixobj_line.specs.declared.lines.State.{State};
 
 /// A text begins with one token at most in each state of the reader.
 pub fn tokens_have_one_reading()

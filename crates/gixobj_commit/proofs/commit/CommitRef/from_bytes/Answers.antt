@@ -1,11 +1,11 @@
 use Rattle.std.proofs.Common.{rules, ◌≡◌, ◌≢◌}
 use Rattle.std.proofs.lemmas.Result.{err_from_is_err_and}
 use Rattle.gixobj_commit.specs.CommitViews.{commit_lines}
-use Rattle.gixobj_commit.proofs.OneLine.{line_shortens}
+use Rattle.gixobj_line.proofs.OneLine.{line_shortens}
 use Rattle.gixobj_fields.proofs.HeaderFields.{of_an_id}
 use Rattle.gixobj_commit.proofs.WholeCommits.{are_ids, gathers_more, reaches_memory, refuses_commit, whole}
-use Rattle.gixobj_commit.specs.Lines.{line_view}
-use Rattle.gixobj_commit.specs.declared.lines.State.TheVariants as state
+use Rattle.gixobj_line.specs.Lines.{line_view}
+use Rattle.gixobj_line.specs.declared.lines.State.TheVariants as state
 use Rattle.gixobj_commit.proofs.commit.CommitRef.from_bytes.Goals as goal
 
 pub returns-in_err-line-clause-refusal : goal.returns-in_err-line-clause-refusal

@@ -1,7 +1,7 @@
 use Rattle.std.proofs.Common.{arith, ℕ, List, subst, sym, ◌∙◌}
-use Rattle.gixobj_commit.proofs.OneLine.{line_shortens}
+use Rattle.gixobj_line.proofs.OneLine.{line_shortens}
 use Rattle.gixobj_commit.specs.ExtraHeaders.{signature_field}
-use Rattle.gixobj_commit.specs.Lines.{line_view}
+use Rattle.gixobj_line.specs.Lines.{line_view}
 use Rattle.gixobj_ref_iter.specs.Extracting.{IsNamedLine}
 use Rattle.gixobj_ref_iter.proofs.Seeking.{ended, line_front, none_of, passes_on, place_on, refused, some_of}
 use Rattle.gixobj_ref_iter.proofs.commit.CommitRefIter.signature.Goals as goal

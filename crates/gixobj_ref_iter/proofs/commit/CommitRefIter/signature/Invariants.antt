@@ -1,8 +1,8 @@
 use Rattle.std.proofs.Common.{◌≡◌, ◌+◌, ◌++◌, length, take}
 use Rattle.gixobj_commit.specs.ExtraHeaders.{signature_field}
 use Rattle.gixobj_fields.specs.Runs.{PassesNone}
-use Rattle.gixobj_commit.specs.Lines.{HasLine}
-use Rattle.gixobj_commit.specs.declared.lines.State.TheVariants as state
+use Rattle.gixobj_line.specs.Lines.{HasLine}
+use Rattle.gixobj_line.specs.declared.lines.State.TheVariants as state
 use Rattle.gixobj_ref_iter.specs.Extracting.{IsNamedLine}
 use Rattle.gixobj_ref_iter.proofs.commit.CommitRefIter.signature.Given as goal
 

@@ -1,6 +1,6 @@
 use Rattle.std.proofs.Common.{rules}
-use Rattle.gixobj_commit.proofs.OneLine.{line_shortens}
-use Rattle.gixobj_commit.specs.Lines.{line_view}
+use Rattle.gixobj_line.proofs.OneLine.{line_shortens}
+use Rattle.gixobj_line.specs.Lines.{line_view}
 use Rattle.gixobj_ref_iter.proofs.commit.CommitRefIterIterator.next.Goals as goal
 
 pub returns-in-Ok-clause-goes : goal.returns-in-Ok-clause-goes

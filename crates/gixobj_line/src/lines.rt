@@ -3,8 +3,8 @@ ghost use Rattle.std.specs.Prelude.{◌≡◌, ◌≢◌, ◌∷◌, ℕ, List, 
 ghost use Rattle.bstr.specs.BStr.{bstr_bytes};
 ghost use Rattle.gixobj_actor.specs.Actor.{IsActorOf, actor_view};
 ghost use Rattle.gixobj_hash.specs.declared.hash.kind.Kind.{Kind};
-ghost use Rattle.gixobj_commit.specs.Lines.{HasActor, HasLine, HasNoActor, IsParsedLine, RefusesLine, line_view};
-ghost use Rattle.gixobj_commit.specs.declared.lines.State.TheVariants as state;
+ghost use Rattle.gixobj_line.specs.Lines.{HasActor, HasLine, HasNoActor, IsParsedLine, RefusesLine, line_view};
+ghost use Rattle.gixobj_line.specs.declared.lines.State.TheVariants as state;
 ghost use Rattle.gixobj_hash.specs.Bytes.{newline};
 
 use bstr::BStr;

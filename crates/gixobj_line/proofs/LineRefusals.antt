@@ -9,10 +9,10 @@ use Rattle.gixobj_fields.specs.Runs.{HasNoPiece}
 use Rattle.gixobj_hash.specs.declared.decode.Error.{Error}
 use Rattle.gixobj_hash.specs.declared.decode.Error.TheVariants.{Malformed, OutOfMemory}
 use Rattle.gixobj_hash.specs.declared.hash.kind.Kind.{Kind}
-use Rattle.gixobj_commit.proofs.OneLine.{begins, behind_name, free_encoding, named_after}
-use Rattle.gixobj_commit.specs.Lines.{HasLine, HasNoActor, LineView, RefusesLine, encoding_comes, first_header_comes, first_message_comes, header_comes, message_comes}
-use Rattle.gixobj_commit.specs.declared.lines.State.{State}
-use Rattle.gixobj_commit.specs.declared.lines.State.TheVariants as state
+use Rattle.gixobj_line.proofs.OneLine.{begins, behind_name, free_encoding, named_after}
+use Rattle.gixobj_line.specs.Lines.{HasLine, HasNoActor, LineView, RefusesLine, encoding_comes, first_header_comes, first_message_comes, header_comes, message_comes}
+use Rattle.gixobj_line.specs.declared.lines.State.{State}
+use Rattle.gixobj_line.specs.declared.lines.State.TheVariants as state
 
 -- ---- parts
 

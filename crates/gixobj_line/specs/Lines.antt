@@ -8,10 +8,10 @@ use Rattle.gixobj_fields.specs.Runs.{Refuses}
 use Rattle.gixobj_hash.specs.Hash.{IsHexOfAnId}
 use Rattle.gixobj_hash.specs.declared.decode.Error.{Error}
 use Rattle.gixobj_hash.specs.declared.hash.kind.Kind.{Kind}
-use Rattle.gixobj_commit.specs.declared.lines.Line.{Line}
-use Rattle.gixobj_commit.specs.declared.lines.Line.TheVariants as line
-use Rattle.gixobj_commit.specs.declared.lines.State.{State}
-use Rattle.gixobj_commit.specs.declared.lines.State.TheVariants as state
+use Rattle.gixobj_line.specs.declared.lines.Line.{Line}
+use Rattle.gixobj_line.specs.declared.lines.Line.TheVariants as line
+use Rattle.gixobj_line.specs.declared.lines.State.{State}
+use Rattle.gixobj_line.specs.declared.lines.State.TheVariants as state
 use Rattle.gixobj_hash.specs.Bytes.{newline}
 
 -- a line, or a header of several, wherever it lies: hex texts of ids, lines of actors, an encoding, a header, the message

@@ -1,0 +1,2 @@
+mod LineRefusals
+pub mod OneLine
