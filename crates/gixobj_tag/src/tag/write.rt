@@ -1,5 +1,5 @@
 //! Tags, written (gitdatamodel, "tag objects"; git-check-ref-format, "DESCRIPTION").
-ghost use Rattle.std.specs.Prelude.{◌≡◌, ◌↔◌, ◌<◌, ◌+◌, ◌^◌, ◌++◌, ◌∷◌, [], codes, length, IfErr, IfOk, IsOk, OnOk};
+ghost use Rattle.std.specs.Prelude.{◌≡◌, ◌↔◌, ◌<◌, ◌≤◌, ◌+◌, ◌^◌, ◌++◌, ◌∷◌, [], codes, length, IfErr, IfOk, IsOk, OnOk};
 ghost use Rattle.std.specs.Option.{SomeIff};
 ghost use Rattle.bstr.specs.BStr.{bstr_bytes};
 ghost use Rattle.gixobj_fields.specs.HeaderText.{field_text, line_text};
@@ -124,9 +124,7 @@ fn unsigned_size<T: Target, A: Tagger>(
     let targeted = target.size_with_target(with_kind)?;
     let named = targeted.checked_add(name.as_bytes().len() as u64)?;
     let tagged = tagger.size_with_tagger(named)?;
-    tagged
-        .checked_add(message.as_bytes().len() as u64)?
-        .checked_add(opening(message).len() as u64)
+    tagged.checked_add(message.as_bytes().len() as u64 + opening(message).len() as u64)
 }
 
 /// The object that is tagged, in hex or by its id.
@@ -370,7 +368,8 @@ fn put_behind_newline<S: Sink>(text: BStr<'_>, sink: &mut S) -> io::Result<()>
 
 /// The newline before the message, or nothing where it is newlines alone.
 fn opening(message: BStr<'_>) -> &[u8]
-    ensures { message_text (bstr_bytes message.entry) ≡ result.now ++ bstr_bytes message.entry }
+    ensures text { message_text (bstr_bytes message.entry) ≡ result.now ++ bstr_bytes message.entry }
+    ensures short { length result.now ≤ 1 }
 {
     if are_newlines(message.as_bytes()) {
         b""
@@ -386,9 +385,7 @@ fn size_with_signature(size: u64, signature: Option<BStr<'_>>) -> Option<u64>
     ensures { AddsSize result size (signature_text (bytes_if_some signature.entry)) }
 {
     match signature {
-        Some(signature) => size
-            .checked_add(signature.as_bytes().len() as u64)?
-            .checked_add(1),
+        Some(signature) => size.checked_add(1 + signature.as_bytes().len() as u64),
         None => Some(size),
     }
 }
