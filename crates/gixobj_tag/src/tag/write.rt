@@ -1,5 +1,5 @@
 //! Tags, written (gitdatamodel, "tag objects"; git-check-ref-format, "DESCRIPTION").
-ghost use Rattle.std.specs.Prelude.{◌≡◌, ◌↔◌, ◌<◌, ◌+◌, ◌^◌, ◌++◌, ◌∷◌, [], codes, length, IfErr, IfOk, IsOk, OnOk};
+ghost use Rattle.std.specs.Prelude.{◌≡◌, ◌↔◌, ◌<◌, ◌≤◌, ◌+◌, ◌^◌, ◌++◌, ◌∷◌, [], codes, length, IfErr, IfOk, IsOk, OnOk};
 ghost use Rattle.std.specs.Option.{SomeIff};
 ghost use Rattle.bstr.specs.BStr.{bstr_bytes};
 ghost use Rattle.gixobj_fields.specs.HeaderText.{field_text, line_text};
@@ -19,7 +19,7 @@ use super::decode::are_newlines;
 pub use crate::name::{Error, validated_name};
 use bstr::BStr;
 use gixobj_actor::actor::Signature;
-use gixobj_actor::encode::{size_with_signature, trusted_header_signature};
+use gixobj_actor::encode::trusted_header_signature;
 use gixobj_fields::WriteTo;
 use gixobj_fields::encode::{self, size_with_field, size_with_id, trusted_header_id};
 use gixobj_fields::streams::Sink;
@@ -63,14 +63,14 @@ impl WriteTo for TagRef<'_> {
     }
 
     fn size(&self) -> Option<u64> {
-        tag_size(
+        let unsigned = unsigned_size(
             &self.target,
             self.target_kind,
             self.name,
             &self.tagger,
             self.message,
-            self.signature,
-        )
+        )?;
+        size_with_signature(unsigned, self.signature)
     }
 }
 
@@ -106,23 +106,25 @@ fn put_tag<'a, T: Target, A: Tagger, S: Sink>(
     Ok(())
 }
 
-/// How many bytes [`put_tag`] puts, or none past 64 bits.
-fn tag_size<T: Target, A: Tagger>(
+/// How many bytes [`put_tag`] puts without a signature, or none past 64 bits.
+///
+/// `type` and `tag`, each with a space and a newline, are counted with the kind.
+fn unsigned_size<T: Target, A: Tagger>(
     target: &T,
     target_kind: Kind,
     name: BStr<'_>,
     tagger: &A,
     message: BStr<'_>,
-    signature: Option<BStr<'_>>,
 ) -> Option<u64>
     ensures { IsSize result (parts_text (T.target_line target.now) target_kind
         (bstr_bytes name.entry) (A.tagger_line tagger.now)
-        (body_text (bstr_bytes message.entry) (bytes_if_some signature.entry))) }
+        (message_text (bstr_bytes message.entry))) }
 {
-    let target = size_with_field(target.size_with_target(0)?, b"type", target_kind.as_bytes())?;
-    let named = size_with_field(target, b"tag", name.as_bytes())?;
+    let with_kind = 11 + target_kind.as_bytes().len() as u64;
+    let targeted = target.size_with_target(with_kind)?;
+    let named = targeted.checked_add(name.as_bytes().len() as u64)?;
     let tagged = tagger.size_with_tagger(named)?;
-    size_with_body(tagged, message, signature)
+    tagged.checked_add(message.as_bytes().len() as u64 + opening(message).len() as u64)
 }
 
 /// The object that is tagged, in hex or by its id.
@@ -246,7 +248,7 @@ impl Tagger for Option<Signature> {
 
     fn size_with_tagger(&self, size: u64) -> Option<u64> {
         match self {
-            Some(actor) => size_with_signature(size, b"tagger", actor),
+            Some(actor) => size.checked_add(actor.size()?)?.checked_add(8),
             None => Some(size),
         }
     }
@@ -366,7 +368,8 @@ fn put_behind_newline<S: Sink>(text: BStr<'_>, sink: &mut S) -> io::Result<()>
 
 /// The newline before the message, or nothing where it is newlines alone.
 fn opening(message: BStr<'_>) -> &[u8]
-    ensures { message_text (bstr_bytes message.entry) ≡ result.now ++ bstr_bytes message.entry }
+    ensures text { message_text (bstr_bytes message.entry) ≡ result.now ++ bstr_bytes message.entry }
+    ensures short { length result.now ≤ 1 }
 {
     if are_newlines(message.as_bytes()) {
         b""
@@ -375,17 +378,14 @@ fn opening(message: BStr<'_>) -> &[u8]
     }
 }
 
-/// The size with that of the message and of the signature, or none past 64 bits.
-fn size_with_body(size: u64, message: BStr<'_>, signature: Option<BStr<'_>>) -> Option<u64>
-    ensures { AddsSize result size (body_text (bstr_bytes message.entry)
-        (bytes_if_some signature.entry)) }
+/// The size with that of the newline before the signature and of the signature, if there is one, or none
+/// past 64 bits.
+#[inline(always)]
+fn size_with_signature(size: u64, signature: Option<BStr<'_>>) -> Option<u64>
+    ensures { AddsSize result size (signature_text (bytes_if_some signature.entry)) }
 {
-    let opened = size.checked_add(opening(message).len() as u64)?;
-    let with_message = opened.checked_add(message.as_bytes().len() as u64)?;
     match signature {
-        Some(signature) => with_message
-            .checked_add(1)?
-            .checked_add(signature.as_bytes().len() as u64),
-        None => Some(with_message),
+        Some(signature) => size.checked_add(1 + signature.as_bytes().len() as u64),
+        None => Some(size),
     }
 }

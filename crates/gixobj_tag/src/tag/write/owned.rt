@@ -1,7 +1,7 @@
 //! Owned tags, written (gitdatamodel, "tag objects").
 
 use super::super::Tag;
-use super::{put_tag, tag_size};
+use super::{put_tag, size_with_signature, unsigned_size};
 use gixobj_fields::streams::Sink;
 use gixobj_fields::{WriteTo, encode};
 use gixobj_hash::Kind;
@@ -41,13 +41,13 @@ impl WriteTo for Tag {
     }
 
     fn size(&self) -> Option<u64> {
-        tag_size(
+        let unsigned = unsigned_size(
             &self.target,
             self.target_kind,
             self.name.as_bstr(),
             &self.tagger,
             self.message.as_bstr(),
-            borrowed(&self.signature),
-        )
+        )?;
+        size_with_signature(unsigned, borrowed(&self.signature))
     }
 }
