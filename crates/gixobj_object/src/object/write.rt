@@ -30,6 +30,7 @@ impl WriteTo for Object {
         self.kind()
     }
 
+    #[inline(always)]
     fn size(&self) -> Option<u64> {
         match self {
             Object::Tree(tree) => tree.size(),

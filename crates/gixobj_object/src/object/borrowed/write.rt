@@ -32,6 +32,7 @@ impl WriteTo for ObjectRef<'_> {
         self.kind()
     }
 
+    #[inline(always)]
     fn size(&self) -> Option<u64> {
         match self {
             ObjectRef::Tree(tree) => tree.size(),
