@@ -8,7 +8,7 @@ ghost use Rattle.gixobj_directories.specs.Calls.{names_of};
 ghost use Rattle.gixobj_directories.specs.Nested.{bases_of, dirs_of};
 ghost use Rattle.gixobj_files.specs.Bases.{edited_bases};
 
-use crate::open::{Open, add_directory, child_at};
+use crate::open::{Open, add_directory, child_at, place_for};
 use bstr::BString;
 use gixobj_hash::hash::ObjectId;
 use gixobj_tree::Tree;
@@ -43,7 +43,8 @@ impl Open {
         let Some(place) = child_at(&self.children, name) else {
             let mut inner = Open::new(alloc, Tree::empty(alloc));
             inner.assure(alloc, rest, null)?;
-            add_directory(&mut self.tree, &mut self.children, name, null, inner)?;
+            let place = place_for(&self.children, name);
+            add_directory(&mut self.tree, &mut self.children, name, null, inner, place)?;
             return Ok(());
         };
         let child = &mut self.children[place];

@@ -233,11 +233,14 @@ impl Open {
             drop_child(&mut self.children, name);
             return Ok(());
         }
-        let Some(place) = child_at(&self.children, name) else {
-            let mut inner = Open::new(alloc, Tree::empty(alloc));
-            inner.put(alloc, rest, mode, id, null)?;
-            add_directory(&mut self.tree, &mut self.children, name, null, inner)?;
-            return Ok(());
+        let place = match child_place(&self.children, name) {
+            Ok(place) => place,
+            Err(place) => {
+                let mut inner = Open::new(alloc, Tree::empty(alloc));
+                inner.put(alloc, rest, mode, id, null)?;
+                add_directory(&mut self.tree, &mut self.children, name, null, inner, place)?;
+                return Ok(());
+            }
         };
         let child = &mut self.children[place];
         child.open.put(alloc, rest, mode, id, null)
@@ -355,17 +358,20 @@ fn make_directory(tree: &mut Tree, name: &BString, null: ObjectId) -> Result<(),
     set_entry(tree, name, EntryKind::Tree.into(), null)
 }
 
-/// Adds an open directory, with an entry for it.
+/// Adds an open directory at its place, with an entry for it.
 pub(crate) fn add_directory(
     tree: &mut Tree,
     children: &mut Vec<Child>,
     name: &BString,
     null: ObjectId,
     inner: Open,
+    place: usize,
 ) -> Result<(), AllocError>
     requires well_formed { IsWellFormed tree.old }
     requires name { IsEntryName (bstring_bytes name.now) }
     requires ordered { AreOrdered (parts children.old.items) }
+    requires place { place ≡ prefix_len (is_child_before (bstring_bytes name.now))
+        children.old.items }
     ensures ok { OnOk result ((tree.new ≡ with_directory (bstring_bytes name.now) null tree.old)
         × (parts children.new.items ≡ with_part (bstring_bytes name.now, inner)
         (parts children.old.items))) }
@@ -375,7 +381,7 @@ pub(crate) fn add_directory(
     let alloc = *tree.entries.allocator();
     let own_name = room_for(alloc, children, name)?;
     make_directory(tree, name, null)?;
-    put_child(children, own_name, inner);
+    insert_child(children, place, own_name, inner);
     Ok(())
 }
 
@@ -413,11 +419,22 @@ pub(crate) fn put_child(children: &mut Vec<Child>, name: BString, inner: Open)
         (parts children.old.items) }
 {
     let place = place_for(children, &name);
+    insert_child(children, place, name, inner);
+}
+
+/// As [`put_child`], at the place that is known.
+fn insert_child(children: &mut Vec<Child>, place: usize, name: BString, inner: Open)
+    requires room { vec_len children.old < vec_capacity children.old }
+    requires ordered { AreOrdered (parts children.old.items) }
+    requires place { place ≡ prefix_len (is_child_before (bstring_bytes name)) children.old.items }
+    ensures { parts children.new.items ≡ with_part (bstring_bytes name, inner)
+        (parts children.old.items) }
+{
     let _ = children.insert(place, Child { name, open: inner });
 }
 
 /// How many of the first directories come before that of a name.
-fn place_for(children: &[Child], name: &BString) -> usize
+pub(crate) fn place_for(children: &[Child], name: &BString) -> usize
     requires { AreOrdered (parts children.now) }
     ensures { result ≡ prefix_len (is_child_before (bstring_bytes name.now)) children.now }
 {

@@ -32,27 +32,27 @@ returns-then-is_empty-clause-ok t c =
     (put_last c.args.self.now c.self.inside.tree (with_entry x c.self.inside.tree) ps (other_parts name ps) c.self.view_is (level_apart c.self.invariant) (level_apart level) name (λ _. None) (others_becomes name ps) (mode_bits c.args.mode) c.args.id c.args.null refl (λ _. refl))
 
 pub invariant_of-self-2 : goal.invariant_of-self-2
-invariant_of-self-2 t c = level_set c.self.inside.tree c.self.inside.children.items c.in-Some-child_at.place c.index_mut-child.result.now _ c.index_mut-child.ensures.value refl c.self.invariant
+invariant_of-self-2 t c = level_set c.self.inside.tree c.self.inside.children.items c.in-Ok.place c.index_mut-child.result.now _ c.index_mut-child.ensures.value refl c.self.invariant
 
-pub invariant_of-self-in_default-child_at : goal.invariant_of-self-in_default-child_at
-invariant_of-self-in_default-child_at t c =
+pub invariant_of-self-in-Err : goal.invariant_of-self-in-Err
+invariant_of-self-in-Err t c =
     let name = bstring_bytes c.in-Some.name.now in
     let cs = c.self.inside.children.items in
     let m = more_left c.args.path.now c.in-Some.name.now c.in-Some.rest.now c.in-Some.ensures.cases.0 (c.if-is_empty.ensures {u = tt}) in
-    rw (c.in_ok-add_directory.ensures.ok.0, c.in_ok-add_directory.ensures.ok.1)
+    rw (c.in_ok-add_directory-in-Err.ensures.ok.0, c.in_ok-add_directory-in-Err.ensures.ok.1)
     (level_added name c.args.null c.put.new.self c.self.inside.tree (parts cs) (subst (AllByRecursion IsEntryName) m.path_is c.requires).0
-    (none_named name cs c.deref.result.now c.deref.ensures.value (c.in_default-child_at.ensures {u = tt})) c.self.invariant)
+    (none_named name cs c.deref.result.now c.deref.ensures.value (c.in-Err.ensures {u = tt}).found) c.self.invariant)
 
-pub returns-in_default-child_at-clause-ok : goal.returns-in_default-child_at-clause-ok
-returns-in_default-child_at-clause-ok t c =
+pub returns-in-Err-clause-ok : goal.returns-in-Err-clause-ok
+returns-in-Err-clause-ok t c =
     let name = bstring_bytes c.in-Some.name.now in
     let cs = c.self.inside.children.items in
     let m = more_left c.args.path.now c.in-Some.name.now c.in-Some.rest.now c.in-Some.ensures.cases.0 (c.if-is_empty.ensures {u = tt}) in
-    let others = none_named name cs c.deref.result.now c.deref.ensures.value (c.in_default-child_at.ensures {u = tt}) in
+    let others = none_named name cs c.deref.result.now c.deref.ensures.value (c.in-Err.ensures {u = tt}).found in
     let level = level_added name c.args.null c.put.new.self c.self.inside.tree (parts cs) (subst (AllByRecursion IsEntryName) m.path_is c.requires).0 others c.self.invariant in
-    let none : in_part name (parts cs) ≡ (λ _. None) = λ i path. not_found name cs c.deref.result.now c.deref.ensures.value (c.in_default-child_at.ensures {u = tt}) path i in
-    let inner = c.in_ok-put.ensures.ok in
-    rw (m.path_is, c.in_ok-add_directory.ensures.ok.0, c.in_ok-add_directory.ensures.ok.1)
+    let none : in_part name (parts cs) ≡ (λ _. None) = λ i path. not_found name cs c.deref.result.now c.deref.ensures.value (c.in-Err.ensures {u = tt}).found path i in
+    let inner = c.in_ok-put-in-Err.ensures.ok in
+    rw (m.path_is, c.in_ok-add_directory-in-Err.ensures.ok.0, c.in_ok-add_directory-in-Err.ensures.ok.1)
     (put_deeper c.args.self.now c.self.inside.tree (with_directory name c.args.null c.self.inside.tree) (parts cs) (with_part (name, c.put.new.self) (parts cs)) c.self.view_is (level_apart c.self.invariant) (level_apart level) name (dirs_of c.put.new.self)
     (with_becomes name c.put.new.self (parts cs) others) m.next m.after (mode_bits c.args.mode) c.args.id c.args.null refl
     (λ path. rw none ((rw (c.new-inner.ensures, c.empty.ensures, m.rest_is) at inner) path ∙ fresh m.next m.after (mode_bits c.args.mode) c.args.id c.args.null path)))
@@ -63,13 +63,13 @@ returns-clause-ok t c = MatchResult-weaker c.put-2.result c.put-2.ensures.ok (λ
     let cs = c.self.inside.children.items in
     let m = more_left c.args.path.now c.in-Some.name.now c.in-Some.rest.now c.in-Some.ensures.cases.0 (c.if-is_empty.ensures {u = tt}) in
     let child = c.index_mut-child.result.now in
-    let here = c.in-Some-child_at.ensures {u = tt} in
-    let level = level_set c.self.inside.tree cs c.in-Some-child_at.place child (record { name = child.name; «open» = c.put-2.new.self }) c.index_mut-child.ensures.value refl c.self.invariant in
-    let was : in_part name (parts cs) ≡ dirs_of child.open = λ i path. found name cs c.deref.result.now c.in-Some-child_at.place child c.deref.ensures.value here c.index_mut-child.ensures.value path i in
+    let here = (c.in-Ok.ensures {u = tt}).found in
+    let level = level_set c.self.inside.tree cs c.in-Ok.place child (record { name = child.name; «open» = c.put-2.new.self }) c.index_mut-child.ensures.value refl c.self.invariant in
+    let was : in_part name (parts cs) ≡ dirs_of child.open = λ i path. found name cs c.deref.result.now c.in-Ok.place child c.deref.ensures.value here c.index_mut-child.ensures.value path i in
     rw m.path_is
     (put_deeper c.args.self.now c.self.inside.tree c.self.inside.tree (parts cs) _ c.self.view_is (level_apart c.self.invariant) (level_apart level) name (dirs_of c.put-2.new.self)
-    (set_becomes name cs c.deref.result.now c.in-Some-child_at.place child _ c.deref.ensures.value here c.index_mut-child.ensures.value refl)
-    m.next m.after (mode_bits c.args.mode) c.args.id c.args.null (sym (directory_same name c.args.null c.self.inside.tree (child_above c.self.inside.tree name cs c.deref.result.now c.in-Some-child_at.place c.deref.ensures.value here c.self.invariant.above)))
+    (set_becomes name cs c.deref.result.now c.in-Ok.place child _ c.deref.ensures.value here c.index_mut-child.ensures.value refl)
+    m.next m.after (mode_bits c.args.mode) c.args.id c.args.null (sym (directory_same name c.args.null c.self.inside.tree (child_above c.self.inside.tree name cs c.deref.result.now c.in-Ok.place c.deref.ensures.value here c.self.invariant.above)))
     (λ path. rw was (ok path ∙ ap (λ p. upserted_dirs p (mode_bits c.args.mode) c.args.id c.args.null (dirs_of child.open) path) m.rest_is)))) (λ _ u. u)
 
 pub returns-in_default-clause-bases : goal.returns-in_default-clause-bases
@@ -84,17 +84,17 @@ returns-then-is_empty-clause-bases t c =
     let level = level_put x c.self.inside.tree ps (subst (AllByRecursion IsEntryName) path c.requires).0 c.self.invariant in
     rw (c.in_ok-set_entry.ensures.ok, c.drop_child.ensures) (dropped_moved c.args.self.now c.self.inside.tree (with_entry x c.self.inside.tree) ps c.self.view_is (level_apart c.self.invariant) name (level_apart level))
 
-pub returns-in_default-child_at-clause-bases : goal.returns-in_default-child_at-clause-bases
-returns-in_default-child_at-clause-bases t c =
+pub returns-in-Err-clause-bases : goal.returns-in-Err-clause-bases
+returns-in-Err-clause-bases t c =
     let name = bstring_bytes c.in-Some.name.now in
     let cs = c.self.inside.children.items in
     let m = more_left c.args.path.now c.in-Some.name.now c.in-Some.rest.now c.in-Some.ensures.cases.0 (c.if-is_empty.ensures {u = tt}) in
-    let others = none_named name cs c.deref.result.now c.deref.ensures.value (c.in_default-child_at.ensures {u = tt}) in
+    let others = none_named name cs c.deref.result.now c.deref.ensures.value (c.in-Err.ensures {u = tt}).found in
     let level = level_added name c.args.null c.put.new.self c.self.inside.tree (parts cs) (subst (AllByRecursion IsEntryName) m.path_is c.requires).0 others c.self.invariant in
-    let inner = c.in_ok-put.ensures.bases in
-    rw (c.in_ok-add_directory.ensures.ok.0, c.in_ok-add_directory.ensures.ok.1)
+    let inner = c.in_ok-put-in-Err.ensures.bases in
+    rw (c.in_ok-add_directory-in-Err.ensures.ok.0, c.in_ok-add_directory-in-Err.ensures.ok.1)
     (with_moved base_edited editing c.args.self.now c.self.inside.tree (with_directory name c.args.null c.self.inside.tree) (parts cs) c.self.view_is (level_apart c.self.invariant) name c.put.new.self (level_apart level) others
-    (not_found name cs c.deref.result.now c.deref.ensures.value (c.in_default-child_at.ensures {u = tt}))
+    (not_found name cs c.deref.result.now c.deref.ensures.value (c.in-Err.ensures {u = tt}).found)
     (λ path. (rw (c.new-inner.ensures, c.empty.ensures) at inner) path ∙ made_base path (dirs_of c.put.new.self path) None))
 
 pub returns-clause-bases : goal.returns-clause-bases
@@ -102,6 +102,6 @@ returns-clause-bases t c = MatchResult-weaker c.put-2.result c.put-2.ensures.bas
     let name = bstring_bytes c.in-Some.name.now in
     let cs = c.self.inside.children.items in
     let child = c.index_mut-child.result.now in
-    let here = c.in-Some-child_at.ensures {u = tt} in
-    let level = level_set c.self.inside.tree cs c.in-Some-child_at.place child (record { name = child.name; «open» = c.put-2.new.self }) c.index_mut-child.ensures.value refl c.self.invariant in
-    set_moved base_edited editing c.args.self.now c.self.inside.tree cs c.deref.result.now c.self.view_is (level_apart c.self.invariant) name c.in-Some-child_at.place child _ (level_apart level) c.deref.ensures.value here c.index_mut-child.ensures.value refl bases) (λ _ u. u)
+    let here = (c.in-Ok.ensures {u = tt}).found in
+    let level = level_set c.self.inside.tree cs c.in-Ok.place child (record { name = child.name; «open» = c.put-2.new.self }) c.index_mut-child.ensures.value refl c.self.invariant in
+    set_moved base_edited editing c.args.self.now c.self.inside.tree cs c.deref.result.now c.self.view_is (level_apart c.self.invariant) name c.in-Ok.place child _ (level_apart level) c.deref.ensures.value here c.index_mut-child.ensures.value refl bases) (λ _ u. u)
