@@ -39,6 +39,10 @@ pub record Verdict : Type 0 where
   pub key : Option (List ℕ)
   pub signer : Option (List ℕ)
 
+-- the key and the signer
+abbrev pub names_said : Verdict → Option (List ℕ) × Option (List ℕ)
+names_said it = (it.key, it.signer)
+
 -- what the lines that say a status say together: nothing without one; what it says of a single one, whose key is the
 -- first word and whose signer is the rest; an error of several, by which a second signature can't hide a first
 abbrev pub verdict : List (Status × List ℕ) → Verdict

@@ -1,5 +1,5 @@
 -- What comes of verifying a signature, and when it is accepted.
-use Rattle.std.specs.Prelude.{ℕ, Bool, true, false, List, Option, nat_le, ◌&&◌}
+use Rattle.std.specs.Prelude.{ℕ, Bool, true, false, List, [], ◌∷◌, Option, None, nat_le, ◌&&◌}
 use Rattle.std.specs.Option.{option_map}
 use Rattle.bstr.specs.Owned.{bstring_bytes}
 use Rattle.gixobj_text.specs.declared.signature.Format.{Format}
@@ -35,6 +35,14 @@ outcome_view it = record {
   raw_output = bstring_bytes it.raw_output;
   valid = it.valid;
 }
+
+-- the texts that are copied out of a report
+abbrev pub copied_texts : OutcomeView → List (Option (List ℕ))
+copied_texts it = it.key ∷ it.signer ∷ it.fingerprint ∷ it.primary_key_fingerprint ∷ []
+
+-- an outcome without such a text
+abbrev pub no_texts : List (Option (List ℕ))
+no_texts = None ∷ None ∷ None ∷ None ∷ []
 
 abbrev pub is_good_status : Status → Bool
 is_good_status status.Good = true

@@ -4,8 +4,8 @@ ghost use Rattle.std.specs.List.{filter_map};
 ghost use Rattle.std.specs.Option.{option_map};
 ghost use Rattle.bstr.specs.Owned.{bstring_bytes};
 ghost use Rattle.gixobj_report.specs.Fields.{behind, behind_space, either, field_at, fields_of, first_word, unless_empty};
-ghost use Rattle.gixobj_report.specs.GpgReports.{fields_said, gpg_report, status_of, told_lines, trust_in, trust_said, valid_fields, verdict, with_status};
-ghost use Rattle.gixobj_report.specs.Outcomes.{outcome_view};
+ghost use Rattle.gixobj_report.specs.GpgReports.{fields_said, gpg_report, names_said, status_of, told_lines, trust_in, trust_said, valid_fields, verdict, with_status};
+ghost use Rattle.gixobj_report.specs.Outcomes.{copied_texts, no_texts, outcome_view};
 ghost use Rattle.gixobj_report.specs.Telling.{HasOneMore, behind_spaces, error_of, said_view, status_view, told_behind, told_status, verdict_of};
 ghost use Rattle.gixobj_report.specs.Trust.{or_undefined, trust_of};
 
@@ -23,9 +23,9 @@ use std::alloc::Global;
 /// no key and no signer. The trust and the fingerprints are those of the last lines that say them. Nothing is
 /// accepted by reading alone.
 ///
-/// `OutOfMemory` where the texts of the outcome find no memory, which comes only where something was written for
-/// programs.
-#[tactic(auto, using(crate::proofs::Told::verdict_of_bytes, crate::proofs::Told::field_of_bytes))]
+/// `OutOfMemory` where memory runs out for a copy of the key, of the signer or of a fingerprint, and so only where
+/// there is one.
+#[tactic(auto, using(crate::proofs::Taken::verdict_bare, crate::proofs::Taken::fingerprint_bare, crate::proofs::Taken::primary_bare))]
 pub fn parse_gpg_output(
     alloc: Global,
     format: Format,
@@ -34,7 +34,8 @@ pub fn parse_gpg_output(
 ) -> Result<Outcome, OutOfMemory>
     ensures told { IfOk result (λ it. outcome_view it
         ≡ gpg_report format (bstring_bytes output) (bstring_bytes raw_output)) }
-    ensures taken { OnErr result (bstring_bytes raw_output ≢ []) }
+    ensures taken { OnErr result (copied_texts (gpg_report format (bstring_bytes output)
+        (bstring_bytes raw_output)) ≢ no_texts) }
 {
     let told = told_in(raw_output.as_bytes());
     let said = said_by(alloc, told.statuses)?;
@@ -148,7 +149,7 @@ fn with_status_if_any<'a>(before: Statuses<'a>, found: Option<(Status, &'a [u8])
 /// What the statuses of all lines say together.
 fn said_by(alloc: Global, statuses: Statuses<'_>) -> Result<Said, OutOfMemory>
     ensures said { IfOk result (λ it. said_view it ≡ verdict_of statuses.entry []) }
-    ensures taken { OnErr result (verdict_of statuses.entry [] ≢ verdict []) }
+    ensures taken { OnErr result (names_said (verdict_of statuses.entry []) ≢ (None, None)) }
 {
     match statuses {
         Statuses::None => Ok(nothing_but(Status::Unknown)),
@@ -172,7 +173,7 @@ fn nothing_but(status: Status) -> Said
 #[tactic(auto, using(crate::proofs::Taken::key_taken, crate::proofs::Taken::signer_taken))]
 fn said_by_one(alloc: Global, status: Status, rest: &[u8]) -> Result<Said, OutOfMemory>
     ensures said { IfOk result (λ it. said_view it ≡ verdict ((status, rest.now) ∷ [])) }
-    ensures taken { OnErr result (verdict ((status, rest.now) ∷ []) ≢ verdict []) }
+    ensures taken { OnErr result (names_said (verdict ((status, rest.now) ∷ [])) ≢ (None, None)) }
 {
     let (word, behind) = cut_at_space(rest);
     let key = copy_unless_empty(alloc, word)?;
