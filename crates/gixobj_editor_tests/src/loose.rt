@@ -6,7 +6,7 @@ mod runs;
 mod shown;
 
 use crate::streams::words_in;
-use gixobj_show::engine::engine;
+use gixobj_script::engine::engine;
 use std::alloc::{AllocError, Global};
 use std::io::{Read, Write};
 

@@ -1,5 +1,5 @@
-//! The commands `show [sha256]` and `tree [sha256]` of the program `gixobj` alone, which depend on few of its
-//! crates and so are soon built.
+//! The command `show [sha256]` of the program `gixobj` alone, which depends on few of its crates and so is soon
+//! built.
 #![tactic(auto)]
 
 use gixobj_fields::streams::ToWrite;

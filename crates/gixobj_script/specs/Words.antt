@@ -1,16 +1,15 @@
--- Whether the words after the program's name ask for a script to be run.
-use Rattle.std.specs.Prelude.{◌≡◌, ℕ, List, ◌∷◌, codes}
-use Rattle.gixobj_hash.specs.declared.hash.kind.Kind.{Kind}
-use Rattle.gixobj_show.specs.Words.{hash_words}
+-- What the words after the program's name ask for, of what works on trees.
+use Rattle.std.specs.Prelude.{List, ℕ, codes}
+use Rattle.gixobj_show.specs.Words.{Asks, AsksElse}
 
--- a script, by this kind of digest
-abbrev pub AsksForEdit : List (List ℕ) → Kind → Type 0
-AsksForEdit words hash = words ≡ codes "edit" ∷ hash_words hash
+-- the list of a tree
+abbrev pub AsksToList : List (List ℕ) → Type 0
+AsksToList words = Asks words (codes "tree")
 
--- a script, by some kind of digest
+-- a script, to be run
 abbrev pub AsksToEdit : List (List ℕ) → Type 0
-AsksToEdit words = (hash : Kind) × AsksForEdit words hash
+AsksToEdit words = Asks words (codes "edit")
 
--- anything else
-abbrev pub AsksForNoEdit : List (List ℕ) → Type 0
-AsksForNoEdit words = (hash : Kind) → ¬ AsksForEdit words hash
+-- neither of these
+abbrev pub AsksForNeither : List (List ℕ) → Type 0
+AsksForNeither words = AsksElse words (codes "tree") × AsksElse words (codes "edit")

@@ -1,18 +1,21 @@
 //! The program, over any reader and any two writers.
-ghost use Rattle.std.specs.Prelude.{◌≡◌, ◌≢◌, map, OnOk, IfErr, ⊤};
+ghost use Rattle.std.specs.Prelude.{◌≡◌, ◌≢◌, codes, map, OnOk, IfErr, ⊤};
 ghost use Rattle.std.specs.String.{string_bytes};
 ghost use Rattle.gixobj_script.specs.Engine.{Edited, IsFault, RefusesEditing, UnwrittenByEdit};
-ghost use Rattle.gixobj_script.specs.Words.{AsksForEdit, AsksForNoEdit, AsksToEdit};
+ghost use Rattle.gixobj_script.specs.Listing.{IsUnlisted, Listed};
+ghost use Rattle.gixobj_script.specs.Words.{AsksForNeither, AsksToEdit, AsksToList};
 ghost use Rattle.gixobj_fields.specs.Streams.{writer_view};
 ghost use Rattle.gixobj_show.specs.Engine.{Answered, IsRefusal};
+ghost use Rattle.gixobj_show.specs.Words.{AsksFor};
 
 use crate::editing::edit;
 use crate::fault::{Fault, tell_fault};
-use crate::words::asked_to_edit;
+use crate::tree::list;
 use gixobj_fields::streams::{FromRead, Sink, Source, ToWrite};
 use gixobj_hash::hash;
 use gixobj_show::Refusal;
 use gixobj_show::input::read_all;
+use gixobj_show::words::asked;
 use std::alloc::Global;
 use std::io::{Read, Write};
 
@@ -33,14 +36,22 @@ pub fn engine<R: Read, O: Write, E: Write>(
     output: &mut O,
     errors: &mut E,
 ) -> u8
-    ensures answer { result ≡ 0 → AsksForNoEdit (map string_bytes words.now)
+    ensures answer { result ≡ 0 → AsksForNeither (map string_bytes words.now)
         → Answered (map string_bytes words.now) (R.remaining input.old) (R.remaining input.new)
         (writer_view (O.contents output.old)) (writer_view (O.contents output.new)) }
-    ensures refusal { result ≢ 0 → AsksForNoEdit (map string_bytes words.now)
+    ensures refusal { result ≢ 0 → AsksForNeither (map string_bytes words.now)
         → IsRefusal (map string_bytes words.now) (R.remaining input.old) (R.remaining input.new) ⊤
         (writer_view (O.contents output.old)) (writer_view (O.contents output.new))
         (writer_view (E.contents errors.old)) (writer_view (E.contents errors.new))
         (input.new ≡ input.old) (output.new ≡ output.old) result }
+    ensures listed { result ≡ 0 → AsksToList (map string_bytes words.now)
+        → Listed (map string_bytes words.now) (R.remaining input.old) (R.remaining input.new)
+        (writer_view (O.contents output.old)) (writer_view (O.contents output.new)) }
+    ensures unlisted { result ≢ 0 → AsksToList (map string_bytes words.now)
+        → IsUnlisted (map string_bytes words.now) (R.remaining input.old) (R.remaining input.new) ⊤
+        (writer_view (O.contents output.old)) (writer_view (O.contents output.new))
+        (writer_view (E.contents errors.old)) (writer_view (E.contents errors.new))
+        (output.new ≡ output.old) result }
     ensures edited { result ≡ 0 → AsksToEdit (map string_bytes words.now)
         → Edited (map string_bytes words.now) (R.remaining input.old) (R.remaining input.new)
         (writer_view (O.contents output.old)) (writer_view (O.contents output.new)) }
@@ -51,17 +62,13 @@ pub fn engine<R: Read, O: Write, E: Write>(
         (output.new ≡ output.old) result }
     ensures no_error { result ≡ 0 → errors.new ≡ errors.old }
 {
-    match asked_to_edit(words) {
-        Some(hash) => run_script(
-            alloc,
-            words,
-            hash,
-            &mut FromRead(input),
-            &mut ToWrite(output),
-            &mut ToWrite(errors),
-        ),
-        None => gixobj_show::engine::engine(alloc, words, input, output, errors),
-    }
+    run(
+        alloc,
+        words,
+        &mut FromRead(input),
+        &mut ToWrite(output),
+        &mut ToWrite(errors),
+    )
 }
 
 /// [`engine`] over a source and two sinks, which say when they may fail: over a slice and two
@@ -73,13 +80,20 @@ pub fn run<S: Source, O: Sink, E: Sink>(
     output: &mut O,
     errors: &mut E,
 ) -> u8
-    ensures answer { result ≡ 0 → AsksForNoEdit (map string_bytes words.now)
+    ensures answer { result ≡ 0 → AsksForNeither (map string_bytes words.now)
         → Answered (map string_bytes words.now) (S.rest input.old) (S.rest input.new)
         (O.view output.old) (O.view output.new) }
-    ensures refusal { result ≢ 0 → AsksForNoEdit (map string_bytes words.now)
+    ensures refusal { result ≢ 0 → AsksForNeither (map string_bytes words.now)
         → IsRefusal (map string_bytes words.now) (S.rest input.old) (S.rest input.new)
         (S.may_fail input.old) (O.view output.old) (O.view output.new) (E.view errors.old)
         (E.view errors.new) (input.new ≡ input.old) (output.new ≡ output.old) result }
+    ensures listed { result ≡ 0 → AsksToList (map string_bytes words.now)
+        → Listed (map string_bytes words.now) (S.rest input.old) (S.rest input.new)
+        (O.view output.old) (O.view output.new) }
+    ensures unlisted { result ≢ 0 → AsksToList (map string_bytes words.now)
+        → IsUnlisted (map string_bytes words.now) (S.rest input.old) (S.rest input.new)
+        (S.may_fail input.old) (O.view output.old) (O.view output.new) (E.view errors.old)
+        (E.view errors.new) (output.new ≡ output.old) result }
     ensures edited { result ≡ 0 → AsksToEdit (map string_bytes words.now)
         → Edited (map string_bytes words.now) (S.rest input.old) (S.rest input.new)
         (O.view output.old) (O.view output.new) }
@@ -91,8 +105,11 @@ pub fn run<S: Source, O: Sink, E: Sink>(
     ensures same_loans { (S.loan input.new ≡ S.loan input.old)
         × (O.loan output.new ≡ O.loan output.old) × (E.loan errors.new ≡ E.loan errors.old) }
 {
-    match asked_to_edit(words) {
-        Some(hash) => run_script(alloc, words, hash, input, output, errors),
+    if let Some(hash) = asked("edit", words) {
+        return run_script(alloc, words, hash, input, output, errors);
+    }
+    match asked("tree", words) {
+        Some(hash) => list(alloc, words, hash, input, output, errors),
         None => gixobj_show::engine::run(alloc, words, input, output, errors),
     }
 }
@@ -106,7 +123,7 @@ fn run_script<S: Source, O: Sink, E: Sink>(
     output: &mut O,
     errors: &mut E,
 ) -> u8
-    requires asked { AsksForEdit (map string_bytes words.now) hash }
+    requires asked { AsksFor (map string_bytes words.now) (codes "edit") hash }
     ensures edited { result ≡ 0 → Edited (map string_bytes words.now) (S.rest input.old)
         (S.rest input.new) (O.view output.old) (O.view output.new) }
     ensures fault { result ≢ 0 → IsFault (map string_bytes words.now) (S.rest input.old)
@@ -130,7 +147,7 @@ fn edited<S: Source, O: Sink>(
     input: &mut S,
     output: &mut O,
 ) -> Result<(), Fault>
-    requires asked { AsksForEdit (map string_bytes words.now) hash }
+    requires asked { AsksFor (map string_bytes words.now) (codes "edit") hash }
     ensures told { OnOk result (Edited (map string_bytes words.now) (S.rest input.old)
         (S.rest input.new) (O.view output.old) (O.view output.new)) }
     ensures refusal { IfErr result (RefusesEditing (map string_bytes words.now) (S.rest input.old)

@@ -1,4 +1,4 @@
--- What refuses a loose object refuses what the commands make of it.
+-- What refuses a loose object refuses what is told of it.
 use Rattle.std.proofs.Common.{ℕ, List}
 use Rattle.gixobj_hash.specs.Decode.{IsShort, RefusesHeader, RefusesLooseContent}
 use Rattle.gixobj_hash.specs.declared.decode.LooseContentError.{LooseContentError}
@@ -6,11 +6,8 @@ use Rattle.gixobj_hash.specs.declared.decode.LooseContentError.TheVariants.{Head
 use Rattle.gixobj_hash.specs.declared.decode.LooseHeaderDecodeError.{LooseHeaderDecodeError}
 use Rattle.gixobj_hash.specs.declared.decode.LooseHeaderDecodeError.TheVariants as header
 use Rattle.gixobj_hash.proofs.Headers.{not_refused, parts_of}
-use Rattle.gixobj_show.specs.Listing.{RefusesListedTree}
 use Rattle.gixobj_show.specs.Refusal.{HasNoLooseHeader, content_refusal}
 use Rattle.gixobj_show.specs.Show.{RefusesShow}
-use Rattle.gixobj_show.specs.declared.refusal.Refusal.{Refusal}
-use Rattle.gixobj_show.specs.declared.refusal.Refusal.TheVariants.{Usage, InputFailed, OutputFailed, OutOfMemory, BadHeader, ShortData, NotATree, BadTree}
 
 no_header : (input : List ℕ) (error : LooseHeaderDecodeError) → RefusesHeader input error → HasNoLooseHeader input
 no_header input error refused kind size used header = not_refused input kind size used error (parts_of input kind size used header) refused
@@ -21,16 +18,3 @@ refused_content input (Header (header.InvalidHeader message)) refused = no_heade
 refused_content input (Header (header.ObjectHeader word)) refused = no_header input (header.ObjectHeader word) refused
 refused_content input (Header (header.ParseIntegerError fault message copy)) refused = no_header input (header.ParseIntegerError fault message copy) refused
 refused_content input (Short size) (kind, rest, begins, less) = (kind, size, rest, begins, less)
-
-tree_refused : (input : List ℕ) (refusal : Refusal) → RefusesShow input refusal → RefusesListedTree input refusal
-tree_refused input Usage refused = absurd refused
-tree_refused input InputFailed refused = absurd refused
-tree_refused input OutputFailed refused = absurd refused
-tree_refused input OutOfMemory refused = refused
-tree_refused input BadHeader refused = refused
-tree_refused input ShortData refused = refused
-tree_refused input NotATree refused = absurd refused
-tree_refused input BadTree refused = absurd refused
-
-pub refused_tree : (input : List ℕ) (error : LooseContentError) → RefusesLooseContent input error → RefusesListedTree input (content_refusal error)
-refused_tree input error refused = tree_refused input (content_refusal error) (refused_content input error refused)

@@ -1,4 +1,3 @@
-mod Contents
+pub mod Contents
 pub mod FewItems
-mod FirstEntry
 mod Refused

@@ -1,6 +1,5 @@
 pub mod Engine
 pub mod Input
-pub mod Listing
 pub mod Refusal
 pub mod Show
 pub mod Words

@@ -25,3 +25,7 @@ RefusesShow input _ = ⊥
 -- the line that tells of an object: its kind, its size and its id, a space between them
 abbrev pub show_line : Kind → ℕ → ObjectId → List ℕ
 show_line kind size id = kind_word kind ++ space ∷ decimal size ++ space ∷ hex_text id ++ newline ∷ []
+
+-- this line tells of the object that the input begins with
+abbrev pub IsShowLine : hash.Kind → List ℕ → List ℕ → Type 0
+IsShowLine hash input line = (kind : Kind) × (size : ℕ) × (id : ObjectId) × IsShown hash input kind size id × (line ≡ show_line kind size id)

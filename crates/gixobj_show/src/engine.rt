@@ -1,29 +1,24 @@
-//! The program, over any reader and any two writers.
-ghost use Rattle.std.specs.Prelude.{◌≡◌, ◌≢◌, map, OnOk, IfErr, IfOk, ⊤};
+//! The command `show`, over any reader and any two writers.
+ghost use Rattle.std.specs.Prelude.{◌≡◌, ◌≢◌, map, OnOk, IfErr, ⊤};
 ghost use Rattle.std.specs.String.{string_bytes};
-ghost use Rattle.gixobj_show.specs.Engine.{Answered, IsRefusal, IsTextFor, RefusesAnswer, RefusesCommandText, Told, Unread, Unwritten};
+ghost use Rattle.gixobj_show.specs.Engine.{Answered, IsRefusal, RefusesAnswer, Told, Unread, Unwritten};
 ghost use Rattle.gixobj_fields.specs.Streams.{writer_view};
 ghost use Rattle.gixobj_show.specs.Refusal.{line_of, exit_status_of};
 
 use crate::input::read_all;
 use crate::refusal::Refusal;
 use crate::show::show;
-use crate::tree::listing;
-use crate::words::{Command, asked};
+use crate::words::asked;
 use gixobj_fields::streams::{FromRead, Sink, Source, ToWrite};
-use gixobj_hash::hash;
-use smallvec::SmallVec;
 use std::alloc::Global;
 use std::io::{Read, Write};
 
-/// Does what the words after the program's name ask for, and answers the exit status.
+/// Tells what a loose object is, and answers the exit status. The words after the program's name ask for it: `show`, by
+/// SHA-1, or with a second word `sha256` by SHA-256.
 ///
-/// `show` and `tree` read all of the input, by SHA-1, or with a second word `sha256` by SHA-256.
-/// `show` writes the line `<kind> <size> <id>` of the loose object that the input begins with, and
-/// `tree` a line `<mode> <kind> <id> <name>` for each entry of the loose tree: status 0. Any other
-/// words: a line on how to use the program, status 2, with nothing read. Else a line that says what
-/// is wrong, status 1: `bad header`, `short data`, for `tree` also `not a tree` and `bad tree`,
-/// `input failed`, `output failed` or `out of memory`.
+/// It reads all of the input, and writes the line `<kind> <size> <id>` of the loose object that the input begins with:
+/// status 0. Any other words: a line on how to use the program, status 2, with nothing read. Else a line that says what
+/// is wrong, status 1: `bad header`, `short data`, `input failed`, `output failed` or `out of memory`.
 pub fn engine<R: Read, O: Write, E: Write>(
     alloc: Global,
     words: &[String],
@@ -75,7 +70,7 @@ pub fn run<S: Source, O: Sink, E: Sink>(
     }
 }
 
-/// Reads the input, and writes the text that the words ask for.
+/// Reads the input, and writes the line that tells of it.
 fn answer<S: Source, O: Sink>(
     alloc: Global,
     words: &[String],
@@ -91,30 +86,15 @@ fn answer<S: Source, O: Sink>(
     ensures same_loans { (S.loan input.new ≡ S.loan input.old)
         × (O.loan output.new ≡ O.loan output.old) }
 {
-    let Some((command, hash)) = asked(words) else {
+    let Some(hash) = asked("show", words) else {
         return Err(Refusal::Usage);
     };
     let bytes = read_all(alloc, input)?;
-    let text = text_for(alloc, command, hash, bytes.as_slice())?;
-    match output.put(text.as_slice()) {
+    let shown = show(alloc, hash, bytes.as_slice())?;
+    let line = shown.line(alloc);
+    match output.put(line.as_slice()) {
         Ok(()) => Ok(()),
         Err(_) => Err(Refusal::OutputFailed),
-    }
-}
-
-/// What a command makes of its input, by this kind of digest. The line of `show` takes no memory.
-fn text_for(
-    alloc: Global,
-    command: Command,
-    hash: hash::Kind,
-    input: &[u8],
-) -> Result<SmallVec<u8, 96>, Refusal>
-    ensures text { IfOk result (λ text. IsTextFor command hash input.now text.items) }
-    ensures refusal { IfErr result (RefusesCommandText command hash input.now) }
-{
-    match command {
-        Command::Show => Ok(show(alloc, hash, input)?.line(alloc)),
-        Command::Tree => Ok(SmallVec::from_vec(listing(alloc, hash, input)?)),
     }
 }
 

@@ -1,12 +1,11 @@
-//! What the program does with loose objects: `show` tells what one is, from its uncompressed bytes, as
-//! `<kind> <size> <id>`, and `tree` lists the entries of a loose tree, a line `<mode> <kind> <id> <name>` each.
+//! The program's command `show`, which tells what a loose object is, from its uncompressed bytes, as
+//! `<kind> <size> <id>`; and what all of its commands do alike: words, input, refusals.
 #![tactic(auto)]
 
 pub mod engine;
 pub mod input;
 pub mod refusal;
 pub mod show;
-pub mod tree;
 pub mod words;
 
 pub use refusal::Refusal;

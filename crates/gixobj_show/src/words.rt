@@ -1,9 +1,8 @@
 //! What the words after the program's name ask for.
-ghost use Rattle.std.specs.Prelude.{◌≡◌, ◌≢◌, ◌⊎◌, IfErr, IfSome, IfNone, map};
+ghost use Rattle.std.specs.Prelude.{◌≡◌, ◌⊎◌, IfErr, IfSome, IfNone, map};
 ghost use Rattle.std.specs.String.{string_bytes};
-ghost use Rattle.gixobj_show.specs.Words.{AsksFor, AsksForNothing, command_word};
+ghost use Rattle.gixobj_show.specs.Words.{AsksElse, AsksFor};
 ghost use Rattle.gixobj_show.specs.declared.refusal.Refusal.TheVariants.{OutOfMemory, Usage};
-ghost use Rattle.gixobj_show.specs.declared.words.Command.{Command};
 
 use crate::refusal::Refusal;
 use gixobj_hash::hash;
@@ -11,38 +10,17 @@ use std::env;
 use std::io::ErrorKind;
 use std::rt::Env;
 
-/// What the program does with its input.
-#[derive(Clone, Copy, Debug, PartialEq, Eq)]
-pub enum Command {
-    /// Tells what a loose object is.
-    Show,
-    /// Lists the entries of a loose tree.
-    Tree,
-}
-
-/// The command that the words ask for and its kind of digest, or none for other words: a command's
-/// word is by SHA-1, and with the word `sha256` behind it by SHA-256.
-pub fn asked(words: &[String]) -> Option<(Command, hash::Kind)>
-    ensures found { IfSome result (λ it. AsksFor (map string_bytes words.now) it.0 it.1) }
-    ensures none { IfNone result (AsksForNothing (map string_bytes words.now)) }
+/// The kind of digest by which the words ask for this command, or none where they ask for anything else: the command's
+/// word alone is by SHA-1, and with the word `sha256` behind it by SHA-256.
+pub fn asked(command: &str, words: &[String]) -> Option<hash::Kind>
+    ensures found { IfSome result (AsksFor (map string_bytes words.now) command.now) }
+    ensures none { IfNone result (AsksElse (map string_bytes words.now) command.now) }
 {
     match words {
-        [word] => Some((command_of(word.as_str())?, hash::Kind::Sha1)),
-        [word, sha256] if sha256.as_str() == "sha256" => {
-            Some((command_of(word.as_str())?, hash::Kind::Sha256))
+        [word] if word.as_str() == command => Some(hash::Kind::Sha1),
+        [word, sha256] if word.as_str() == command && sha256.as_str() == "sha256" => {
+            Some(hash::Kind::Sha256)
         }
-        _ => None,
-    }
-}
-
-/// The command of a word.
-fn command_of(word: &str) -> Option<Command>
-    ensures found { IfSome result (λ command. word.now ≡ command_word command) }
-    ensures none { IfNone result ((command : Command) → word.now ≢ command_word command) }
-{
-    match word {
-        "show" => Some(Command::Show),
-        "tree" => Some(Command::Tree),
         _ => None,
     }
 }

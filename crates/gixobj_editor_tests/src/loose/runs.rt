@@ -82,7 +82,6 @@ const SHOWN: &[(&str, &[u8], u8, &str, &str)] = &[
         "gixobj: short data\n",
     ),
     ("", b"blob 6\0hello\n", 2, "", USAGE),
-    ("edit", b"", 2, "", USAGE),
     ("show sha1", b"blob 6\0hello\n", 2, "", USAGE),
     ("tree sha1", b"tree 0\0", 2, "", USAGE),
     ("tree tree", b"tree 0\0", 2, "", USAGE),
@@ -216,6 +215,29 @@ fn a_writer_that_fails_in_mid_line(rt: HostRuntime) -> Result<(), Fail> {
         assert!(rt; line.starts_with(narrow.held.as_slice()));
         assert_eq!(rt; narrow.held.len(), room);
         assert_eq!(rt; refused.as_slice(), b"gixobj: output failed\n".as_slice());
+    }
+    Ok(())
+}
+
+#[test]
+fn show_alone_does_nothing_else(rt: HostRuntime) -> Result<(), Fail> {
+    let alloc = rt.alloc();
+    for line in ["tree", "tree sha256", "edit", "show sha1", ""] {
+        let words = words_in(alloc, line)?;
+        let mut object = ONE_ENTRY;
+        let mut answered = Vec::new(alloc);
+        let mut refused = Vec::new(alloc);
+        let status = run(
+            alloc,
+            words.as_slice(),
+            &mut object,
+            &mut answered,
+            &mut refused,
+        );
+        assert_eq!(rt; status, 2, "{line}");
+        assert!(rt; answered.is_empty(), "{line}");
+        assert_eq!(rt; refused.as_slice(), USAGE.as_bytes(), "{line}");
+        assert_eq!(rt; object, ONE_ENTRY, "{line}");
     }
     Ok(())
 }

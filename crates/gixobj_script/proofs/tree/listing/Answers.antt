@@ -1,8 +1,8 @@
 -- Where a line found no memory, an entry was read.
 use Rattle.std.proofs.Common.{inr}
 use Rattle.gixobj_tree.specs.TreeViews.{tree_entries}
-use Rattle.gixobj_show.proofs.FirstEntry.{first_entry}
-use Rattle.gixobj_show.proofs.tree.listing.Goals as goal
+use Rattle.gixobj_script.proofs.FirstEntry.{first_entry}
+use Rattle.gixobj_script.proofs.tree.listing.Goals as goal
 
 pub returns-in-Ok-clause-refusal : goal.returns-in-Ok-clause-refusal
 returns-in-Ok-clause-refusal c =

@@ -1,5 +1,5 @@
--- What `tree` tells of a loose tree.
-use Rattle.std.specs.Prelude.{◌≡◌, ◌≢◌, ◌⊎◌, ℕ, List, [], ◌∷◌, ◌++◌}
+-- What `tree` tells of a loose tree, and a run of it: what it reads, what it writes, and why it lists nothing.
+use Rattle.std.specs.Prelude.{◌≡◌, ◌≢◌, ◌⊎◌, ℕ, List, [], ◌∷◌, ◌++◌, Option, codes}
 use Rattle.std.specs.List.{flat_map}
 use Rattle.gixobj_hash.specs.Bytes.{newline, space}
 use Rattle.gixobj_hash.specs.Decode.{HasContent, IsShort}
@@ -10,9 +10,13 @@ use Rattle.gixobj_hash.specs.declared.hash.kind.Kind as hash
 use Rattle.gixobj_hash.specs.declared.kind.Kind.{Kind}
 use Rattle.gixobj_hash.specs.declared.kind.Kind.TheVariants.{Tree}
 use Rattle.gixobj_tree.specs.TreeReading.{BeginsWithEntry, IsNoTreeText, IsTreeText}
-use Rattle.gixobj_show.specs.Refusal.{HasNoLooseHeader}
+use Rattle.gixobj_fields.specs.Streams.{Puts, PutsFront, SinkView}
+use Rattle.gixobj_script.specs.Words.{AsksToList}
+use Rattle.gixobj_show.specs.Engine.{ReadsAll, Told, Unwritten}
+use Rattle.gixobj_show.specs.Refusal.{HasNoLooseHeader, exit_status_of, line_of}
+use Rattle.gixobj_show.specs.Words.{AsksFor}
 use Rattle.gixobj_show.specs.declared.refusal.Refusal.{Refusal}
-use Rattle.gixobj_show.specs.declared.refusal.Refusal.TheVariants.{BadHeader, BadTree, NotATree, OutOfMemory, ShortData}
+use Rattle.gixobj_show.specs.declared.refusal.Refusal.TheVariants.{BadHeader, BadTree, InputFailed, NotATree, OutOfMemory, OutputFailed, ShortData}
 
 -- the line of an entry: its mode's text, its kind's word, its id and its name as it stands, a space between them
 abbrev pub entry_line : EntryView → List ℕ
@@ -61,3 +65,30 @@ RefusesListing hash input NotATree = IsOfAnotherKind input
 RefusesListing hash input BadTree = IsBadTree hash input
 RefusesListing hash input OutOfMemory = HasNoLooseHeader input ⊎ HasFirstEntry hash input
 RefusesListing hash input _ = ⊥
+
+-- the words ask for it, the input was read to its end, and this text lists the tree that it begins with
+abbrev pub IsListOfInput : List (List ℕ) → Option (List ℕ) → Option (List ℕ) → List ℕ → Type 0
+IsListOfInput words rest rest' text =
+    (hash : hash.Kind) × (input : List ℕ) × AsksFor words (codes "tree") hash × ReadsAll rest rest' input × IsListed hash input text
+
+-- the list was put
+abbrev pub Listed : List (List ℕ) → Option (List ℕ) → Option (List ℕ) → SinkView → SinkView → Type 0
+Listed words rest rest' out out' = (text : List ℕ) × IsListOfInput words rest rest' text × Puts out out' text
+
+-- why there is no list; where the output failed, a front of it was put
+abbrev pub RefusesList : List (List ℕ) → Option (List ℕ) → Option (List ℕ) → Type 0 → SinkView → SinkView → Refusal → Type 0
+RefusesList words rest rest' may_fail out out' InputFailed = AsksToList words × may_fail
+RefusesList words rest rest' may_fail out out' OutputFailed = (text : List ℕ) × IsListOfInput words rest rest' text × PutsFront out out' text
+RefusesList words rest rest' may_fail out out' OutOfMemory = AsksToList words
+RefusesList words rest rest' may_fail out out' BadHeader = AsksToList words × (input : List ℕ) × ReadsAll rest rest' input × HasNoLooseHeader input
+RefusesList words rest rest' may_fail out out' ShortData = AsksToList words × (input : List ℕ) × ReadsAll rest rest' input × IsShort input
+RefusesList words rest rest' may_fail out out' NotATree = AsksToList words × (input : List ℕ) × ReadsAll rest rest' input × IsOfAnotherKind input
+RefusesList words rest rest' may_fail out out' BadTree =
+    (hash : hash.Kind) × (input : List ℕ) × AsksFor words (codes "tree") hash × ReadsAll rest rest' input × IsBadTree hash input
+RefusesList words rest rest' may_fail out out' _ = ⊥
+
+-- there is no list, and the status and the line on standard error say why: nothing was put on standard output, but where it failed
+abbrev pub IsUnlisted : List (List ℕ) → Option (List ℕ) → Option (List ℕ) → Type 0 → SinkView → SinkView → SinkView → SinkView → Type 0 → ℕ → Type 0
+IsUnlisted words rest rest' may_fail out out' errors errors' same_output status =
+    (refusal : Refusal) × (status ≡ exit_status_of refusal) × RefusesList words rest rest' may_fail out out' refusal
+    × Told errors errors' (line_of refusal) × Unwritten same_output refusal

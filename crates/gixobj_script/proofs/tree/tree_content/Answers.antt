@@ -1,7 +1,7 @@
 -- What refuses a loose object refuses a tree, and so does an object of another kind.
 use Rattle.std.proofs.lemmas.Result.{err_from_is_err_and}
-use Rattle.gixobj_show.proofs.Contents.{refused_tree}
-use Rattle.gixobj_show.proofs.tree.tree_content.Goals as goal
+use Rattle.gixobj_script.proofs.RefusedTrees.{refused_tree}
+use Rattle.gixobj_script.proofs.tree.tree_content.Goals as goal
 
 pub returns-in_err-kind-clause-refusal : goal.returns-in_err-kind-clause-refusal
 returns-in_err-kind-clause-refusal c =
