@@ -1,10 +1,9 @@
 -- Lines that are told to programs: what all of them say, from what one after the other says.
-use Rattle.std.proofs.Common.{◌≡◌, ◌≢◌, ◌∷◌, ◌∙◌, [], ap, sym, codes, List, ℕ, Option, Some, None, refl, map}
+use Rattle.std.proofs.Common.{◌≡◌, ◌∷◌, ◌∙◌, [], ap, sym, codes, List, ℕ, Option, Some, None, refl, map}
 use Rattle.std.specs.List.{cons_option, filter_map}
-use Rattle.bstr.proofs.Computing.{computing}
 use Rattle.bstr.specs.Text.{lines_of, without_terminator}
-use Rattle.gixobj_report.specs.Fields.{behind, either, field_at, last_of}
-use Rattle.gixobj_report.specs.GpgReports.{Verdict, fields_said, status_of, told_lines, trust_in, trust_said, valid_fields, verdict}
+use Rattle.gixobj_report.specs.Fields.{behind, either, last_of}
+use Rattle.gixobj_report.specs.GpgReports.{Verdict, fields_said, status_of, told_lines, trust_in, trust_said, valid_fields}
 use Rattle.gixobj_report.specs.Telling.{HasOneMore, behind_from, said_behind, status_from, statuses_in, told_behind, told_status, verdict_of}
 use Rattle.gixobj_report.specs.declared.report.gpg.Statuses.{Statuses}
 
@@ -57,14 +56,3 @@ trust_so raw = ap (λ (xs : List (List ℕ)). trust_said (last_of xs)) (said_so 
 
 pub valid_so : (raw : List ℕ) → valid_fields (told_lines raw) ≡ fields_said (last_of (said_behind (codes "VALIDSIG ") (map without_terminator (lines_of raw))))
 valid_so raw = ap (λ (xs : List (List ℕ)). fields_said (last_of xs)) (said_so (codes "VALIDSIG ") raw)
-
--- something is said only where there are bytes
-nothing_told : told_lines [] ≡ []
-unfolding computing
-nothing_told = refl
-
-pub verdict_of_bytes : (raw : List ℕ) (said : Verdict) → said ≡ verdict (filter_map status_of (told_lines raw)) → said ≢ verdict [] → raw ≢ []
-verdict_of_bytes raw said is some none = some (is ∙ ap (λ (it : List (List ℕ)). verdict (filter_map status_of it)) (ap told_lines none ∙ nothing_told))
-
-pub field_of_bytes : (raw : List ℕ) (number : ℕ) (fields : List (List ℕ)) → fields ≡ valid_fields (told_lines raw) → field_at number fields ≢ None → raw ≢ []
-field_of_bytes raw number fields is some none = some (ap (field_at number) (is ∙ ap valid_fields (ap told_lines none ∙ nothing_told)))
