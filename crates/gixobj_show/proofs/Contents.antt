@@ -1,6 +1,6 @@
 -- What refuses a loose object refuses what is told of it.
 use Rattle.std.proofs.Common.{ℕ, List}
-use Rattle.gixobj_hash.specs.Decode.{IsShort, RefusesHeader, RefusesLooseContent}
+use Rattle.gixobj_hash.specs.Decode.{RefusesHeader, RefusesLooseContent}
 use Rattle.gixobj_hash.specs.declared.decode.LooseContentError.{LooseContentError}
 use Rattle.gixobj_hash.specs.declared.decode.LooseContentError.TheVariants.{Header, Short}
 use Rattle.gixobj_hash.specs.declared.decode.LooseHeaderDecodeError.{LooseHeaderDecodeError}
