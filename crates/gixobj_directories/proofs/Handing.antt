@@ -25,7 +25,7 @@ use Rattle.gixobj_directories.specs.declared.write.WriteError.{WriteError}
 use Rattle.gixobj_directories.specs.declared.write.WriteError.TheVariants as write
 use Rattle.gixobj_files.proofs.Sublists.{all_weaker}
 use Rattle.gixobj_directories.proofs.Levels.{tied, tied_name}
-use Rattle.gixobj_entries.proofs.SameTrees.{same_or_other}
+use Rattle.gixobj_files.proofs.SameTrees.{same_or_other}
 
 -- so many by another count
 pub counts : {dirs bases : Dirs} {entries : List EntryView} {below : List Pair} {own : List EntryView} (m n : ℕ) → m ≡ n → Walks dirs bases entries below own m → Walks dirs bases entries below own n

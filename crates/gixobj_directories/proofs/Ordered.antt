@@ -16,7 +16,7 @@ use Rattle.gixobj_tree.proofs.WellFormed.{same_key, tied}
 use Rattle.gixobj_tree.specs.Entries.{EachLater, EntryView, key_of}
 use Rattle.gixobj_directories.specs.declared.open.Child.{Child}
 use Rattle.gixobj_directories.specs.Nested.{AreOrdered, IsLevel, Part, is_child_before, is_part_before, part, part_key, parts, with_part}
-use Rattle.gixobj_entries.proofs.Halves.{Ascends, compared, first, halved_key, halved_none, halved_place, later_at, lt_is, position_at, position_none}
+use Rattle.gixobj_files.proofs.Halves.{Ascends, compared, first, halved_key, halved_none, halved_place, later_at, lt_is, position_at, position_none}
 
 abbrev pub Before : Part → Part → Type 0
 Before p q = slice_cmp nat_cmp (part_key p) (part_key q) ≡ Less

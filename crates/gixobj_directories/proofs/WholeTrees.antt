@@ -24,7 +24,7 @@ use Rattle.gixobj_directories.specs.Wholes.{Adds, Fills, child_wholes, goes_on_f
 use Rattle.gixobj_directories.proofs.Alongside.{Ahead}
 use Rattle.gixobj_directories.proofs.Handing.{is_filled_list}
 use Rattle.gixobj_directories.proofs.Ordered.{apart_of}
-use Rattle.gixobj_entries.proofs.SameTrees.{other_tree}
+use Rattle.gixobj_files.proofs.SameTrees.{other_tree}
 
 -- what a directory adds, where it is above the next or not
 abbrev own_whole : Bool → Level → List (List EntryView)

@@ -18,8 +18,8 @@ ghost use Rattle.gixobj_directories.specs.Nested.{AreOrdered, bases_of, dirs_of,
 ghost use Rattle.gixobj_files.specs.Bases.{edited_bases};
 
 use bstr::BString;
-use gixobj_entries::entries::{copies, put};
-use gixobj_entries::places::{first_look, place_by_key, place_of, take_named};
+use gixobj_files::entries::{copies, put};
+use gixobj_files::places::{first_look, place_by_key, place_of, take_named};
 use gixobj_hash::hash::ObjectId;
 use gixobj_tree::Tree;
 use gixobj_tree::tree::order::key_order;

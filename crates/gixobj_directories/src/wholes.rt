@@ -9,7 +9,7 @@ ghost use Rattle.gixobj_directories.specs.Wholes.{Fills, inside_of, is_whole, wh
 
 use crate::open::{Child, Open};
 use crate::write::base_of;
-use gixobj_entries::entries::is_kept;
+use gixobj_files::entries::is_kept;
 use gixobj_hash::hash::ObjectId;
 use gixobj_tree::Tree;
 use gixobj_tree::tree::Entry;

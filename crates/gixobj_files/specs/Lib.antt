@@ -5,8 +5,11 @@ pub mod Files
 pub mod Halting
 pub mod HandingOut
 pub mod History
+pub mod KeyPlaces
 pub mod Opening
+pub mod OwnTrees
 pub mod PlainHistory
+pub mod Sifted
 pub mod State
 pub mod Tables
 pub mod Unopened

@@ -1,7 +1,12 @@
-//! The files of trees and of open directories, and what edits and writes make of them: the definitions on which the
-//! editor of trees stands, and their laws.
+//! Entries of one directory and files of trees, on which open directories and their editor stand: entries are sought by
+//! halves, put in and copied, and trees are made of them.
 //!
-//! It has no code. Its definitions speak of lists of entries, of tables from ids to such lists, and of sets of files.
+//! Of files it has definitions and laws alone: what edits, openings and writes make of them, told by lists of entries,
+//! by tables from ids to such lists, and by sets of files.
 #![tactic(auto)]
 
+pub mod entries;
 pub mod laws;
+pub mod own_tree;
+pub mod places;
+pub mod sifted;

@@ -3,7 +3,7 @@ use Rattle.std.proofs.Common.{◌≡◌, ◌∙◌, ◌<◌, ◌≤◌, HoldsAt,
 use Rattle.std.specs.List.Sorted.{IsBinarySearchResult}
 use Rattle.bstr.specs.Owned.{bstring_bytes}
 use Rattle.gixobj_tree.specs.Entries.{key_of}
-use Rattle.gixobj_entries.proofs.Halves.{IsNarrowed, compared, looked, narrowed_down, narrowed_none, narrowed_up}
+use Rattle.gixobj_files.proofs.Halves.{IsNarrowed, compared, looked, narrowed_down, narrowed_none, narrowed_up}
 use Rattle.gixobj_directories.proofs.Ordered.{ascends_of, child_before, child_found, child_key}
 use Rattle.gixobj_directories.proofs.open.child_place.Goals.{in-Less, in-Greater}
 use Rattle.gixobj_directories.proofs.open.child_place.Goals as goal

@@ -2,7 +2,7 @@
 use Rattle.std.proofs.Common.{◌<◌, ◌≤◌, ◌-◌, length, true}
 use Rattle.bstr.specs.Owned.{bstring_bytes}
 use Rattle.gixobj_tree.specs.Entries.{key_of}
-use Rattle.gixobj_entries.proofs.Halves.{IsNarrowed}
+use Rattle.gixobj_files.proofs.Halves.{IsNarrowed}
 use Rattle.gixobj_directories.proofs.Ordered.{child_key}
 use Rattle.gixobj_directories.proofs.open.child_place.Given as goal
 

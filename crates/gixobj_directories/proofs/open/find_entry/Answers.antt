@@ -3,7 +3,7 @@ use Rattle.std.specs.List.{position}
 use Rattle.bstr.specs.Owned.{bstring_bytes}
 use Rattle.gixobj_tree.specs.Entries.{EntryView}
 use Rattle.gixobj_files.specs.Editing.{same_name}
-use Rattle.gixobj_entries.proofs.Halves.{find_none, find_some}
+use Rattle.gixobj_files.proofs.Halves.{find_none, find_some}
 use Rattle.gixobj_directories.proofs.open.find_entry.Goals as goal
 
 pub returns-in-Some : goal.returns-in-Some

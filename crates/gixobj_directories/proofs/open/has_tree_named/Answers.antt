@@ -1,7 +1,7 @@
 use Rattle.std.proofs.Common.{◌∙◌, ℕ, List, ap}
 use Rattle.bstr.specs.Owned.{bstring_bytes}
 use Rattle.gixobj_files.specs.Editing.{has_tree}
-use Rattle.gixobj_entries.proofs.KeyPlaces.{tree_told}
+use Rattle.gixobj_files.proofs.KeyPlaces.{tree_told}
 use Rattle.gixobj_directories.proofs.open.has_tree_named.Goals as goal
 
 pub returns : goal.returns

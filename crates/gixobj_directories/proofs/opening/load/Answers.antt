@@ -3,7 +3,7 @@ use Rattle.std.proofs.Common.{◌∙◌, inl, inr, [], ◌∷◌, refl, sym, sub
 use Rattle.std.proofs.lemmas.Result.{IfOk-weaker}
 use mathlib.Core.Bool.{true≢false}
 use Rattle.gixobj_tree.specs.Entries.{IsWellFormed}
-use Rattle.gixobj_entries.proofs.OwnTrees.{on_err}
+use Rattle.gixobj_files.proofs.OwnTrees.{on_err}
 use Rattle.gixobj_directories.proofs.opening.load.Goals as goal
 
 pub returns-then-is_unasked-clause-found : goal.returns-then-is_unasked-clause-found

@@ -9,7 +9,7 @@ use Rattle.gixobj_directories.specs.Calls.{IsStorable}
 use Rattle.gixobj_directories.specs.Handing.{Stopped, Visits, child_side, kept_with, next_child}
 use Rattle.gixobj_files.specs.HandingOut.{Leaves, entry_with, leaves}
 use Rattle.gixobj_directories.specs.Nested.{Opened, base_side, bases_of, below, dirs_of, entries_side, parts}
-use Rattle.gixobj_entries.specs.OwnTrees.{so_far}
+use Rattle.gixobj_files.specs.OwnTrees.{so_far}
 use Rattle.gixobj_directories.specs.Wholes.{Adds, child_wholes, inside_of, wholes}
 use Rattle.gixobj_directories.specs.declared.open.Child.{Child}
 use Rattle.gixobj_files.specs.Opening.{Dirs, in_dir}

@@ -6,7 +6,7 @@ use Rattle.gixobj_files.specs.Edits.{raised}
 use Rattle.gixobj_files.specs.HandingOut.{Walks}
 use Rattle.gixobj_directories.specs.Calls.{IsCallableOnTrees}
 use Rattle.gixobj_directories.specs.Nested.{bases_of, below, dirs_of, parts}
-use Rattle.gixobj_entries.specs.OwnTrees.{IsBeside, so_far}
+use Rattle.gixobj_files.specs.OwnTrees.{IsBeside, so_far}
 use Rattle.gixobj_directories.specs.Wholes.{Adds, inside_of, wholes}
 use Rattle.gixobj_directories.proofs.Alongside.{Ahead, given_size}
 use Rattle.gixobj_directories.proofs.write.+walk.Given as goal

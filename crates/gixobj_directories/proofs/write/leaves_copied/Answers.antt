@@ -4,7 +4,7 @@ use Rattle.gixobj_tree.specs.Entries.{EntryView}
 use Rattle.gixobj_directories.specs.Calls.{IsStorable}
 use Rattle.gixobj_files.specs.HandingOut.{Leaves}
 use Rattle.gixobj_directories.specs.Nested.{Opened, bases_of, dirs_of}
-use Rattle.gixobj_entries.specs.OwnTrees.{so_far}
+use Rattle.gixobj_files.specs.OwnTrees.{so_far}
 use Rattle.gixobj_directories.specs.Wholes.{Adds, inside_of, wholes}
 use Rattle.gixobj_directories.proofs.Handing.{err_weaker, stopped_here}
 use Rattle.gixobj_directories.proofs.Levels.{level_root}

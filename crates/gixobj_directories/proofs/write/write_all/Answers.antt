@@ -16,7 +16,7 @@ use Rattle.gixobj_directories.specs.declared.open.Child.{Child}
 use Rattle.gixobj_directories.proofs.BaseSteps.{written_base}
 use Rattle.gixobj_directories.proofs.Levels.{based_root, level_root}
 use Rattle.gixobj_directories.proofs.Ordered.{level_apart}
-use Rattle.gixobj_entries.proofs.SiftedEntries.{leaves_sifted}
+use Rattle.gixobj_files.proofs.SiftedEntries.{leaves_sifted}
 use Rattle.gixobj_directories.proofs.WholeTrees.{fewer_wholes, some_is}
 use Rattle.gixobj_directories.proofs.write.write_all.Goals as goal
 

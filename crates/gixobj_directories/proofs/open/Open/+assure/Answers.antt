@@ -9,7 +9,7 @@ use Rattle.gixobj_directories.specs.Calls.{names_of}
 use Rattle.gixobj_directories.specs.Nested.{dirs_of, in_part, parts, with_part}
 use Rattle.gixobj_directories.proofs.Levels.{child_above, found, level_added, level_set, none_named, not_found, with_becomes, set_becomes}
 use Rattle.gixobj_directories.proofs.OpeningSteps.{names_none}
-use Rattle.gixobj_entries.proofs.OwnTrees.{on_err}
+use Rattle.gixobj_files.proofs.OwnTrees.{on_err}
 use Rattle.gixobj_directories.proofs.Steps.{assured_deeper, assured_fresh, assured_here, place_down, place_shut}
 use Rattle.gixobj_files.specs.Bases.{base_edited}
 use Rattle.gixobj_directories.proofs.BaseSteps.{editing, made_base, with_moved, set_moved, unmoved}

@@ -7,7 +7,7 @@ use Rattle.gixobj_directories.specs.Calls.{names_of}
 use Rattle.gixobj_directories.specs.Openings.{AreTreesOf}
 use Rattle.gixobj_directories.proofs.Handing.{err_weaker}
 use Rattle.gixobj_directories.proofs.NamedTrees.{trees_of}
-use Rattle.gixobj_entries.proofs.OwnTrees.{on_err}
+use Rattle.gixobj_files.proofs.OwnTrees.{on_err}
 use Rattle.gixobj_editor.specs.Removals.{RefusesRemoval}
 use Rattle.gixobj_editor.proofs.Edited.{same_dirs, stay_at}
 use Rattle.gixobj_directories.specs.declared.opening.Unasked.TheVariants as unasked

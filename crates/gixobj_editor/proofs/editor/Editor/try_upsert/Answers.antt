@@ -11,7 +11,7 @@ use Rattle.gixobj_directories.specs.Nested.{Opened, dirs_of}
 use Rattle.gixobj_directories.specs.Openings.{AreTreesOf, RefusesAt}
 use Rattle.gixobj_directories.proofs.Handing.{err_weaker}
 use Rattle.gixobj_directories.proofs.OpeningSteps.{names_none}
-use Rattle.gixobj_entries.proofs.OwnTrees.{on_err}
+use Rattle.gixobj_files.proofs.OwnTrees.{on_err}
 use Rattle.gixobj_editor.specs.Upserts.{RefusesUpsert}
 use Rattle.gixobj_editor.proofs.Edited.{OpenedOn, OpenedSo, idle_at, halted_so, name_refused, nothing_upserted, opened_as, opened_so, refuses, unchanged_at, upserted_at}
 use Rattle.gixobj_directories.specs.declared.opening.Unasked.TheVariants as unasked

@@ -3,7 +3,7 @@ use Rattle.std.proofs.Common.{◌∙◌, ap, subst}
 use Rattle.gixobj_files.specs.Edits.{IsNoTree}
 use Rattle.gixobj_files.specs.Files.{Path}
 use Rattle.gixobj_directories.specs.Calls.{names_of}
-use Rattle.gixobj_entries.proofs.OwnTrees.{on_err}
+use Rattle.gixobj_files.proofs.OwnTrees.{on_err}
 use Rattle.gixobj_editor.specs.Cursors.{from_root}
 use Rattle.gixobj_editor.specs.Removals.{IsRemoved}
 use Rattle.gixobj_editor.specs.Upserts.{IsRefused}

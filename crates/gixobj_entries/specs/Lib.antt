@@ -1,3 +1,0 @@
-pub mod KeyPlaces
-pub mod OwnTrees
-pub mod Sifted
