@@ -2,6 +2,10 @@ pub use Rattle.gixobj_actor.specs.Actor
 pub use Rattle.gixobj_actor.specs.ActorWriting
 pub use Rattle.gixobj_actor.specs.Date
 pub use Rattle.gixobj_actor.specs.declared as actor
+pub use Rattle.gixobj_codec.specs.Agreeing
+pub use Rattle.gixobj_codec.specs.LineFields
+pub use Rattle.gixobj_codec.specs.OneMarker
+pub use Rattle.gixobj_codec.specs.SignedTexts
 pub use Rattle.gixobj_commit.specs.Commit
 pub use Rattle.gixobj_commit.specs.CommitOwned
 pub use Rattle.gixobj_commit.specs.CommitSigning
@@ -110,10 +114,6 @@ pub use Rattle.gixobj_signature.specs.Verifiers
 pub use Rattle.gixobj_signature.specs.Verifying
 pub use Rattle.gixobj_signature.specs.VerifyingCalls
 pub use Rattle.gixobj_signature.specs.declared as signature
-pub use Rattle.gixobj_signed.specs.Agreeing
-pub use Rattle.gixobj_signed.specs.LineFields
-pub use Rattle.gixobj_signed.specs.OneMarker
-pub use Rattle.gixobj_signed.specs.SignedTexts
 pub use Rattle.gixobj_tag.specs.LineReading
 pub use Rattle.gixobj_tag.specs.NameRule
 pub use Rattle.gixobj_tag.specs.Rewriting as TagRewriting

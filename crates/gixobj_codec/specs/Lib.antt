@@ -1,3 +1,7 @@
+pub mod Agreeing
+pub mod LineFields
+pub mod OneMarker
+pub mod SignedTexts
 pub use Rattle.gixobj_actor.specs.Actor
 pub use Rattle.gixobj_actor.specs.ActorWriting
 pub use Rattle.gixobj_actor.specs.Date

@@ -1,5 +1,9 @@
 //! Laws of trees, commits, tags and stores: most functions here do nothing, and their contract is the law.
 
+pub use crate::signed::{
+    commits_give_their_payloads, owned_commits_have_line_fields, signed_commit_gives_its_payload,
+    signed_tag_gives_its_payload, tag_signatures_agree, tags_give_their_payloads,
+};
 pub use gixobj_commit::laws::{
     borrowed_headers_are_found, borrowed_mergetags_are_found, commit_has_one_reading,
     commit_reads_and_writes, commit_writes_back, owned_forms_have_the_parts,

@@ -1,11 +1,14 @@
 //! Git's trees, commits and tags, read and written: whole, or read piece by piece (gitdatamodel, "trees",
 //! "commits", "tag objects"); objects of any kind; and what a store of objects is.
 //!
-//! It has no code: it re-exports what the crates below it have, under the names by which users know it.
+//! It re-exports what the crates below it have, under the names by which users know it. Of its own it has laws alone:
+//! what is signed, written and then found again is what the signer got (gitformat-signature).
 #![tactic(auto)]
 
 pub mod commit;
 pub mod laws;
+mod one_line;
+pub mod signed;
 pub mod tag;
 pub mod tree;
 

@@ -1,4 +1,0 @@
-pub mod Agreeing
-pub mod LineFields
-pub mod OneMarker
-pub mod SignedTexts
