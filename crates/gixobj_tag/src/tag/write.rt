@@ -106,9 +106,13 @@ fn put_tag<'a, T: Target, A: Tagger, S: Sink>(
     Ok(())
 }
 
+/// How many bytes the words `type` and `tag` have, each with a space and a newline.
+const WORDS_LEN: u64 = 11;
+
+/// How many bytes the word `tagger` has, with a space and a newline.
+const TAGGER_LEN: u64 = 8;
+
 /// How many bytes [`put_tag`] puts without a signature, or none past 64 bits.
-///
-/// `type` and `tag`, each with a space and a newline, are counted with the kind.
 fn unsigned_size<T: Target, A: Tagger>(
     target: &T,
     target_kind: Kind,
@@ -120,7 +124,7 @@ fn unsigned_size<T: Target, A: Tagger>(
         (bstr_bytes name.entry) (A.tagger_line tagger.now)
         (message_text (bstr_bytes message.entry))) }
 {
-    let with_kind = 11 + target_kind.as_bytes().len() as u64;
+    let with_kind = WORDS_LEN + target_kind.as_bytes().len() as u64;
     let targeted = target.size_with_target(with_kind)?;
     let named = targeted.checked_add(name.as_bytes().len() as u64)?;
     let tagged = tagger.size_with_tagger(named)?;
@@ -248,7 +252,7 @@ impl Tagger for Option<Signature> {
 
     fn size_with_tagger(&self, size: u64) -> Option<u64> {
         match self {
-            Some(actor) => size.checked_add(actor.size()?)?.checked_add(8),
+            Some(actor) => size.checked_add(actor.size()?)?.checked_add(TAGGER_LEN),
             None => Some(size),
         }
     }
@@ -368,7 +372,8 @@ fn put_behind_newline<S: Sink>(text: BStr<'_>, sink: &mut S) -> io::Result<()>
 
 /// The newline before the message, or nothing where it is newlines alone.
 fn opening(message: BStr<'_>) -> &[u8]
-    ensures text { message_text (bstr_bytes message.entry) ≡ result.now ++ bstr_bytes message.entry }
+    ensures text { message_text (bstr_bytes message.entry)
+        ≡ result.now ++ bstr_bytes message.entry }
     ensures short { length result.now ≤ 1 }
 {
     if are_newlines(message.as_bytes()) {
