@@ -1,7 +1,11 @@
 //! Owned tags, written (gitdatamodel, "tag objects").
+ghost use Rattle.std.specs.Prelude.{◌≡◌, length};
+ghost use Rattle.gixobj_hash.specs.Optional.{owned_bytes_if_some};
+ghost use Rattle.gixobj_tag.specs.TagWriting.{signature_text};
 
 use super::super::Tag;
-use super::{put_tag, size_with_signature, unsigned_size};
+use super::{put_tag, unsigned_size};
+use bstr::BString;
 use gixobj_fields::streams::Sink;
 use gixobj_fields::{WriteTo, encode};
 use gixobj_hash::Kind;
@@ -48,6 +52,21 @@ impl WriteTo for Tag {
             &self.tagger,
             self.message.as_bstr(),
         )?;
-        size_with_signature(unsigned, borrowed(&self.signature))
+        unsigned.checked_add(signature_len(&self.signature, &self.message))
     }
+}
+
+/// How many bytes the newline before a signature and the signature have, or 0 without one.
+///
+/// Some length is read in either case, that of the other text without a signature: so no branch is guessed.
+#[inline(always)]
+fn signature_len(signature: &Option<BString>, other: &BString) -> u64
+    ensures { result ≡ length (signature_text (owned_bytes_if_some signature.now)) }
+{
+    let text = match signature {
+        Some(text) => text,
+        None => other,
+    };
+    let len = 1 + text.as_bytes().len() as u64;
+    if signature.is_some() { len } else { 0 }
 }
