@@ -307,11 +307,12 @@ fn put_actor<S: Sink>(name: &[u8], email: &[u8], time: &[u8], sink: &mut S) -> i
 
 /// How many bytes an actor takes whose time has so many, or none past 64 bits.
 fn actor_size(name: &[u8], email: &[u8], time_len: u64) -> Option<u64>
+    requires room { time_len < 2 ^ 63 }
     ensures { SomeIff result (length name.now + length email.now + time_len + 4 < 2 ^ 64)
         (length name.now + length email.now + time_len + 4) }
 {
-    let texts = (name.len() as u64).checked_add(email.len() as u64)?;
-    texts.checked_add(time_len)?.checked_add(4)
+    let texts = name.len() as u64 + email.len() as u64;
+    texts.checked_add(time_len + 4)
 }
 
 /// The actor of a line and what follows its time, or none.

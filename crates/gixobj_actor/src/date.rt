@@ -86,7 +86,8 @@ impl Time {
     #[inline(always)]
     #[tactic(auto, using(crate::proofs::TimeSizes::length_of_time))]
     pub(crate) fn text_len(&self) -> u64
-        ensures { result ≡ length (time_text self.now.seconds self.now.offset) }
+        ensures is { result ≡ length (time_text self.now.seconds self.now.offset) }
+        ensures few { result ≤ 27 }
     {
         u64::from(self.seconds < 0) + digit_count(self.seconds.unsigned_abs()) + OFFSET_LEN
     }
