@@ -114,7 +114,8 @@ pub fn sign_payload<R: Runner>(
 ) -> Result<BString, Error>
     ensures signed { Signs R.runs (sign_plan (options_view options) payload.now) runner.old result
         runner.new }
-    ensures taken { TakesForCalls (sign_plan (options_view options) payload.now) (sign_view result) }
+    ensures taken { TakesForCalls (sign_plan (options_view options) payload.now)
+        (sign_view result) }
 {
     if options.signing_key.is_empty() {
         return Err(Error::MissingSigningKey);
