@@ -1,11 +1,11 @@
 -- A search by halves among borrowed entries, by their names.
-use Rattle.std.proofs.Common.{◌≡◌, ◌<◌, ℕ, Bool, false, List, [], ◌∷◌, Contains, Equal, Ordering, Result, Ok, Err, ap, arith, get_or, length, map, refl, subst, sym, ◌∙◌}
-use Rattle.std.proofs.lemmas.List.{get_or-map, length-map}
+use Rattle.std.proofs.Common.{◌≡◌, ◌+◌, ◌<◌, ◌≤◌, ℕ, Bool, false, List, [], ◌∷◌, Contains, Less, Equal, Greater, Ordering, Result, Ok, Err, ap, arith, get_or, length, map, refl, subst, sym, ◌∙◌}
+use Rattle.std.proofs.lemmas.List.{get_or-map, get_or_default, length-map}
 use Rattle.std.proofs.lemmas.List.Elements.{All-from_recursion}
 use Rattle.std.specs.Cmp.Lexicographic.{slice_cmp}
 use Rattle.std.specs.List.{HoldsAt}
-use Rattle.std.specs.List.Sorted.{IsBinarySearchResult, IsSearchInRange}
-use Rattle.std.specs.Ordering.{nat_cmp}
+use Rattle.std.specs.List.Sorted.{IsBinarySearchResult, IsNonDecreasingBy, IsSearchInRange}
+use Rattle.std.specs.Ordering.{nat_cmp, ordering_index}
 use Rattle.gixobj_hash.specs.Texts.{IsFree}
 use Rattle.gixobj_tree.proofs.NameKeys.{by_keys}
 use Rattle.gixobj_tree.proofs.WellFormed.{found, same_key}
@@ -35,6 +35,48 @@ module _ {X Y : Type 0} (view : X → Y) (cmp : X → Ordering) (R : Y → Order
         λ k d a b. seen_at x xs same k d (omega (arith, b, range)) ∙ split.0 k x a b,
         λ k d a b. seen_at x xs same k d (omega (arith, b, n)) ∙ split.1 k x a (omega (arith, b, n)),
       )
+
+-- nothing is below `Less`, and nothing above `Greater`
+lowest : (o : Ordering) → ordering_index o ≤ 0 → o ≡ Less
+lowest Less h = refl
+lowest Equal h = absurd (omega (arith, h))
+lowest Greater h = absurd (omega (arith, h))
+
+highest : (o : Ordering) → 2 ≤ ordering_index o → o ≡ Greater
+highest Less h = absurd (omega (arith, h))
+highest Equal h = absurd (omega (arith, h))
+highest Greater h = refl
+
+-- the places that are left where the answers rise
+module _ {X : Type 0} (cmp : X → Ordering) (xs : List X) where
+  abbrev Rises : Type 0
+  Rises = IsNonDecreasingBy (λ x. ordering_index (cmp x)) xs
+
+  -- all in front are too low, and all behind too high
+  pub record IsNarrowed (low high : ℕ) : Type 0 where
+    pub front : Rises → (k : ℕ) (d : X) → k < low → cmp (get_or xs k d) ≡ Less
+    pub back : Rises → (k : ℕ) (d : X) → high ≤ k → k < length xs → cmp (get_or xs k d) ≡ Greater
+
+  pub looked : (i : ℕ) (x : X) → i < length xs → x ≡ get_or xs i x → (o : Ordering) → cmp x ≡ o → HoldsAt (λ y. cmp y ≡ o) xs i
+  looked i x low is o told = λ d. subst (λ (y : X). cmp y ≡ o) (is ∙ get_or_default xs i x d low) told
+
+  pub narrowed_all : IsNarrowed 0 (length xs)
+  narrowed_all = record { front = λ rises k d l. absurd (omega (arith, l)); back = λ rises k d from l. absurd (omega (arith, from, l)) }
+
+  pub narrowed_up : (low high m : ℕ) → m < length xs → HoldsAt (λ x. cmp x ≡ Less) xs m → IsNarrowed low high → IsNarrowed (m + 1) high
+  narrowed_up low high m within is narrowed = record {
+    front = λ rises k d l. lowest (cmp (get_or xs k d)) (subst (λ (o : Ordering). ordering_index (cmp (get_or xs k d)) ≤ ordering_index o) (is d) (rises k m d (omega (arith, l)) within));
+    back = narrowed.back;
+  }
+
+  pub narrowed_down : (low high m : ℕ) → HoldsAt (λ x. cmp x ≡ Greater) xs m → IsNarrowed low high → IsNarrowed low m
+  narrowed_down low high m is narrowed = record {
+    front = narrowed.front;
+    back = λ rises k d from l. highest (cmp (get_or xs k d)) (subst (λ (o : Ordering). ordering_index o ≤ ordering_index (cmp (get_or xs k d))) (is d) (rises m k d from l));
+  }
+
+  pub narrowed_none : (i : ℕ) → IsNarrowed i i → IsBinarySearchResult cmp xs (Err i)
+  narrowed_none i narrowed = λ rises. ((λ k d a b. narrowed.front rises k d b), narrowed.back rises)
 
 module _ {X : Type 0} (view : X → EntryView) (name : List ℕ) (is_dir : Bool) where
   -- how an entry compares with the name that is sought

@@ -1,5 +1,6 @@
 //! Trees, borrowed (gitdatamodel, "trees").
-ghost use Rattle.std.specs.Prelude.{◌≡◌, ◌≢◌, [], Contains, IfErr, IfOk, IfSome, MatchOption};
+ghost use Rattle.std.specs.Prelude.{◌≡◌, ◌≢◌, [], Contains, IfErr, IfOk, IfSome, length, MatchOption};
+ghost use Rattle.std.specs.List.Sorted.{IsBinarySearchResult, IsSearchInRange};
 ghost use Rattle.std.specs.declared.cmp.Ordering.TheVariants.{Equal};
 ghost use Rattle.gixobj_hash.specs.Bytes.{slash};
 ghost use Rattle.gixobj_hash.specs.Texts.{IsFree};
@@ -19,6 +20,7 @@ use crate::tree::name_order;
 use bstr::BStr;
 pub use entry_ref::EntryRef;
 use std::alloc::Global;
+use std::cmp::Ordering;
 
 /// A tree, borrowed: the entries of a directory as they stand in its text.
 #[derive(Clone, Debug, Drop)]
@@ -54,18 +56,44 @@ impl<'a> TreeRef<'a> {
             (key_of (bstr_bytes name.entry) is_dir))
             (λ e. entry_key (entry_view e) ≡ key_of (bstr_bytes name.entry) is_dir) }
     {
-        let name = name.as_bytes();
-        let sought = self.entries.binary_search_by(|entry| {
-            name_order(
-                entry.filename.as_bytes(),
-                entry.mode.is_tree(),
-                name,
-                is_dir,
-            )
-        });
-        match sought {
+        match place_of(&self.entries, name.as_bytes(), is_dir) {
             Ok(at) => Some(self.entries[at]),
             Err(_) => None,
         }
     }
+}
+
+/// The place of an entry that [`name_order`] finds equal, or else that where one would stand: sought by
+/// halves, and left as soon as it is found.
+#[inline(always)]
+fn place_of(entries: &[EntryRef<'_>], name: &[u8], is_dir: bool) -> Result<usize, usize>
+    ensures bound { IsSearchInRange result (length entries.now) }
+    ensures position { IsBinarySearchResult (λ e. name_cmp (entry_view e).name
+        (is_tree_mode (entry_view e).mode) name.now is_dir) entries.now result }
+{
+    let mut low = 0;
+    let mut high = entries.len();
+    while low < high {
+        let middle = low + (high - low) / 2;
+        match order_with(&entries[middle], name, is_dir) {
+            Ordering::Less => low = middle + 1,
+            Ordering::Equal => return Ok(middle),
+            Ordering::Greater => high = middle,
+        }
+    }
+    Err(low)
+}
+
+/// The order of an entry and one of this name.
+#[inline(always)]
+fn order_with(entry: &EntryRef<'_>, name: &[u8], is_dir: bool) -> Ordering
+    ensures { result ≡ name_cmp (entry_view entry.now).name
+        (is_tree_mode (entry_view entry.now).mode) name.now is_dir }
+{
+    name_order(
+        entry.filename.as_bytes(),
+        entry.mode.is_tree(),
+        name,
+        is_dir,
+    )
 }

@@ -1,0 +1,16 @@
+-- The name can stand only among those that are left.
+use Rattle.std.proofs.Common.{◌≤◌, ◌-◌, length}
+use Rattle.gixobj_tree.specs.TreeViews.{entry_view}
+use Rattle.gixobj_tree.proofs.Bisecting.{IsNarrowed, compared}
+use Rattle.gixobj_tree.proofs.tree.borrowed.place_of.Given as goal
+
+abbrev pub invariant-loop-low : goal.invariant-loop-low
+invariant-loop-low l =
+    record {
+      ordered : l.low ≤ l.high;
+      within : l.high ≤ length l.entries;
+      narrowed : IsNarrowed (compared entry_view l.name l.is_dir) l.entries l.low l.high;
+    }
+
+abbrev pub decreases-loop-low : goal.decreases-loop-low
+decreases-loop-low l = l.high - l.low
