@@ -40,7 +40,8 @@ impl Ord for Tree {
 impl PartialOrd for Tree {
     ghost partial_cmp = { as_partial_cmp tree_cmp };
 
-    ghost laws = { partial_order_from_agreeing_total tree_cmp tree_cmp_total (λ x y. refl) tree_ties };
+    ghost laws = { partial_order_from_agreeing_total tree_cmp tree_cmp_total
+        (λ x y. refl) tree_ties };
 
     fn partial_cmp(&self, other: &Tree) -> Option<Ordering> {
         Some(self.cmp(other))

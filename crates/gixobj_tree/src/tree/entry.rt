@@ -34,7 +34,11 @@ impl Model for Entry {
 
     ghost Value = { EntryView };
 
-    ghost view = { λ e. record { mode = mode_bits e.mode; name = bstring_bytes e.filename; id = e.oid } };
+    ghost view = { λ e. record {
+      mode = mode_bits e.mode;
+      name = bstring_bytes e.filename;
+      id = e.oid;
+    } };
 }
 
 impl Entry {
@@ -92,7 +96,8 @@ impl Ord for Entry {
 impl PartialOrd for Entry {
     ghost partial_cmp = { as_partial_cmp entry_cmp };
 
-    ghost laws = { partial_order_from_agreeing_total entry_cmp entry_cmp_total (λ x y. refl) entry_ties };
+    ghost laws = { partial_order_from_agreeing_total entry_cmp entry_cmp_total
+        (λ x y. refl) entry_ties };
 
     fn partial_cmp(&self, other: &Entry) -> Option<Ordering> {
         Some(self.cmp(other))

@@ -44,7 +44,9 @@ impl Ord for TreeRef<'_> {
 impl PartialOrd for TreeRef<'_> {
     ghost partial_cmp = { as_partial_cmp (on tree_entries tree_cmp) };
 
-    ghost laws = { partial_order_from_agreeing_total (on tree_entries tree_cmp) (on_total tree_entries tree_cmp_total) (λ x y. refl) (λ x y. tree_ties (tree_entries x) (tree_entries y)) };
+    ghost laws = { partial_order_from_agreeing_total (on tree_entries tree_cmp)
+        (on_total tree_entries tree_cmp_total) (λ x y. refl)
+        (λ x y. tree_ties (tree_entries x) (tree_entries y)) };
 
     fn partial_cmp(&self, other: &Self) -> Option<Ordering> {
         Some(self.cmp(other))

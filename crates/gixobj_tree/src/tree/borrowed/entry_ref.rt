@@ -66,7 +66,9 @@ impl Ord for EntryRef<'_> {
 impl PartialOrd for EntryRef<'_> {
     ghost partial_cmp = { as_partial_cmp (on entry_view entry_cmp) };
 
-    ghost laws = { partial_order_from_agreeing_total (on entry_view entry_cmp) (on_total entry_view entry_cmp_total) (λ x y. refl) (λ x y. entry_ties (entry_view x) (entry_view y)) };
+    ghost laws = { partial_order_from_agreeing_total (on entry_view entry_cmp)
+        (on_total entry_view entry_cmp_total) (λ x y. refl)
+        (λ x y. entry_ties (entry_view x) (entry_view y)) };
 
     fn partial_cmp(&self, other: &Self) -> Option<Ordering> {
         Some(self.cmp(other))
