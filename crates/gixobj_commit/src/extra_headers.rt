@@ -159,7 +159,8 @@ impl<'a, I: Iterator<Item = (BStr<'a>, BStr<'a>)> + Drop> Iterator for Mergetags
 
     type Item = Result<TagRef<'a>, Error>;
 
-    ghost can_next = { λ s. I.can_next (searched (mergetag_values s)) × IsFinite (I.remaining (searched (mergetag_values s))) };
+    ghost can_next = { λ s. I.can_next (searched (mergetag_values s))
+        × IsFinite (I.remaining (searched (mergetag_values s))) };
 
     ghost next_gives = { GivesMergetag I.next_gives };
 
