@@ -10,7 +10,7 @@ ghost use Rattle.gixobj_show.specs.Words.{AsksFor};
 
 use crate::editing::edit;
 use crate::fault::{Fault, tell_fault};
-use crate::tree::list;
+use crate::tree::{list, list_read};
 use gixobj_fields::streams::{FromRead, Sink, Source, ToWrite};
 use gixobj_hash::hash;
 use gixobj_show::Refusal;
@@ -62,13 +62,20 @@ pub fn engine<R: Read, O: Write, E: Write>(
         (output.new ≡ output.old) result }
     ensures no_error { result ≡ 0 → errors.new ≡ errors.old }
 {
-    run(
-        alloc,
-        words,
-        &mut FromRead(input),
-        &mut ToWrite(output),
-        &mut ToWrite(errors),
-    )
+    if let Some(hash) = asked("edit", words) {
+        return run_script(
+            alloc,
+            words,
+            hash,
+            &mut FromRead(input),
+            &mut ToWrite(output),
+            &mut ToWrite(errors),
+        );
+    }
+    match asked("tree", words) {
+        Some(hash) => list_read(alloc, words, hash, input, output, errors),
+        None => gixobj_show::engine::engine(alloc, words, input, output, errors),
+    }
 }
 
 /// [`engine`] over a source and two sinks, which say when they may fail: over a slice and two

@@ -1,6 +1,7 @@
 //! `tree`: the entries of a loose tree, a line each, over any reader and any two writers.
-ghost use Rattle.std.specs.Prelude.{◌≡◌, ◌≢◌, [], ◌++◌, codes, map, IfOk, IfErr, OnErr, OnOk};
+ghost use Rattle.std.specs.Prelude.{◌≡◌, ◌≢◌, [], ◌++◌, codes, map, IfOk, IfErr, OnErr, OnOk, ⊤};
 ghost use Rattle.std.specs.String.{string_bytes};
+ghost use Rattle.gixobj_fields.specs.Streams.{writer_view};
 ghost use Rattle.gixobj_hash.specs.Decode.{HasContent};
 ghost use Rattle.gixobj_hash.specs.declared.kind.Kind.TheVariants.{Tree};
 ghost use Rattle.gixobj_script.specs.Listing.{IsListed, IsUnlisted, Listed, RefusesList, RefusesListing, RefusesListedTree, entry_line, listing_of};
@@ -8,7 +9,7 @@ ghost use Rattle.gixobj_show.specs.Engine.{Unwritten};
 ghost use Rattle.gixobj_show.specs.Words.{AsksFor};
 ghost use Rattle.gixobj_tree.specs.TreeViews.{entry_view, tree_entries};
 
-use gixobj_fields::streams::{Sink, Source};
+use gixobj_fields::streams::{FromRead, Sink, Source, ToWrite};
 use gixobj_hash::decode::{Error, loose_content};
 use gixobj_hash::{Kind, hash};
 use gixobj_show::Refusal;
@@ -17,6 +18,36 @@ use gixobj_show::input::read_all;
 use gixobj_tree::TreeRef;
 use gixobj_tree::tree::EntryRef;
 use std::alloc::{AllocError, Global};
+use std::io::{Read, Write};
+
+/// [`list`] over any reader and any two writers. The words ask for that.
+pub(crate) fn list_read<R: Read, O: Write, E: Write>(
+    alloc: Global,
+    words: &[String],
+    hash: hash::Kind,
+    input: &mut R,
+    output: &mut O,
+    errors: &mut E,
+) -> u8
+    requires asked { AsksFor (map string_bytes words.now) (codes "tree") hash }
+    ensures listed { result ≡ 0 → Listed (map string_bytes words.now) (R.remaining input.old)
+        (R.remaining input.new) (writer_view (O.contents output.old))
+        (writer_view (O.contents output.new)) }
+    ensures unlisted { result ≢ 0 → IsUnlisted (map string_bytes words.now)
+        (R.remaining input.old) (R.remaining input.new) ⊤ (writer_view (O.contents output.old))
+        (writer_view (O.contents output.new)) (writer_view (E.contents errors.old))
+        (writer_view (E.contents errors.new)) (output.new ≡ output.old) result }
+    ensures no_error { result ≡ 0 → errors.new ≡ errors.old }
+{
+    list(
+        alloc,
+        words,
+        hash,
+        &mut FromRead(input),
+        &mut ToWrite(output),
+        &mut ToWrite(errors),
+    )
+}
 
 /// Lists the tree of the input, or says why there is no list, and answers the exit status. The words ask for that.
 pub(crate) fn list<S: Source, O: Sink, E: Sink>(
