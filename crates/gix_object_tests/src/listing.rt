@@ -34,7 +34,11 @@ impl Model for Listed {
 
     ghost Value = { FileView };
 
-    ghost view = { λ file. record { path = names_of file.path.items; mode = mode_bits file.mode; id = file.id } };
+    ghost view = { λ file. record {
+      path = names_of file.path.items;
+      mode = mode_bits file.mode;
+      id = file.id;
+    } };
 }
 
 /// The files of the tree, with paths of at most so many names. An id names the first tree of the table

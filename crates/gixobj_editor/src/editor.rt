@@ -70,7 +70,14 @@ impl<S> Model for Editor<S> {
 
     ghost coded = { state_code S.code };
 
-    ghost view = { λ e. record { dirs = map.from_entries (side_list entries_side e.root); bases = map.from_entries (side_list base_side e.root); store = e.store; lookups = e.lookups; object_hash = e.object_hash; prefix = names_of e.prefix.items } };
+    ghost view = { λ e. record {
+      dirs = map.from_entries (side_list entries_side e.root);
+      bases = map.from_entries (side_list base_side e.root);
+      store = e.store;
+      lookups = e.lookups;
+      object_hash = e.object_hash;
+      prefix = names_of e.prefix.items;
+    } };
 
     ghost invariant = { λ e. AreOpenedOn (dirs_of e.root) (bases_of e.root) };
 }
