@@ -45,10 +45,9 @@ use std::marker::Model;
 
 /// An editor of a tree, over a store of objects.
 ///
-/// In contracts it is the list of each open directory, by its path, and the list that the
-/// directory was opened with, its base; with the store, the number of lookups, the kind of the
-/// ids, and the path at which the newest cursor was made. An entry with a null id is a
-/// placeholder, which is never written.
+/// In contracts it is the list of each open directory, by its path, and the list that the directory was opened with,
+/// its base; with the store, the number of lookups, the kind of the ids, and the path at which the newest cursor was
+/// made. An entry with a null id is a placeholder, which is never written.
 #[derive(Drop)]
 pub struct Editor<S> {
     root: Open,
@@ -84,10 +83,9 @@ impl<S> Model for Editor<S> {
 
 /// Lifecycle
 impl<S> Editor<S> {
-    /// An editor of this tree, over a store of objects, with ids of this kind of digest. The root
-    /// must be well-formed, as [`Tree::is_well_formed`] tells. A directory that an edit makes has the
-    /// null id of this kind until a write; ids of the other kind are taken as they are. It takes no
-    /// memory.
+    /// An editor of this tree, over a store of objects, with ids of this kind of digest. The root must be
+    /// well-formed, as [`Tree::is_well_formed`] tells. A directory that an edit makes has the null id of this kind
+    /// until a write; ids of the other kind are taken as they are. It takes no memory.
     pub fn new(root: Tree, store: S, object_hash: hash::Kind) -> Editor<S>
         requires { IsWellFormed root }
         ensures dirs { result.dirs ≡ root_alone root }
@@ -216,10 +214,9 @@ impl<S: Find> Editor<S> {
     /// changed: that takes memory for a copy.
     ///
     /// `EmptyPathComponent` or `SlashInPathComponent` for the first name that no entry may have;
-    /// else `FindExistingObject` or `MalformedTree` for the first directory that the store doesn't
-    /// have as a well-formed tree, or whose lookup fails; `OutOfMemory` where memory ran out, only
-    /// where the path has names. A refusal leaves the files as they were; what was opened on the way
-    /// stays open.
+    /// else `FindExistingObject` or `MalformedTree` for the first directory that the store doesn't have as a
+    /// well-formed tree, or whose lookup fails; `OutOfMemory` where memory ran out, only where the path has names. A
+    /// refusal leaves the files as they were; what was opened on the way stays open.
     pub fn try_upsert(
         &mut self,
         path: &[BString],
@@ -326,9 +323,8 @@ impl<S> Editor<S> {
 
 /// Copying
 impl<S: Clone> Editor<S> {
-    /// A copy: with the same open directories, what each was opened with, and the number of
-    /// lookups, over a clone of the store, which must equal it. So both hand out the same trees in
-    /// the next write.
+    /// A copy: with the same open directories, what each was opened with, and the number of lookups, over a clone of
+    /// the store, which must equal it. So both hand out the same trees in the next write.
     ///
     /// It takes memory for each open directory, for its entries and those that it was opened with,
     /// and for the names of the newest cursor's path. `OutOfMemory` where memory ran out.
@@ -352,9 +348,8 @@ impl<S: Clone> Editor<S> {
 
 /// Writing
 impl<S> Editor<S> {
-    /// Like gix-object's `Editor::write` as documented: writes all changed trees, and only changed
-    /// trees, to `out`; the root comes last, changed or not. As [`Editor::try_write`], with a
-    /// closure of its own.
+    /// Like gix-object's `Editor::write` as documented: writes all changed trees, and only changed trees, to `out`;
+    /// the root comes last, changed or not. As [`Editor::try_write`], with a closure of its own.
     pub fn write<E, F: FnMut(&Tree) -> Result<ObjectId, E> + Drop>(
         &mut self,
         out: F,
@@ -375,10 +370,9 @@ impl<S> Editor<S> {
     /// of their entries, and last the root, also where it is empty or as it was. Then the root
     /// alone is open, with the tree that was handed out for it (git-write-tree).
     ///
-    /// A directory was changed where its tree isn't the one that it was opened with. Any other
-    /// that has entries keeps its id, and [`Written::saved`] counts it. One that is then empty is
-    /// left out, and so are entries with null ids. The answer of `out` to a tree is its id in the
-    /// tree above; a null one leaves it out.
+    /// A directory was changed where its tree isn't the one that it was opened with. Any other that has entries keeps
+    /// its id, and [`Written::saved`] counts it. One that is then empty is left out, and so are entries with null
+    /// ids. The answer of `out` to a tree is its id in the tree above; a null one leaves it out.
     ///
     /// It takes memory for the root's tree, for the trees that go out of directories in which
     /// another is open or an id is null, and for the list of all that go out. The others go out as
