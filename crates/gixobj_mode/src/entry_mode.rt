@@ -1,5 +1,6 @@
 //! The modes of tree entries.
-ghost use Rattle.std.specs.Prelude.{◌≡◌, ◌≢◌, ◌++◌, slice_index, ◌≤◌, ◌↔◌, ◌+◌, ◌%◌, ℕ, List, [], ◌∷◌, IsTrue, IfSome, IfNone, length, ◌^◌, ◌⊎◌, not};
+ghost use Rattle.std.specs.Prelude.{◌≡◌, ◌≢◌, ◌++◌, slice_index, ◌≤◌, ◌↔◌, ◌+◌, ◌%◌, ℕ, List, [], ◌∷◌, IsTrue, IfSome, IfNone, length, ◌^◌, ◌⊎◌, not, take};
+ghost use Rattle.std.specs.Int.{from_be_bytes, w64};
 ghost use Rattle.std.specs.Option.{SomeIff};
 ghost use Rattle.std.specs.Str.Parse.{AllDigits, digits_value};
 ghost use Rattle.bstr.specs.BStr.{bstr_bytes};
@@ -255,30 +256,48 @@ pub fn text_len(mode: EntryMode) -> usize
     }
 }
 
-/// The kind whose own mode and a space stand in front of the bytes, and the rest from the space on.
+/// The kind whose own mode and a space stand in front of the bytes, of which there are eight at least,
+/// and the rest from the space on. Seven bytes are compared at once, as a number.
 #[inline(always)]
 #[tactic(auto, using(crate::proofs::KindTexts::blob_found, crate::proofs::KindTexts::tree_found, crate::proofs::KindTexts::executable_found, crate::proofs::KindTexts::link_found, crate::proofs::KindTexts::commit_found, crate::proofs::KindTexts::no_kind))]
 fn kind_in_front(i: &[u8]) -> Option<(EntryKind, &[u8])>
     ensures found { IfSome result (λ it. BeginsWithKind i.now it.0 it.1.now) }
-    ensures none { IfNone result ((kind : EntryKind) (rest : List ℕ)
+    ensures none { 8 ≤ length i.now → IfNone result ((kind : EntryKind) (rest : List ℕ)
         → ¬ BeginsWithKind i.now kind rest) }
 {
-    if i.starts_with(b"100644 ") {
+    if i.len() < 8 {
+        return None;
+    }
+    let front = first_seven(i);
+    if front == u64::from_be_bytes(*b"\0100644 ") {
         return Some((EntryKind::Blob, i.split_at(6).1));
     }
-    if i.starts_with(b"40000 ") {
+    if front / 256 == u64::from_be_bytes(*b"\0\040000 ") {
         return Some((EntryKind::Tree, i.split_at(5).1));
     }
-    if i.starts_with(b"100755 ") {
+    if front == u64::from_be_bytes(*b"\0100755 ") {
         return Some((EntryKind::BlobExecutable, i.split_at(6).1));
     }
-    if i.starts_with(b"120000 ") {
+    if front == u64::from_be_bytes(*b"\0120000 ") {
         return Some((EntryKind::Link, i.split_at(6).1));
     }
-    if i.starts_with(b"160000 ") {
+    if front == u64::from_be_bytes(*b"\0160000 ") {
         return Some((EntryKind::Commit, i.split_at(6).1));
     }
     None
+}
+
+/// The first seven bytes as a number, whose first digit in base 256 is the first byte. Read with the
+/// eighth they are one word.
+#[inline(always)]
+fn first_seven(text: &[u8]) -> u64
+    requires { 8 ≤ length text.now }
+    ensures { result ≡ from_be_bytes w64 (0 ∷ take 7 text.now) }
+{
+    let word = u64::from_be_bytes([
+        text[0], text[1], text[2], text[3], text[4], text[5], text[6], text[7],
+    ]);
+    word / 256
 }
 
 /// The mode in front of the bytes, and what stands behind its digits, whatever they are.

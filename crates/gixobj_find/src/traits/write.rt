@@ -26,7 +26,8 @@ pub trait Write {
     ghost answers: { Self → Kind → ℕ → Option (List ℕ) → Result ObjectId Error → Type 0 };
 
     /// The same where the id is handed in.
-    ghost answers_known: { Self → ObjectId → Kind → ℕ → Option (List ℕ) → Result ObjectId Error → Type 0 };
+    ghost answers_known: { Self → ObjectId → Kind → ℕ → Option (List ℕ)
+        → Result ObjectId Error → Type 0 };
 
     /// Writes an object, and answers its id: its text is put into memory, and handed on as a stream.
     ///

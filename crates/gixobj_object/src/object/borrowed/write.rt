@@ -1,4 +1,6 @@
 //! Borrowed objects of any kind, written.
+ghost use Rattle.gixobj_fields.specs.Writing.{IsSize};
+ghost use Rattle.gixobj_object.specs.BorrowedObjects.{IsReadyToWrite, borrowed_object_text};
 
 use super::ObjectRef;
 use gixobj_fields::WriteTo;
@@ -34,11 +36,24 @@ impl WriteTo for ObjectRef<'_> {
 
     #[inline(always)]
     fn size(&self) -> Option<u64> {
-        match self {
-            ObjectRef::Tree(tree) => tree.size(),
-            ObjectRef::Blob(blob) => blob.size(),
-            ObjectRef::Commit(commit) => commit.size(),
-            ObjectRef::Tag(tag) => tag.size(),
+        if let ObjectRef::Blob(blob) = self {
+            return blob.size();
         }
+        text_size(self)
+    }
+}
+
+/// The size of an object of any kind. It stands apart from [`WriteTo::size`], where a blob's is answered
+/// as a length, with no jump by the kind.
+#[inline(never)]
+fn text_size(object: &ObjectRef<'_>) -> Option<u64>
+    requires { IsReadyToWrite object.now }
+    ensures { IsSize result (borrowed_object_text object.now) }
+{
+    match object {
+        ObjectRef::Tree(tree) => tree.size(),
+        ObjectRef::Blob(blob) => blob.size(),
+        ObjectRef::Commit(commit) => commit.size(),
+        ObjectRef::Tag(tag) => tag.size(),
     }
 }
