@@ -241,6 +241,10 @@ pub fn kind_text(mode: EntryMode) -> Option<&'static [u8]>
     }
 }
 
+/// How many bytes the text of a mode has whose highest four bits are these, but for mode 0: five for a
+/// tree, and else six.
+const TEXT_LENS: [u8; 16] = [6, 6, 6, 6, 5, 6, 6, 6, 6, 6, 6, 6, 6, 6, 6, 6];
+
 /// How many bytes the mode's text has.
 #[inline(always)]
 pub fn text_len(mode: EntryMode) -> usize
@@ -248,12 +252,9 @@ pub fn text_len(mode: EntryMode) -> usize
     ensures short { result ≤ 6 }
 {
     if mode.internal == 0 {
-        1
-    } else if mode.internal / 4096 % 8 == 4 && mode.internal / 32768 % 8 != 1 {
-        5
-    } else {
-        6
+        return 1;
     }
+    usize::from(TEXT_LENS[usize::from(mode.internal / 4096)])
 }
 
 /// The kind whose own mode and a space stand in front of the bytes, of which there are eight at least,

@@ -17,6 +17,10 @@ use Rattle.gixobj_hash.specs.Bytes.{space}
 abbrev pub before_name : EntryView → List ℕ
 before_name e = mode_text e.mode ++ space ∷ []
 
+-- the mode and the name, which are as long as they are
+abbrev pub front_text : EntryView → List ℕ
+front_text e = mode_text e.mode ++ e.name
+
 -- an entry: mode, space, name, zero byte, id
 abbrev pub entry_text : EntryView → List ℕ
 entry_text e = before_name e ++ e.name ++ 0 ∷ id_bytes e.id

@@ -1,5 +1,5 @@
 //! Trees, written (gitdatamodel, "trees").
-ghost use Rattle.std.specs.Prelude.{◌≡◌, ◌<◌, ◌+◌, ◌^◌, [], ◌∷◌, ◌++◌, length, IfErr, OnOk};
+ghost use Rattle.std.specs.Prelude.{◌≡◌, ◌<◌, ◌≤◌, ◌+◌, ◌*◌, ◌^◌, [], ◌∷◌, ◌++◌, length, IfErr, OnOk};
 ghost use Rattle.std.specs.Option.{SomeIff};
 ghost use Rattle.gixobj_hash.specs.Bytes.{space};
 ghost use Rattle.gixobj_hash.specs.Hash.{id_bytes};
@@ -8,11 +8,11 @@ ghost use Rattle.gixobj_hash.specs.Texts.{IsFree};
 ghost use Rattle.gixobj_tree.specs.Entries.{entry_of};
 ghost use Rattle.gixobj_mode.specs.Mode.{mode_bits, mode_text};
 ghost use Rattle.gixobj_tree.specs.TreeViews.{entry_view};
-ghost use Rattle.gixobj_tree.specs.TreeText.{IsAnsweredDigest, RefusesEntry, entry_text};
+ghost use Rattle.gixobj_tree.specs.TreeText.{IsAnsweredDigest, RefusesEntry, entry_text, front_text};
 ghost use Rattle.gixobj_fields.specs.Streams.{Puts, PutsOrFails};
 ghost use Rattle.gixobj_fields.specs.Writing.{AddsSize, RefusesWriting};
 
-use super::{EntryMode, EntryRef, Tree};
+use super::{Entry, EntryMode, EntryRef, Tree};
 use bstr::BString;
 use gixobj_fields::WriteTo;
 use gixobj_fields::encode::Error;
@@ -50,11 +50,44 @@ impl WriteTo for Tree {
 
     fn size(&self) -> Option<u64> {
         let mut size = 0u64;
+        let mut longer = 0u64;
         for entry in &self.entries {
-            size = size_with_entry_ref(size, &EntryRef::from(entry))?;
+            size = size_with_front(size, entry)?;
+            longer += longer_one(&entry.oid);
         }
-        Some(size)
+        size_with_ids(size, self.entries.len() as u64, longer)
     }
+}
+
+/// The size and that of the mode and the name of the entry, or none past 64 bits.
+#[inline(always)]
+fn size_with_front(size: u64, entry: &Entry) -> Option<u64>
+    ensures { AddsSize result size (front_text entry.now) }
+{
+    let with_name = size.checked_add(entry.filename.len() as u64)?;
+    with_name.checked_add(text_len(entry.mode) as u64)
+}
+
+/// One for an id of 32 bytes, and none for an id of 20.
+#[inline(always)]
+fn longer_one(id: &ObjectId) -> u64
+    ensures len { length (id_bytes id.now) ≡ 20 + 12 * result }
+    ensures one { result ≤ 1 }
+{
+    match id.as_bytes().len() {
+        20 => 0,
+        _ => 1,
+    }
+}
+
+/// The size and that of the space, the zero byte and the id of so many entries, or none past 64 bits. So
+/// many of the ids are `longer`: they have 32 bytes, and else 20.
+fn size_with_ids(size: u64, entries: u64, longer: u64) -> Option<u64>
+    ensures { SomeIff result (size + 22 * entries + 12 * longer < 2 ^ 64)
+        (size + 22 * entries + 12 * longer) }
+{
+    let ids = 22 * u128::from(entries) + 12 * u128::from(longer);
+    u64::try_from(u128::from(size) + ids).ok()
 }
 
 impl Tree {
