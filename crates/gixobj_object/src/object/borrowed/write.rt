@@ -36,15 +36,14 @@ impl WriteTo for ObjectRef<'_> {
 
     #[inline(always)]
     fn size(&self) -> Option<u64> {
-        if let ObjectRef::Blob(blob) = self {
-            return blob.size();
+        match self {
+            ObjectRef::Blob(blob) => blob.size(),
+            _ => Some(text_size(self)?),
         }
-        text_size(self)
     }
 }
 
-/// The size of an object of any kind. It stands apart from [`WriteTo::size`], where a blob's is answered
-/// as a length, with no jump by the kind.
+/// The size of any object, apart so that a blob's is answered with no jump and no test of this answer.
 #[inline(never)]
 fn text_size(object: &ObjectRef<'_>) -> Option<u64>
     requires { IsReadyToWrite object.now }
