@@ -3,6 +3,7 @@
 use gixobj_base::{WriteTo, encode};
 use gixobj_base_tests::limited::Limited;
 use std::alloc::Global;
+use std::cmp::Ordering;
 use std::hash::{DefaultHasher, Hash, Hasher};
 
 /// The hash of a value.
@@ -10,6 +11,59 @@ pub(crate) fn hash_of<T: Hash>(value: &T) -> u64 {
     let mut state = DefaultHasher::new();
     value.hash(&mut state);
     state.finish()
+}
+
+/// Whether two values are so in order, and have one hash where they are equal alone.
+pub(crate) fn are_ordered<T: Ord + Hash>(first: &T, second: &T, wanted: Ordering) -> bool {
+    first.cmp(second) == wanted
+        && (first == second) == wanted.is_eq()
+        && (hash_of(first) == hash_of(second)) == wanted.is_eq()
+}
+
+/// Whether the value at a place comes behind those before it, and before those behind it.
+fn is_at<T: Ord + Hash>(values: &[T], at: usize, value: &T) -> bool {
+    for (other_at, other) in values.iter().enumerate() {
+        if !are_ordered(value, other, at.cmp(&other_at)) {
+            return false;
+        }
+    }
+    true
+}
+
+/// Whether each value comes before those behind it.
+pub(crate) fn are_in_order<T: Ord + Hash>(values: &[T]) -> bool {
+    for (at, value) in values.iter().enumerate() {
+        if !is_at(values, at, value) {
+            return false;
+        }
+    }
+    true
+}
+
+/// Whether a value is copied as it is.
+pub(crate) fn is_copied<T: Clone + PartialEq + Drop>(value: &T) -> bool {
+    match value.clone() {
+        Ok(copy) => copy == *value,
+        Err(_) => false,
+    }
+}
+
+/// Whether a value is copied as it is, with its hash.
+pub(crate) fn is_copied_with_hash<T: Clone + PartialEq + Hash + Drop>(value: &T) -> bool {
+    match value.clone() {
+        Ok(copy) => copy == *value && hash_of(&copy) == hash_of(value),
+        Err(_) => false,
+    }
+}
+
+/// Whether that is so of each.
+pub(crate) fn are_copied<T: Clone + PartialEq + Hash + Drop>(values: &[T]) -> bool {
+    for value in values {
+        if !is_copied_with_hash(value) {
+            return false;
+        }
+    }
+    true
 }
 
 /// What is written of an object, borrowed or owned.

@@ -2,7 +2,7 @@
 
 mod growths;
 
-use crate::helpers::hash_of;
+use crate::helpers::{hash_of, is_copied};
 use bstr::BStr;
 use gixobj_base::OutOfMemory;
 use gixobj_base::hash::Kind::Sha1;
@@ -26,51 +26,70 @@ fn values(alloc: Global, trailers: Filtered<'_>) -> Result<Vec<u8>, OutOfMemory>
     Ok(values)
 }
 
+/// Whether these are the values of the trailers that a filter keeps.
+fn keeps(alloc: Global, trailers: Filtered<'_>, wanted: &[u8]) -> bool {
+    match values(alloc, trailers) {
+        Ok(values) => values.as_slice() == wanted,
+        Err(_) => false,
+    }
+}
+
 /// Whether each filter keeps the trailers of its names.
-fn filters_are_right(alloc: Global, commit: &CommitRef<'_>) -> Result<bool, OutOfMemory> {
-    let signed = values(alloc, commit.signed_off_by_trailers(alloc))?;
-    let co_authored = values(alloc, commit.co_authored_by_trailers(alloc))?;
-    let assisted = values(alloc, commit.assisted_by_trailers(alloc))?;
-    let authors = values(alloc, commit.author_trailers(alloc))?;
-    let all = values(alloc, commit.attribution_trailers(alloc))?;
-    Ok(
-        signed.as_slice() == b"1".as_slice()
-            && co_authored.as_slice() == b"2".as_slice()
-            && assisted.as_slice() == b"3".as_slice()
-            && authors.as_slice() == b"12".as_slice()
-            && all.as_slice() == b"123456".as_slice(),
-    )
+fn filters_are_right(alloc: Global, commit: &CommitRef<'_>) -> bool {
+    keeps(alloc, commit.signed_off_by_trailers(alloc), b"1")
+        && keeps(alloc, commit.co_authored_by_trailers(alloc), b"2")
+        && keeps(alloc, commit.assisted_by_trailers(alloc), b"3")
+        && keeps(alloc, commit.author_trailers(alloc), b"12")
+        && keeps(alloc, commit.attribution_trailers(alloc), b"123456")
+}
+
+/// Whether that is so of the commit of a text.
+fn is_filtered(alloc: Global, text: &[u8]) -> bool {
+    match CommitRef::from_bytes(alloc, text, Sha1) {
+        Ok(commit) => filters_are_right(alloc, &commit),
+        Err(_) => false,
+    }
 }
 
 #[test]
 fn filters_of_a_commit(rt: HostRuntime) {
-    let alloc = rt.alloc();
-    let commit = CommitRef::from_bytes(alloc, SIGNED, Sha1);
-    let is_right = match &commit {
-        Ok(commit) => filters_are_right(alloc, commit).unwrap_or(false),
-        Err(_) => false,
-    };
-    assert!(rt; is_right);
+    assert!(rt; is_filtered(rt.alloc(), SIGNED));
 }
 
-/// How many trailers a commit's message has, and how its title and its summary begin.
-fn told(alloc: Global) -> Option<(usize, bool)> {
-    let commit = CommitRef::from_bytes(alloc, SIGNED, Sha1).ok()?;
-    let message = commit.message();
-    let summary = commit.message_summary(alloc).ok()?;
-    let same = message.title == BStr::new(b"title\nmore")
-        && summary.as_slice() == b"title more".as_slice();
+/// Whether a commit's message has this title and this summary.
+fn begins(alloc: Global, commit: &CommitRef<'_>, title: &[u8], summary: &[u8]) -> bool {
+    match commit.message_summary(alloc) {
+        Ok(given) => { commit.message().title == BStr::new(title) && given.as_slice() == summary }
+        Err(_) => false,
+    }
+}
+
+/// How many trailers a commit's message has, or none where one isn't told.
+fn count_trailers(alloc: Global, commit: &CommitRef<'_>) -> Option<usize> {
     let mut count = 0usize;
     for trailer in commit.message_trailers(alloc) {
-        let _ = trailer.ok()?;
+        if trailer.is_err() {
+            return None;
+        }
         count = count.saturating_add(1);
     }
-    Some((count, same))
+    Some(count)
+}
+
+/// Whether the signed commit's message is told, with so many trailers.
+fn is_told(alloc: Global, trailers: usize) -> bool {
+    match CommitRef::from_bytes(alloc, SIGNED, Sha1) {
+        Ok(commit) => {
+            begins(alloc, &commit, b"title\nmore", b"title more")
+                && count_trailers(alloc, &commit) == Some(trailers)
+        }
+        Err(_) => false,
+    }
 }
 
 #[test]
 fn trailers_of_a_commit(rt: HostRuntime) {
-    assert!(rt; told(rt.alloc()) == Some((7, true)));
+    assert!(rt; is_told(rt.alloc(), 7));
 }
 
 /// Lines that follow a trailer's, many times.
@@ -82,12 +101,19 @@ fn folded(alloc: Global, count: usize) -> Result<Vec<u8>, AllocError> {
     Ok(text)
 }
 
+/// Whether a trailer with this token and this value is told.
+fn is_trailer(given: &Result<TrailerRef<'_>, OutOfMemory>, token: &[u8], value: &[u8]) -> bool {
+    match given {
+        Ok(trailer) => trailer.token.as_bytes() == token && trailer.value.as_slice() == value,
+        Err(_) => false,
+    }
+}
+
 /// How many trailers of a body have this token and this value, or none where another one has not.
 fn count_of(alloc: Global, body: &[u8], token: &[u8], value: &[u8]) -> Option<usize> {
     let mut count = 0usize;
     for trailer in BodyRef::from_bytes(body).trailers(alloc) {
-        let trailer = trailer.ok()?;
-        if trailer.token.as_bytes() != token || trailer.value.as_slice() != value {
+        if !is_trailer(&trailer, token, value) {
             return None;
         }
         count = count.saturating_add(1);
@@ -95,14 +121,17 @@ fn count_of(alloc: Global, body: &[u8], token: &[u8], value: &[u8]) -> Option<us
     Some(count)
 }
 
+/// How many trailers of two lines are told of a body that has so many.
+fn count_folded(alloc: Global, count: usize) -> Option<usize> {
+    match folded(alloc, count) {
+        Ok(text) => count_of(alloc, &text, b"A", b"1 2"),
+        Err(_) => None,
+    }
+}
+
 #[test]
 fn many_trailers_of_two_lines(rt: HostRuntime) {
-    let text = folded(rt.alloc(), 3_000);
-    let count = match &text {
-        Ok(text) => count_of(rt.alloc(), text.as_slice(), b"A", b"1 2"),
-        Err(_) => None,
-    };
-    assert!(rt; count == Some(3_000));
+    assert!(rt; count_folded(rt.alloc(), 3_000) == Some(3_000));
 }
 
 /// A trailer with this token.
@@ -126,51 +155,62 @@ const NAMES: &[(&str, [bool; 6])] = &[
     ("", [false, false, false, false, false, false]),
 ];
 
+/// Which of the six tests hold of a trailer.
+fn tests_of(trailer: &TrailerRef<'_>) -> [bool; 6] {
+    [
+        trailer.is_signed_off_by(),
+        trailer.is_co_authored_by(),
+        trailer.is_assisted_by(),
+        trailer.is_acked_by(),
+        trailer.is_reviewed_by(),
+        trailer.is_tested_by(),
+    ]
+}
+
+/// Whether these tests hold of a token, and it is an attribution where one does.
+fn is_tested(token: &str, tests: &[bool; 6]) -> bool {
+    let trailer = named(token.as_bytes());
+    tests_of(&trailer) == *tests && trailer.is_attribution() == tests.contains(&true)
+}
+
 #[test]
 fn names(rt: HostRuntime) {
     for (token, tests) in NAMES {
-        let trailer = named(token.as_bytes());
-        let here = [
-            trailer.is_signed_off_by(),
-            trailer.is_co_authored_by(),
-            trailer.is_assisted_by(),
-            trailer.is_acked_by(),
-            trailer.is_reviewed_by(),
-            trailer.is_tested_by(),
-        ];
-        let any = tests.iter().any(|holds| *holds);
-        assert!(rt;
-            here == *tests && trailer.is_attribution() == any,
-            "{token}"
-        );
+        assert!(rt; is_tested(token, tests), "{token}");
     }
 }
 
-/// Whether a trailer is copied.
-fn is_copied(trailer: &TrailerRef<'_>) -> bool {
-    match trailer.clone() {
-        Ok(copy) => copy == *trailer,
-        Err(_) => false,
-    }
+/// Whether messages of the same bytes are equal.
+fn are_messages_equal() -> bool {
+    let message = MessageRef::from_bytes(b"a\n\nb");
+    let same = MessageRef::from_bytes(b"a\n\nb");
+    message == same && hash_of(&message) == hash_of(&same)
+}
+
+/// Whether messages are in order.
+fn are_messages_in_order() -> bool {
+    let message = MessageRef::from_bytes(b"a\n\nb");
+    message < MessageRef::from_bytes(b"a\n\nc") && MessageRef::from_bytes(b"a") < message
+}
+
+/// Whether bodies are equal, and in order.
+fn are_bodies_in_order() -> bool {
+    let body = BodyRef::from_bytes(b"a\n\nB: 1");
+    let same = BodyRef::from_bytes(b"a\n\nB: 1");
+    body == same && hash_of(&body) == hash_of(&same) && body < BodyRef::from_bytes(b"b")
+}
+
+/// Whether trailers are equal, and in order.
+fn are_trailers_in_order() -> bool {
+    let (trailer, same) = (named(b"a"), named(b"a"));
+    trailer == same && hash_of(&trailer) == hash_of(&same) && trailer < named(b"b")
 }
 
 #[test]
 fn order_and_hash(rt: HostRuntime) {
-    let (message, same) = (
-        MessageRef::from_bytes(b"a\n\nb"),
-        MessageRef::from_bytes(b"a\n\nb"),
-    );
-    assert!(rt; message == same && hash_of(&message) == hash_of(&same));
-    assert!(rt;
-        message < MessageRef::from_bytes(b"a\n\nc") && MessageRef::from_bytes(b"a") < message
-    );
-    let (body, same) = (
-        BodyRef::from_bytes(b"a\n\nB: 1"),
-        BodyRef::from_bytes(b"a\n\nB: 1"),
-    );
-    assert!(rt; body == same && hash_of(&body) == hash_of(&same));
-    assert!(rt; body < BodyRef::from_bytes(b"b"));
-    assert!(rt; named(b"a") == named(b"a") && named(b"a") < named(b"b"));
-    assert!(rt; hash_of(&named(b"a")) == hash_of(&named(b"a")));
+    assert!(rt; are_messages_equal());
+    assert!(rt; are_messages_in_order());
+    assert!(rt; are_bodies_in_order());
+    assert!(rt; are_trailers_in_order());
     assert!(rt; is_copied(&named(b"a")));
 }

@@ -3,59 +3,53 @@
 
 use crate::commit::writers::long_commit;
 use crate::commit::{PLAIN, SIGNED};
-use crate::helpers::{Answer, written};
+use crate::helpers::{Answer, is_copied, written};
+use crate::signing::calls::Maker;
 use crate::signing::played::Played;
 use crate::tags::tag_with;
 use bstr::BString;
 use gixobj_base::hash::Kind;
 use gixobj_base::{OutOfMemory, decode, encode};
-use gixobj_codec::{CommitRef, CommitRefIter, TagRef, TagRefIter};
+use gixobj_codec::{Commit, CommitRef, CommitRefIter, Tag, TagRef, TagRefIter};
 use gixobj_signature::signature::report::{TrustLevel, parse_ssh_output};
 use gixobj_signature::signature::sign::{Error, Options};
-use gixobj_signature::signature::words::text;
 use gixobj_signature::signature::{Call, Output, verify};
 use gixobj_text::signature::Format;
-use std::alloc::Global;
-use std::test::Fail;
+use std::alloc::{AllocError, Global};
 
 /// How is signed.
-fn options_of(alloc: Global) -> Result<Options, OutOfMemory> {
-    Ok(Options {
+fn options_of(maker: &mut Maker) -> Options {
+    Options {
         format: Format::OpenPgp,
-        program: BString::from_slice(alloc, b"gpg")?,
-        program_arguments: Vec::new(alloc),
-        signing_key: BString::from_slice(alloc, b"K")?,
-        environment: Vec::new(alloc),
-    })
+        program: maker.text(b"gpg"),
+        program_arguments: Vec::new(maker.alloc),
+        signing_key: maker.text(b"K"),
+        environment: Vec::new(maker.alloc),
+    }
 }
 
 /// The call that has these bytes signed.
-fn call_of(alloc: Global, payload: &[u8]) -> Result<Call, OutOfMemory> {
-    let mut words = Vec::new(alloc);
-    for word in [b"--status-fd=2".as_slice(), b"-bsau", b"K"] {
-        words.push(text(alloc, word)?)?;
-    }
-    Ok(Call {
-        program: BString::from_slice(alloc, b"gpg")?,
-        words,
-        environment: Vec::new(alloc),
-        files: Vec::new(alloc),
-        input: Some(BString::from_slice(alloc, payload)?),
+fn call_of(maker: &mut Maker, payload: &[u8]) -> Call {
+    Call {
+        program: maker.text(b"gpg"),
+        words: maker.words("--status-fd=2 -bsau K"),
+        environment: Vec::new(maker.alloc),
+        files: Vec::new(maker.alloc),
+        input: Some(maker.text(payload)),
         result: None,
-    })
+    }
 }
 
 /// A runner that is asked to have these bytes signed, and for no other call. The program writes this signature.
-fn runner_of(alloc: Global, payload: &[u8], signature: &[u8]) -> Result<Played, OutOfMemory> {
-    let output = Output {
-        success: true,
-        stdout: Vec::from_slice(alloc, signature)?,
-        stderr: Vec::from_slice(alloc, b"[GNUPG:] SIG_CREATED x\n")?,
-        result: None,
-    };
-    let mut steps = Vec::new(alloc);
-    steps.push((call_of(alloc, payload)?, Ok(output)))?;
-    Ok(Played { alloc, steps })
+fn runner_of(maker: &mut Maker, payload: &[u8], signature: &[u8]) -> Played {
+    let output = maker.output(true, signature, b"[GNUPG:] SIG_CREATED x\n", None);
+    let step = (call_of(maker, payload), Ok(output));
+    let mut steps = Vec::new(maker.alloc);
+    maker.put(&mut steps, step);
+    Played {
+        alloc: maker.alloc,
+        steps,
+    }
 }
 
 /// What a refused signing is: where memory ran out it is refused as that, or the object wasn't copied or written.
@@ -68,32 +62,89 @@ fn of_refusal(error: &Error) -> Answer {
     }
 }
 
+/// What comes of a commit that was signed, and is to be written so. None where there was no memory for that.
+fn of_signed_commit(
+    alloc: Global,
+    signed: &Result<Commit, Error>,
+    wanted: &[u8],
+) -> Option<Answer> {
+    match signed {
+        Ok(commit) => match written(alloc, commit) {
+            Ok(out) => Some(Answer::whole_where(out.as_slice() == wanted)),
+            Err(_) => None,
+        },
+        Err(error) => Some(of_refusal(error)),
+    }
+}
+
+/// What comes of signing the commit of a text, by a runner that plays it.
+fn of_read_commit(
+    maker: &mut Maker,
+    text: &[u8],
+    runner: &mut Played,
+    wanted: &[u8],
+) -> Option<Answer> {
+    let alloc = maker.alloc;
+    match CommitRef::from_bytes(alloc, text, Kind::Sha1) {
+        Ok(commit) => {
+            let signed = commit.sign(alloc, options_of(maker), runner);
+            of_signed_commit(alloc, &signed, wanted)
+        }
+        Err(_) => None,
+    }
+}
+
+/// What was answered, where the call was made that was expected. None where there was no memory before it.
+fn behind(answer: Option<Answer>, maker: &Maker, runner: &Played) -> Option<Answer> {
+    if maker.is_refused {
+        None
+    } else if answer == Some(Answer::Whole) && !runner.steps.is_empty() {
+        Some(Answer::Other)
+    } else {
+        answer
+    }
+}
+
 /// What comes of the commit of a text that is signed, and is to be written so. None where there was no memory before or
 /// behind that.
 fn of_commit(alloc: Global, text: &[u8], wanted: &[u8]) -> Option<Answer> {
-    let commit = CommitRef::from_bytes(alloc, text, Kind::Sha1).ok()?;
-    let options = options_of(alloc).ok()?;
-    let mut runner = runner_of(alloc, text, b"A\r\nB\r\n").ok()?;
-    match commit.sign(alloc, options, &mut runner) {
-        Ok(signed) => {
-            let is_right = written(alloc, &signed).ok()?.as_slice() == wanted;
-            Some(Answer::whole_where(is_right && runner.steps.is_empty()))
+    let mut maker = Maker::new(alloc);
+    let mut runner = runner_of(&mut maker, text, b"A\r\nB\r\n");
+    let answer = of_read_commit(&mut maker, text, &mut runner, wanted);
+    behind(answer, &maker, &runner)
+}
+
+/// The text of a commit, with a signature in front of its message of four bytes.
+fn text_with_signature(alloc: Global, text: &[u8]) -> Result<Vec<u8>, AllocError> {
+    let (before, message) = text.split_at(text.len().saturating_sub(4));
+    let mut signed = Vec::from_slice(alloc, before)?;
+    signed.extend_from_slice(b"gpgsig A\n B\n")?;
+    signed.extend_from_slice(message)?;
+    Ok(signed)
+}
+
+/// Whether a commit that is signed is written in so many bytes, with the signature in front of its message.
+fn is_signed_in(alloc: Global, text: &[u8], len: usize) -> bool {
+    match text_with_signature(alloc, text) {
+        Ok(wanted) => {
+            wanted.len() == len && of_commit(alloc, text, &wanted) == Some(Answer::Whole)
         }
-        Err(error) => Some(of_refusal(&error)),
+        Err(_) => false,
+    }
+}
+
+/// Whether that is so of a commit of many parents and headers.
+fn is_long_commit_signed_in(alloc: Global, len: usize) -> bool {
+    match long_commit(alloc) {
+        Ok(text) => is_signed_in(alloc, &text, len),
+        Err(_) => false,
     }
 }
 
 /// A commit of many parents and headers, signed: it has twelve bytes more.
 #[test]
-fn a_commit_of_many_headers(rt: HostRuntime) -> Result<(), Fail> {
-    let text = long_commit(rt.alloc())?;
-    let (before, message) = text.split_at(text.len().saturating_sub(4));
-    let mut wanted = Vec::from_slice(rt.alloc(), before)?;
-    wanted.extend_from_slice(b"gpgsig A\n B\n")?;
-    wanted.extend_from_slice(message)?;
-    assert!(rt; wanted.len() == 55_111);
-    assert!(rt; of_commit(rt.alloc(), &text, &wanted) == Some(Answer::Whole));
-    Ok(())
+fn a_commit_of_many_headers(rt: HostRuntime) {
+    assert!(rt; is_long_commit_signed_in(rt.alloc(), 55_111));
 }
 
 #[test]
@@ -142,22 +193,56 @@ fn is_signed(alloc: Global, text: &[u8], payload: &[u8]) -> Option<bool> {
     Some(signature.bytes.as_bytes() == SIGNATURE && signed.as_bytes() == payload)
 }
 
+/// What comes of a tag that was signed, by its text, in which its signature is found again. None where there was no
+/// memory for that.
+fn of_tag_text(alloc: Global, text: &[u8], payload: &[u8]) -> Option<Answer> {
+    let is_found = is_signed(alloc, text, payload)?;
+    let size = payload.len().saturating_add(SIGNATURE.len());
+    Some(Answer::whole_where(is_found && text.len() == size))
+}
+
+/// The same by what comes of signing it.
+fn of_signed_tag(alloc: Global, signed: &Result<Tag, Error>, payload: &[u8]) -> Option<Answer> {
+    match signed {
+        Ok(tag) => match written(alloc, tag) {
+            Ok(out) => of_tag_text(alloc, &out, payload),
+            Err(_) => None,
+        },
+        Err(error) => Some(of_refusal(error)),
+    }
+}
+
+/// What comes of signing the tag of a text, by a runner that plays it.
+fn of_read_tag(
+    maker: &mut Maker,
+    text: &[u8],
+    runner: &mut Played,
+    payload: &[u8],
+) -> Option<Answer> {
+    let alloc = maker.alloc;
+    match TagRef::from_bytes(text, Kind::Sha1) {
+        Ok(tag) => {
+            let signed = tag.sign(alloc, options_of(maker), runner);
+            of_signed_tag(alloc, &signed, payload)
+        }
+        Err(_) => None,
+    }
+}
+
+/// The same by its text and what is signed of it.
+fn of_texts(alloc: Global, text: &[u8], payload: &[u8]) -> Option<Answer> {
+    let mut maker = Maker::new(alloc);
+    let mut runner = runner_of(&mut maker, payload, SIGNATURE);
+    let answer = of_read_tag(&mut maker, text, &mut runner, payload);
+    behind(answer, &maker, &runner)
+}
+
 /// What comes of a tag that is signed and written, and then its signature found. None where there was no memory for the
 /// signing, or before or behind it.
 fn of_tag(alloc: Global) -> Option<Answer> {
-    let text = tag_with(alloc, REST).ok()?;
-    let tag = TagRef::from_bytes(&text, Kind::Sha1).ok()?;
-    let payload = tag_with(alloc, REST_SIGNED).ok()?;
-    let options = options_of(alloc).ok()?;
-    let mut runner = runner_of(alloc, &payload, SIGNATURE).ok()?;
-    match tag.sign(alloc, options, &mut runner) {
-        Ok(signed) => {
-            let out = written(alloc, &signed).ok()?;
-            let is_found = is_signed(alloc, &out, &payload)?;
-            let size = payload.len().saturating_add(SIGNATURE.len());
-            Some(Answer::whole_where(is_found && out.len() == size && runner.steps.is_empty()))
-        }
-        Err(error) => Some(of_refusal(&error)),
+    match (tag_with(alloc, REST), tag_with(alloc, REST_SIGNED)) {
+        (Ok(text), Ok(payload)) => of_texts(alloc, &text, &payload),
+        _ => None,
     }
 }
 
@@ -171,42 +256,47 @@ fn a_tag_whatever_is_refused(rt: HostRuntime) {
 }
 
 /// How is verified.
-fn verifying_options(alloc: Global) -> Result<verify::Options, OutOfMemory> {
-    Ok(verify::Options::OpenPgp {
-        program: BString::from_slice(alloc, b"gpg")?,
-        program_arguments: Vec::new(alloc),
-        environment: Vec::new(alloc),
+fn verifying_options(maker: &mut Maker) -> verify::Options {
+    verify::Options::OpenPgp {
+        program: maker.text(b"gpg"),
+        program_arguments: Vec::new(maker.alloc),
+        environment: Vec::new(maker.alloc),
         minimum_trust: TrustLevel::Fully,
-    })
+    }
 }
 
-/// Whether how is verified, and what comes of it, are copied.
-fn are_outcomes_copied(alloc: Global) -> Result<bool, Fail> {
-    let told = BString::from_slice(alloc, b"invalid signature")?;
-    let outcome = parse_ssh_output(alloc, told, None, TrustLevel::Undefined)?;
-    let copied = verifying_options(alloc)?.clone()?;
-    Ok(outcome.clone()? == outcome && matches!(&copied, verify::Options::OpenPgp { .. }))
+/// Whether how is verified is copied.
+fn is_verifying_copied(options: &verify::Options) -> bool {
+    match options.clone() {
+        Ok(copy) => matches!(&copy, verify::Options::OpenPgp { .. }),
+        Err(_) => false,
+    }
 }
 
-/// Whether how is signed, a call and its answer are copied.
-fn are_copied(alloc: Global) -> Result<bool, Fail> {
-    let options = options_of(alloc)?;
-    let call = call_of(alloc, b"payload")?;
-    let output = Output {
-        success: true,
-        stdout: Vec::from_slice(alloc, b"A")?,
-        stderr: Vec::new(alloc),
-        result: Some(Vec::from_slice(alloc, b"B")?),
-    };
-    Ok(
-        options.clone()?.signing_key == options.signing_key
-            && call.clone()? == call
-            && output.clone()? == output,
-    )
+/// Whether what comes of these words of a program is copied.
+fn is_told_copied(alloc: Global, told: BString) -> bool {
+    match parse_ssh_output(alloc, told, None, TrustLevel::Undefined) {
+        Ok(outcome) => is_copied(&outcome),
+        Err(_) => false,
+    }
+}
+
+/// Whether how is signed is copied.
+fn is_signing_copied(options: &Options) -> bool {
+    match options.clone() {
+        Ok(copy) => copy.signing_key == options.signing_key,
+        Err(_) => false,
+    }
 }
 
 #[test]
-fn copies(rt: HostRuntime) -> Result<(), Fail> {
-    assert!(rt; are_copied(rt.alloc())? && are_outcomes_copied(rt.alloc())?);
-    Ok(())
+fn copies(rt: HostRuntime) {
+    let mut maker = Maker::new(rt.alloc());
+    assert!(rt; is_signing_copied(&options_of(&mut maker)));
+    assert!(rt; is_copied(&call_of(&mut maker, b"payload")));
+    assert!(rt; is_copied(&maker.output(true, b"A", b"", Some(b"B"))));
+    let told = maker.text(b"invalid signature");
+    assert!(rt; is_told_copied(rt.alloc(), told));
+    assert!(rt; is_verifying_copied(&verifying_options(&mut maker)));
+    assert!(rt; !maker.is_refused);
 }

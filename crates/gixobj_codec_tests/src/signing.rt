@@ -1,7 +1,7 @@
 //! Tests of `gixobj_signature`, and of commits and tags that are signed.
 
 #[cfg(test)]
-mod calls;
+pub(crate) mod calls;
 #[cfg(test)]
 mod commits;
 #[cfg(test)]

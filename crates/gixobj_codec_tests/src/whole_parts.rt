@@ -1,5 +1,6 @@
 //! Objects with all that they may have, and with nothing, taken apart and made again.
 
+use crate::objects::{borrowed, owned};
 use gixobj_base::decode::Error;
 use gixobj_base::hash::Kind as HashKind;
 use gixobj_base::{Blob, Kind, Tree, WriteTo};
@@ -38,7 +39,7 @@ fn read(alloc: Global, kind: Kind, text: &[u8]) -> Result<ObjectRef<'_>, Error> 
 }
 
 /// Its owned form.
-fn owned(alloc: Global, kind: Kind, text: &[u8]) -> Result<Object, Error> {
+fn read_owned(alloc: Global, kind: Kind, text: &[u8]) -> Result<Object, Error> {
     ObjectRef::from_bytes(alloc, text, kind, HashKind::Sha1)?.into_owned(alloc)
 }
 
@@ -62,27 +63,7 @@ fn is_owned_lent(object: &Object) -> bool {
     }
 }
 
-/// The object of the part.
-fn made_again(object: ObjectRef<'_>) -> Option<ObjectRef<'_>> {
-    match object.kind() {
-        Kind::Tree => object.into_tree().map(ObjectRef::from),
-        Kind::Blob => object.into_blob().map(ObjectRef::from),
-        Kind::Commit => object.into_commit().map(ObjectRef::from),
-        Kind::Tag => object.into_tag().map(ObjectRef::from),
-    }
-}
-
-/// The object of the owned part.
-fn made_of_owned(object: Object) -> Object {
-    match object.kind() {
-        Kind::Tree => Object::from(object.into_tree()),
-        Kind::Blob => Object::from(object.into_blob()),
-        Kind::Commit => Object::from(object.into_commit()),
-        Kind::Tag => Object::from(object.into_tag()),
-    }
-}
-
-/// The same, by the conversions of std.
+/// The object of the owned part, by the conversions of std.
 fn converted(object: Object) -> Option<Object> {
     match object.kind() {
         Kind::Tree => Tree::try_from(object).ok().map(Object::from),
@@ -95,16 +76,16 @@ fn converted(object: Object) -> Option<Object> {
 /// Whether the object of a text is lent and made again whole.
 fn is_whole(alloc: Global, kind: Kind, text: &[u8]) -> bool {
     match (read(alloc, kind, text), read(alloc, kind, text)) {
-        (Ok(object), Ok(same)) => is_lent(&object) && made_again(same) == Some(object),
+        (Ok(object), Ok(same)) => is_lent(&object) && borrowed::made_again(same) == Some(object),
         _ => false,
     }
 }
 
 /// Whether its owned form is.
 fn is_owned_whole(alloc: Global, kind: Kind, text: &[u8]) -> bool {
-    match (owned(alloc, kind, text), owned(alloc, kind, text)) {
+    match (read_owned(alloc, kind, text), read_owned(alloc, kind, text)) {
         (Ok(object), Ok(same)) => {
-            is_owned_lent(&object) && converted(made_of_owned(same)) == Some(object)
+            is_owned_lent(&object) && converted(owned::made_again(same)) == Some(object)
         }
         _ => false,
     }

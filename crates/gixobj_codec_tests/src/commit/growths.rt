@@ -55,6 +55,15 @@ fn of_owned(alloc: Global, text: &[u8]) -> Answer {
     }
 }
 
+/// What a reader came to that refused a token.
+fn of_refused(mut tokens: CommitRefIter<'_>, error: &decode::Error) -> Answer {
+    if tokens.next().is_some() {
+        Answer::Other
+    } else {
+        of_fault(error)
+    }
+}
+
 /// What comes of a text that is told in so many tokens.
 fn of_told(alloc: Global, text: &[u8], wanted: usize) -> Answer {
     let mut tokens = CommitRefIter::from_bytes(alloc, text, Kind::Sha1);
@@ -62,8 +71,7 @@ fn of_told(alloc: Global, text: &[u8], wanted: usize) -> Answer {
     while let Some(token) = tokens.next() {
         match token {
             Ok(_) => count = count.saturating_add(1),
-            Err(_) if tokens.next().is_some() => return Answer::Other,
-            Err(error) => return of_fault(&error),
+            Err(error) => return of_refused(tokens, &error),
         }
     }
     Answer::whole_where(count == wanted)

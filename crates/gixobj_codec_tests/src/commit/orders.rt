@@ -1,7 +1,7 @@
 //! Orders and hashes of commits and tokens.
 
 use super::{PLAIN, owned_form};
-use crate::helpers::hash_of;
+use crate::helpers::{are_copied, are_ordered, hash_of};
 use bstr::{BStr, BString};
 use gixobj_base::decode::Error;
 use gixobj_base::hash::Kind;
@@ -10,8 +10,6 @@ use gixobj_codec::{Commit, CommitRef, CommitRefIter};
 use std::alloc::Global;
 use std::borrow::CowSlice;
 use std::cmp::Ordering;
-use std::hash::Hash;
-use std::test::Fail;
 
 /// A commit with a header.
 const TEXT: &[u8] = b"tree 4b825dc642cb6eb9a060e54bf8d69288fbee4904\n\
@@ -25,64 +23,69 @@ fn read(alloc: Global) -> Result<CommitRef<'static>, Error> {
     CommitRef::from_bytes(alloc, TEXT, Kind::Sha1)
 }
 
-/// A copy of it, where the header's value lies elsewhere.
-fn with_a_copied_value(alloc: Global) -> Result<CommitRef<'static>, Error> {
-    let mut commit = read(alloc)?.clone()?;
+/// A copy of it.
+fn copy(alloc: Global) -> Result<CommitRef<'static>, Error> {
+    Ok(read(alloc)?.clone()?)
+}
+
+/// Puts the value of its header elsewhere.
+fn copy_value(alloc: Global, commit: &mut CommitRef<'static>) -> bool {
     commit.extra_headers.clear();
-    let value = CowSlice::Owned(Vec::from_slice(alloc, b"A")?);
-    commit.extra_headers.push((BStr::new(b"x"), value))?;
-    Ok(commit)
+    match Vec::from_slice(alloc, b"A") {
+        Ok(value) => {
+            let header = (BStr::new(b"x"), CowSlice::Owned(value));
+            commit.extra_headers.push(header).is_ok()
+        }
+        Err(_) => false,
+    }
 }
 
-/// A copy with a message that comes earlier.
-fn with_an_earlier_message(alloc: Global) -> Result<CommitRef<'static>, Error> {
-    let mut commit = read(alloc)?.clone()?;
-    commit.message = BStr::new(b"hi");
-    Ok(commit)
+/// Whether a commit is so in order with the one that is read.
+fn is_ordered(alloc: Global, commit: &CommitRef<'static>, wanted: Ordering) -> bool {
+    match read(alloc) {
+        Ok(other) => are_ordered(commit, &other, wanted),
+        Err(_) => false,
+    }
 }
 
-/// Whether two values are so in order, and have one hash where they are equal alone.
-fn are_ordered<T: Ord + Hash>(first: &T, second: &T, wanted: Ordering) -> bool {
-    first.cmp(second) == wanted
-        && (first == second) == wanted.is_eq()
-        && (hash_of(first) == hash_of(second)) == wanted.is_eq()
-}
-
-/// Whether that is so of two that were made.
-fn are_made_in_order<T: Ord + Hash>(
-    first: &Result<T, Error>,
-    second: &Result<T, Error>,
-    wanted: Ordering,
-) -> bool {
-    match (first, second) {
-        (Ok(first), Ok(second)) => are_ordered(first, second, wanted),
-        _ => false,
+/// Whether a copy with a value that lies elsewhere is equal.
+fn is_equal_with_copied_value(alloc: Global) -> bool {
+    match copy(alloc) {
+        Ok(mut commit) => {
+            copy_value(alloc, &mut commit) && is_ordered(alloc, &commit, Ordering::Equal)
+        }
+        Err(_) => false,
     }
 }
 
 /// A value is a header's bytes, wherever they lie.
 #[test]
 fn commits_that_are_equal(rt: HostRuntime) {
-    let (same, commit) = (with_a_copied_value(rt.alloc()), read(rt.alloc()));
-    assert!(rt; are_made_in_order(&same, &commit, Ordering::Equal));
+    assert!(rt; is_equal_with_copied_value(rt.alloc()));
+}
+
+/// Whether a copy with this message is so in order.
+fn is_ordered_with(alloc: Global, message: &'static [u8], wanted: Ordering) -> bool {
+    match copy(alloc) {
+        Ok(mut commit) => {
+            commit.message = BStr::new(message);
+            is_ordered(alloc, &commit, wanted)
+        }
+        Err(_) => false,
+    }
 }
 
 #[test]
 fn commits_in_order(rt: HostRuntime) {
-    let (other, commit) = (with_an_earlier_message(rt.alloc()), read(rt.alloc()));
-    assert!(rt; are_made_in_order(&other, &commit, Ordering::Less));
+    assert!(rt; is_ordered_with(rt.alloc(), b"hi", Ordering::Less));
 }
 
-/// A copy of the owned commit.
-fn copy(alloc: Global) -> Result<Commit, Error> {
-    Ok(owned_form(alloc, TEXT, Kind::Sha1)?.clone()?)
-}
-
-/// A copy with a message that comes later.
-fn with_a_later_message(alloc: Global) -> Result<Commit, Error> {
-    let mut commit = copy(alloc)?;
-    commit.message = BString::from_slice(alloc, b"ho\n")?;
-    Ok(commit)
+/// Whether an owned commit is so in order with that of a text.
+fn is_owned_ordered(alloc: Global, commit: &Commit, text: &[u8], wanted: Ordering) -> bool {
+    match owned_form(alloc, text, Kind::Sha1) {
+        Ok(other) => are_ordered(commit, &other, wanted),
+        Err(_) => false,
+    }
 }
 
 /// The owned form of the plain commit, by the other name of the call.
@@ -90,17 +93,47 @@ fn owned_again(alloc: Global) -> Result<Commit, Error> {
     CommitRef::from_bytes(alloc, PLAIN, Kind::Sha1)?.to_owned(alloc)
 }
 
+/// Whether it is equal to the owned form.
+fn is_owned_again(alloc: Global) -> bool {
+    match owned_again(alloc) {
+        Ok(commit) => is_owned_ordered(alloc, &commit, PLAIN, Ordering::Equal),
+        Err(_) => false,
+    }
+}
+
 #[test]
 fn plain_commit_owned_twice(rt: HostRuntime) {
-    let first = owned_form(rt.alloc(), PLAIN, Kind::Sha1);
-    assert!(rt; are_made_in_order(&owned_again(rt.alloc()), &first, Ordering::Equal));
+    assert!(rt; is_owned_again(rt.alloc()));
+}
+
+/// A copy of the owned commit.
+fn owned_copy(alloc: Global) -> Result<Commit, Error> {
+    Ok(owned_form(alloc, TEXT, Kind::Sha1)?.clone()?)
+}
+
+/// Whether it is equal.
+fn is_copy_equal(alloc: Global) -> bool {
+    match owned_copy(alloc) {
+        Ok(commit) => is_owned_ordered(alloc, &commit, TEXT, Ordering::Equal),
+        Err(_) => false,
+    }
+}
+
+/// Whether it is greater with a message that comes later.
+fn is_later(alloc: Global) -> bool {
+    match (owned_copy(alloc), BString::from_slice(alloc, b"ho\n")) {
+        (Ok(mut commit), Ok(message)) => {
+            commit.message = message;
+            is_owned_ordered(alloc, &commit, TEXT, Ordering::Greater)
+        }
+        _ => false,
+    }
 }
 
 #[test]
 fn owned_commits_in_order(rt: HostRuntime) {
-    let owned = owned_form(rt.alloc(), TEXT, Kind::Sha1);
-    assert!(rt; are_made_in_order(&copy(rt.alloc()), &owned, Ordering::Equal));
-    assert!(rt; are_made_in_order(&with_a_later_message(rt.alloc()), &owned, Ordering::Greater));
+    assert!(rt; is_copy_equal(rt.alloc()));
+    assert!(rt; is_later(rt.alloc()));
 }
 
 /// A commit that has a token of each kind but a parent.
@@ -121,29 +154,17 @@ fn tokens(alloc: Global) -> Result<Vec<Token<'static>>, Error> {
     Ok(tokens)
 }
 
-/// Whether a copy of a token is equal to it.
-fn is_like_its_copy(token: &Token<'_>) -> bool {
-    match token.clone() {
-        Ok(same) => same == *token && hash_of(&same) == hash_of(token),
+/// Whether each token of the text is copied as it is.
+fn are_tokens_copied(alloc: Global) -> bool {
+    match tokens(alloc) {
+        Ok(tokens) => are_copied(&tokens),
         Err(_) => false,
     }
 }
 
-/// Whether that is so of each.
-fn are_like_their_copies(tokens: &[Token<'_>]) -> bool {
-    for token in tokens {
-        if !is_like_its_copy(token) {
-            return false;
-        }
-    }
-    true
-}
-
 #[test]
-fn tokens_and_their_copies(rt: HostRuntime) -> Result<(), Fail> {
-    let tokens = tokens(rt.alloc())?;
-    assert!(rt; are_like_their_copies(&tokens));
-    Ok(())
+fn tokens_and_their_copies(rt: HostRuntime) {
+    assert!(rt; are_tokens_copied(rt.alloc()));
 }
 
 /// Whether each token comes before the next one.
@@ -156,13 +177,25 @@ fn ascend(tokens: &[Token<'_>]) -> bool {
     true
 }
 
+/// Whether the last token is this message.
+fn end_in(tokens: &[Token<'_>], message: &[u8]) -> bool {
+    match tokens.last() {
+        Some(last) => *last == Token::Message(BStr::new(message)),
+        None => false,
+    }
+}
+
+/// Whether the tokens of the text are so many in order, and the last one is this message.
+fn are_tokens_in_order(alloc: Global, len: usize, message: &[u8]) -> bool {
+    match tokens(alloc) {
+        Ok(tokens) => tokens.len() == len && ascend(&tokens) && end_in(&tokens, message),
+        Err(_) => false,
+    }
+}
+
 #[test]
-fn tokens_in_order(rt: HostRuntime) -> Result<(), Fail> {
-    let tokens = tokens(rt.alloc())?;
-    assert!(rt; tokens.len() == 6);
-    assert!(rt; ascend(&tokens));
-    assert!(rt; tokens.last() == Some(&Token::Message(BStr::new(b"hi\n"))));
-    Ok(())
+fn tokens_in_order(rt: HostRuntime) {
+    assert!(rt; are_tokens_in_order(rt.alloc(), 6, b"hi\n"));
 }
 
 /// Whether a token has an id exactly where it is a tree.

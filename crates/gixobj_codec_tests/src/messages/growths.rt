@@ -13,11 +13,14 @@ use std::borrow::CowSlice;
 const BODY: &[u8] = b"Signed-off-by: 1\n 2\nLink: 3\n 4\nSigned-off-by: 5\n";
 
 /// What a walk is at behind one more answer of its reader, and how many trailers it has come by.
-fn behind(answer: (Answer, usize), given: Result<TrailerRef<'_>, OutOfMemory>) -> (Answer, usize) {
-    match (answer, given) {
-        ((Answer::Whole, count), Ok(_)) => (Answer::Whole, count.saturating_add(1)),
-        ((Answer::Whole, count), Err(OutOfMemory)) => (Answer::WithoutMemory, count),
-        ((_, count), _) => (Answer::Other, count),
+fn behind(answer: (Answer, usize), given: &Result<TrailerRef<'_>, OutOfMemory>) -> (Answer, usize) {
+    let (answer, count) = answer;
+    if answer != Answer::Whole {
+        return (Answer::Other, count);
+    }
+    match given {
+        Ok(_) => (Answer::Whole, count.saturating_add(1)),
+        Err(OutOfMemory) => (Answer::WithoutMemory, count),
     }
 }
 
@@ -25,7 +28,7 @@ fn behind(answer: (Answer, usize), given: Result<TrailerRef<'_>, OutOfMemory>) -
 fn of_trailers(alloc: Global) -> Answer {
     let mut answer = (Answer::Whole, 0usize);
     for trailer in BodyRef::from_bytes(BODY).trailers(alloc) {
-        answer = behind(answer, trailer);
+        answer = behind(answer, &trailer);
     }
     match answer {
         (Answer::Whole, 3) | (Answer::WithoutMemory, 0 | 1) => answer.0,
@@ -37,7 +40,7 @@ fn of_trailers(alloc: Global) -> Answer {
 fn of_sign_offs(alloc: Global) -> Answer {
     let mut answer = (Answer::Whole, 0usize);
     for trailer in BodyRef::from_bytes(BODY).trailers(alloc).signed_off_by() {
-        answer = behind(answer, trailer);
+        answer = behind(answer, &trailer);
     }
     match answer {
         (Answer::Whole, 2) | (Answer::WithoutMemory, 0 | 1) => answer.0,
@@ -75,7 +78,7 @@ const BODIES: &[(&[u8], &[u8], &[(&[u8], &[u8])])] = &[
 
 /// Whether a trailer is this one, or there was no memory for it.
 fn of_trailer(
-    given: Option<Result<TrailerRef<'_>, OutOfMemory>>,
+    given: &Option<Result<TrailerRef<'_>, OutOfMemory>>,
     token: &[u8],
     value: &[u8],
 ) -> Answer {
@@ -94,7 +97,7 @@ fn of_body(alloc: Global, body: &[u8], before: &[u8], trailers: &[(&[u8], &[u8])
     let mut given = body.trailers(alloc);
     let mut answer = Answer::whole_where(body.without_trailer().as_bytes() == before);
     for (token, value) in trailers {
-        answer = answer.and(of_trailer(given.next(), token, value));
+        answer = answer.and(of_trailer(&given.next(), token, value));
     }
     answer.and(Answer::whole_where(given.next().is_none()))
 }

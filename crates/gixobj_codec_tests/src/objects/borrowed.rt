@@ -8,7 +8,7 @@ use gixobj_codec::{CommitRef, ObjectRef, TagRef, TreeRef};
 use std::alloc::Global;
 
 /// The object of this kind.
-fn object(alloc: Global, kind: Kind) -> Result<ObjectRef<'static>, decode::Error> {
+pub(crate) fn object(alloc: Global, kind: Kind) -> Result<ObjectRef<'static>, decode::Error> {
     ObjectRef::from_bytes(alloc, text_of(kind), kind, HashKind::Sha1)
 }
 
@@ -43,7 +43,7 @@ fn back(object: ObjectRef<'_>, wanted: Kind) -> Option<ObjectRef<'_>> {
 }
 
 /// The object of the part, where it is of this kind.
-fn made_again(object: ObjectRef<'_>) -> Option<ObjectRef<'_>> {
+pub(crate) fn made_again(object: ObjectRef<'_>) -> Option<ObjectRef<'_>> {
     match object.kind() {
         Kind::Tree => object.into_tree().map(ObjectRef::from),
         Kind::Blob => object.into_blob().map(ObjectRef::from),

@@ -8,7 +8,7 @@ use gixobj_codec::{Commit, Object, ObjectRef, Tag};
 use std::alloc::Global;
 
 /// The object of this kind.
-fn object(alloc: Global, kind: Kind) -> Result<Object, decode::Error> {
+pub(crate) fn object(alloc: Global, kind: Kind) -> Result<Object, decode::Error> {
     ObjectRef::from_bytes(alloc, text_of(kind), kind, HashKind::Sha1)?.into_owned(alloc)
 }
 
@@ -43,7 +43,7 @@ fn converted_back(object: Object, wanted: Kind) -> Option<Object> {
 }
 
 /// The object of its part.
-fn made_again(object: Object) -> Object {
+pub(crate) fn made_again(object: Object) -> Object {
     match object.kind() {
         Kind::Tree => Object::from(object.into_tree()),
         Kind::Blob => Object::from(object.into_blob()),

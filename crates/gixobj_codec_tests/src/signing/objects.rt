@@ -1,11 +1,11 @@
 //! What the tests of signed commits and tags share: `gpg`, without further words, and what comes of it.
 
-use crate::signing::calls::{Step, Told, environment_of, runner_of, text};
+use crate::signing::calls::{Maker, Step, Told};
 use crate::signing::played::Played;
 use crate::signing::signing::name_of;
-use gixobj_fields::encode;
+use gixobj_fields::{WriteTo, encode};
+use gixobj_hash::decode;
 use gixobj_hash::hash::Kind;
-use gixobj_hash::{OutOfMemory, decode};
 use gixobj_signature::signature::sign::{Error, Options};
 use gixobj_text::signature::Format;
 use std::alloc::Global;
@@ -35,20 +35,20 @@ pub(crate) enum Comes {
 }
 
 /// Signing by `gpg` with this key.
-pub(crate) fn gpg(alloc: Global, key: &[u8]) -> Result<Options, OutOfMemory> {
-    Ok(Options {
+pub(crate) fn gpg(maker: &mut Maker, key: &[u8]) -> Options {
+    Options {
         format: Format::OpenPgp,
-        program: text(alloc, b"gpg")?,
-        program_arguments: Vec::new(alloc),
-        signing_key: text(alloc, key)?,
-        environment: environment_of(alloc, false)?,
-    })
+        program: maker.text(b"gpg"),
+        program_arguments: Vec::new(maker.alloc),
+        signing_key: maker.text(key),
+        environment: maker.environment(false),
+    }
 }
 
 /// The runner that expects the call of a row, by the key `K`.
-pub(crate) fn runner_of_row(alloc: Global, row: &Row) -> Result<Played, OutOfMemory> {
+pub(crate) fn runner_of_row(maker: &mut Maker, row: &Row) -> Played {
     let Some((payload, told)) = row.call else {
-        return runner_of(alloc, &[]);
+        return maker.runner(&[]);
     };
     let step = Step {
         program: b"gpg",
@@ -59,34 +59,39 @@ pub(crate) fn runner_of_row(alloc: Global, row: &Row) -> Result<Played, OutOfMem
         result: None,
         told,
     };
-    runner_of(alloc, &[step])
+    maker.runner(&[step])
 }
 
-/// Whether this came, a text or a refusal, by all calls that were expected.
-///
-/// `OutOfMemory` where memory ran out for it.
-pub(crate) fn is_so(
-    came: &Result<Vec<u8>, Error>,
-    comes: Comes,
-    runner: &Played,
-) -> Result<bool, OutOfMemory> {
-    let is_so = match (came, comes) {
-        (Ok(text), Comes::Text(expected)) => text.as_slice() == expected,
-        (Err(error), _) if wants_memory(error) => return Err(OutOfMemory),
-        (Err(error), Comes::Refused(expected)) => name_of_all(error) == expected,
-        _ => false,
-    };
-    Ok(is_so && runner.steps.is_empty())
+/// Whether all texts were made, and all calls that were expected.
+pub(crate) fn is_over(maker: &Maker, runner: &Played) -> bool {
+    !maker.is_refused && runner.steps.is_empty()
 }
 
-/// Whether a growth was refused: of an owned form, of the written text, or by a signer.
-fn wants_memory(error: &Error) -> bool {
-    matches!(
-        error,
-        Error::Decode(decode::Error::OutOfMemory)
-            | Error::Encode(encode::Error::Writer(_) | encode::Error::OutOfMemory)
-            | Error::OutOfMemory
-    )
+/// Whether this text came.
+fn is_text(text: &[u8], comes: Comes) -> bool {
+    match comes {
+        Comes::Text(expected) => text == expected,
+        Comes::Refused(_) => false,
+    }
+}
+
+/// Whether this came: an object that was signed, with its text, or why it isn't written.
+pub(crate) fn is_object<T: WriteTo>(alloc: Global, object: &T, comes: Comes) -> bool
+    requires { T.can_write object.now }
+{
+    let mut text = Vec::new(alloc);
+    match object.write_to(alloc, &mut text) {
+        Ok(()) => is_text(&text, comes),
+        Err(error) => is_refusal(&Error::Encode(error), comes),
+    }
+}
+
+/// Whether this refusal came.
+pub(crate) fn is_refusal(error: &Error, comes: Comes) -> bool {
+    match comes {
+        Comes::Refused(expected) => name_of_all(error) == expected,
+        Comes::Text(_) => false,
+    }
 }
 
 /// The name of a refusal, with that of its cause where no call was made.

@@ -1,11 +1,11 @@
 //! Signing: the words of each call, and what comes of each answer.
 
-use crate::signing::calls::{PROGRAM, Step, Told, WHY, environment_of, runner_of, text, texts_of};
-use gixobj_hash::OutOfMemory;
+use crate::signing::calls::{Maker, PROGRAM, Step, Told, WHY, name_with};
+use crate::signing::objects::is_over;
+use bstr::BString;
 use gixobj_signature::signature::sign::{Error, Options, is_literal_ssh_key, sign_payload};
 use gixobj_text::signature::Format::{self, OpenPgp, Ssh, X509};
 use std::alloc::Global;
-use std::test::Fail;
 
 /// What comes of signing.
 #[derive(Clone, Copy)]
@@ -78,8 +78,10 @@ const SSH: &[(Told, Comes)] = &[
     (Told::NoMemory, Comes::Refused("OutOfMemory")),
 ];
 
-/// Keys of SSH, the words and the files of their calls, and the file whose neighbour is asked for.
-const KEYS: &[(&[u8], &str, &[&[u8]], usize)] = &[
+/// A key of SSH, the words and the files of its calls, and the file whose neighbour is asked for.
+type Key = (&'static [u8], &'static str, &'static [&'static [u8]], usize);
+
+const KEYS: &[Key] = &[
     (b"K", "-x -Y sign -n git -f K @0", &[b"payload"], 0),
     (
         b"keys/ssh-signing",
@@ -108,18 +110,18 @@ const KEYS: &[(&[u8], &str, &[&[u8]], usize)] = &[
 ];
 
 /// How is signed.
-fn options_of(alloc: Global, format: Format, key: &[u8]) -> Result<Options, OutOfMemory> {
-    Ok(Options {
+fn options_of(maker: &mut Maker, format: Format, key: &[u8]) -> Options {
+    Options {
         format,
-        program: text(alloc, PROGRAM)?,
-        program_arguments: texts_of(alloc, &[b"-x"])?,
-        signing_key: text(alloc, key)?,
-        environment: environment_of(alloc, false)?,
-    })
+        program: maker.text(PROGRAM),
+        program_arguments: maker.texts(&[b"-x"]),
+        signing_key: maker.text(key),
+        environment: maker.environment(false),
+    }
 }
 
 /// The call of a program of OpenPGP or of X.509, of which this is told.
-fn gpg_step(told: Told) -> Step {
+fn gpg_step(told: Told) -> Step<'static> {
     Step {
         program: PROGRAM,
         words: "-x --status-fd=2 -bsau K",
@@ -131,9 +133,9 @@ fn gpg_step(told: Told) -> Step {
     }
 }
 
-/// The call of a program of SSH for a row of the keys, of which this is told.
-fn ssh_step(row: (&'static str, &'static [&'static [u8]], usize), told: Told) -> Step {
-    let (words, files, asked) = row;
+/// The call of a program of SSH for a key, of which this is told.
+fn ssh_step(key: &Key, told: Told) -> Step<'static> {
+    let (_, words, files, asked) = *key;
     Step {
         program: PROGRAM,
         words,
@@ -145,34 +147,47 @@ fn ssh_step(row: (&'static str, &'static [&'static [u8]], usize), told: Told) ->
     }
 }
 
-/// Whether signing comes to this, by exactly these calls.
-///
-/// `OutOfMemory` where memory ran out for it, and that wasn't what a runner told.
-fn comes_to(
-    alloc: Global,
-    options: Options,
-    steps: &[Step],
-    comes: Comes,
-) -> Result<bool, OutOfMemory> {
-    let mut runner = runner_of(alloc, steps)?;
-    let signed = sign_payload(alloc, b"payload", options, &mut runner);
-    let is_so = match (&signed, comes) {
-        (Ok(signature), Comes::Signature(expected)) => signature.as_bytes() == expected,
-        (Err(error), Comes::Refused(name)) if name_of(error) == name => true,
-        (Err(Error::OutOfMemory), _) => return Err(OutOfMemory),
-        _ => false,
-    };
-    Ok(is_so && runner.steps.is_empty())
+/// Whether this came of signing.
+fn is_so(came: &Result<BString, Error>, comes: Comes) -> bool {
+    match came {
+        Ok(signature) => is_signature(signature, comes),
+        Err(error) => is_refusal(error, comes),
+    }
+}
+
+/// Whether this signature came.
+fn is_signature(signature: &BString, comes: Comes) -> bool {
+    match comes {
+        Comes::Signature(expected) => signature.as_bytes() == expected,
+        Comes::Refused(_) => false,
+    }
+}
+
+/// Whether this refusal came.
+fn is_refusal(error: &Error, comes: Comes) -> bool {
+    match comes {
+        Comes::Refused(expected) => name_of(error) == expected,
+        Comes::Signature(_) => false,
+    }
+}
+
+/// Whether signing with this key comes to this, by exactly these calls.
+fn comes_to(alloc: Global, format: Format, key: &[u8], steps: &[Step<'_>], comes: Comes) -> bool {
+    let mut maker = Maker::new(alloc);
+    let mut runner = maker.runner(steps);
+    let options = options_of(&mut maker, format, key);
+    let came = sign_payload(alloc, b"payload", options, &mut runner);
+    is_so(&came, comes) && is_over(&maker, &runner)
 }
 
 /// The name of a refusal, where it has what it is to have.
 pub(crate) fn name_of(error: &Error) -> &'static str {
     match error {
         Error::MissingSigningKey => "MissingSigningKey",
-        Error::TemporaryFile(why) if why.as_bytes() == WHY => "TemporaryFile",
-        Error::Spawn(why) if why.as_bytes() == WHY => "Spawn",
-        Error::Communicate(why) if why.as_bytes() == WHY => "Communicate",
-        Error::Failed { program, .. } if program.as_bytes() == PROGRAM => "Failed",
+        Error::TemporaryFile(why) => name_with("TemporaryFile", why, WHY),
+        Error::Spawn(why) => name_with("Spawn", why, WHY),
+        Error::Communicate(why) => name_with("Communicate", why, WHY),
+        Error::Failed { program, .. } => name_with("Failed", program, PROGRAM),
         Error::MissingSignatureConfirmation => "MissingSignatureConfirmation",
         Error::MissingSshSignature => "MissingSshSignature",
         Error::OutOfMemory => "OutOfMemory",
@@ -180,48 +195,63 @@ pub(crate) fn name_of(error: &Error) -> &'static str {
     }
 }
 
-#[test]
-fn by_programs_of_open_pgp_and_x509(rt: HostRuntime) -> Result<(), Fail> {
-    let alloc = rt.alloc();
-    for format in [OpenPgp, X509] {
-        for (number, (told, comes)) in GPG.iter().enumerate() {
-            let options = options_of(alloc, format, b"K")?;
-            let is_so = comes_to(alloc, options, &[gpg_step(*told)], *comes)?;
-            assert!(rt; is_so, "{format:?} {number}");
-        }
-    }
-    Ok(())
+/// Whether signing by a program of this format comes to what a row says.
+fn comes_to_row(alloc: Global, format: Format, row: &(Told, Comes)) -> bool {
+    let (told, comes) = *row;
+    comes_to(alloc, format, b"K", &[gpg_step(told)], comes)
 }
 
 #[test]
-fn by_programs_of_ssh(rt: HostRuntime) -> Result<(), Fail> {
-    let alloc = rt.alloc();
-    for (key, words, files, asked) in KEYS {
-        for (number, (told, comes)) in SSH.iter().enumerate() {
-            let options = options_of(alloc, Ssh, key)?;
-            let step = ssh_step((*words, *files, *asked), *told);
-            let is_so = comes_to(alloc, options, &[step], *comes)?;
-            assert!(rt; is_so, "{words} {number}");
+fn by_programs_of_open_pgp_and_x509(rt: HostRuntime) {
+    for (number, row) in GPG.iter().enumerate() {
+        let is_so = comes_to_row(rt.alloc(), OpenPgp, row) && comes_to_row(rt.alloc(), X509, row);
+        assert!(rt; is_so, "{number}");
+    }
+}
+
+/// Whether signing with a key comes to what a row says.
+fn signs_row_by_ssh(alloc: Global, key: &Key, row: &(Told, Comes)) -> bool {
+    let (told, comes) = *row;
+    comes_to(alloc, Ssh, key.0, &[ssh_step(key, told)], comes)
+}
+
+/// Whether that is so whatever is told of its call.
+fn signs_by_ssh(alloc: Global, key: &Key) -> bool {
+    for row in SSH {
+        if !signs_row_by_ssh(alloc, key, row) {
+            return false;
         }
     }
-    Ok(())
+    true
 }
 
 #[test]
-fn without_a_key_no_call_is_made(rt: HostRuntime) -> Result<(), Fail> {
-    let alloc = rt.alloc();
+fn by_programs_of_ssh(rt: HostRuntime) {
+    for key in KEYS {
+        assert!(rt; signs_by_ssh(rt.alloc(), key), "{}", key.1);
+    }
+}
+
+#[test]
+fn without_a_key_no_call_is_made(rt: HostRuntime) {
+    let refused = Comes::Refused("MissingSigningKey");
     for format in [OpenPgp, X509, Ssh] {
-        let options = options_of(alloc, format, b"")?;
-        let is_so = comes_to(alloc, options, &[], Comes::Refused("MissingSigningKey"))?;
-        assert!(rt; is_so, "{format:?}");
+        assert!(rt;
+            comes_to(rt.alloc(), format, b"", &[], refused),
+            "{format:?}"
+        );
     }
-    Ok(())
+}
+
+/// Whether a key is given by these bytes, or by none.
+fn is_literal(key: &[u8], bytes: Option<&[u8]>) -> bool {
+    is_literal_ssh_key(key) == bytes
 }
 
 #[test]
 fn keys_given_by_their_bytes(rt: HostRuntime) {
-    assert!(rt; is_literal_ssh_key(b"key::k") == Some(b"k".as_slice()));
-    assert!(rt; is_literal_ssh_key(b"ssh-k") == Some(b"ssh-k".as_slice()));
-    assert!(rt; is_literal_ssh_key(b"Key::k").is_none());
-    assert!(rt; is_literal_ssh_key(b"").is_none());
+    assert!(rt; is_literal(b"key::k", Some(b"k")));
+    assert!(rt; is_literal(b"ssh-k", Some(b"ssh-k")));
+    assert!(rt; is_literal(b"Key::k", None));
+    assert!(rt; is_literal(b"", None));
 }

@@ -1,18 +1,18 @@
 //! Tags that are signed, and signatures that are found in their texts.
 
-use crate::signing::calls::{Step, Told, environment_of, runner_of, text};
-use crate::signing::objects::{Comes, Row, gpg, is_so, runner_of_row};
+use crate::signing::calls::{Maker, Step, Told};
+use crate::signing::commits::has_bytes;
+use crate::signing::objects::{Comes, Row, gpg, is_object, is_over, is_refusal, runner_of_row};
+use crate::signing::played::Played;
 use crate::signing::signing::CREATED;
 use bstr::BStr;
-use gixobj_fields::WriteTo;
-use gixobj_hash::OutOfMemory;
-use gixobj_hash::hash::Kind::{Sha1, Sha256};
+use gixobj_hash::decode;
+use gixobj_hash::hash::Kind::{self, Sha1, Sha256};
 use gixobj_ref_iter::TagRefIter;
 use gixobj_signature::signature::sign::{Error, Options};
 use gixobj_tag::{Tag, TagRef};
 use gixobj_text::signature::{Format, SignatureRef};
 use std::alloc::Global;
-use std::test::Fail;
 
 /// A signature of OpenPGP.
 const PGP: &[u8] = b"-----BEGIN PGP SIGNATURE-----\n";
@@ -142,70 +142,98 @@ const ROWS: &[Row] = &[
     },
 ];
 
-/// The text of a tag that was signed, or why it wasn't.
-fn text_of(alloc: Global, signed: Result<Tag, Error>) -> Result<Vec<u8>, Error> {
-    let mut text = Vec::new(alloc);
-    if let Err(error) = signed?.write_to(alloc, &mut text) {
-        return Err(Error::Encode(error));
+/// Whether this came of signing a tag.
+fn is_so(alloc: Global, came: &Result<Tag, Error>, comes: Comes) -> bool {
+    match came {
+        Ok(tag) => is_object(alloc, tag, comes),
+        Err(error) => is_refusal(error, comes),
     }
-    Ok(text)
+}
+
+/// The owned form of the tag of a text.
+fn owned_form(alloc: Global, text: &[u8], hash: Kind) -> Result<Tag, decode::Error> {
+    TagRef::from_bytes(text, hash)?.into_owned(alloc)
+}
+
+/// Whether what is said comes of signing it, by a runner that plays it.
+fn signs(maker: &mut Maker, row: &Row, runner: &mut Played) -> bool {
+    let alloc = maker.alloc;
+    match owned_form(alloc, row.text, row.hash) {
+        Ok(tag) => is_so(
+            alloc,
+            &tag.sign(alloc, gpg(maker, row.key), runner),
+            row.comes,
+        ),
+        Err(_) => false,
+    }
 }
 
 /// Whether what is said comes of signing the owned form of a tag.
-fn is_signed(alloc: Global, row: &Row) -> Result<bool, Fail> {
-    let mut runner = runner_of_row(alloc, row)?;
-    let tag = TagRef::from_bytes(row.text, row.hash)?.into_owned(alloc)?;
-    let came = tag.sign(alloc, gpg(alloc, row.key)?, &mut runner);
-    Ok(is_so(&text_of(alloc, came), row.comes, &runner)?)
+fn is_signed(alloc: Global, row: &Row) -> bool {
+    let mut maker = Maker::new(alloc);
+    let mut runner = runner_of_row(&mut maker, row);
+    signs(&mut maker, row, &mut runner) && is_over(&maker, &runner)
 }
 
-/// The same of the tag as it was read.
-fn is_read_and_signed(alloc: Global, row: &Row) -> Result<bool, Fail> {
-    let mut runner = runner_of_row(alloc, row)?;
-    let tag = TagRef::from_bytes(row.text, row.hash)?;
-    let came = tag.sign(alloc, gpg(alloc, row.key)?, &mut runner);
-    Ok(is_so(&text_of(alloc, came), row.comes, &runner)?)
+/// Whether what is said comes of signing the tag as it was read, by a runner that plays it.
+fn read_signs(maker: &mut Maker, row: &Row, runner: &mut Played) -> bool {
+    let alloc = maker.alloc;
+    match TagRef::from_bytes(row.text, row.hash) {
+        Ok(tag) => is_so(
+            alloc,
+            &tag.sign(alloc, gpg(maker, row.key), runner),
+            row.comes,
+        ),
+        Err(_) => false,
+    }
+}
+
+/// Whether what is said comes of signing the tag as it was read.
+fn is_read_and_signed(alloc: Global, row: &Row) -> bool {
+    let mut maker = Maker::new(alloc);
+    let mut runner = runner_of_row(&mut maker, row);
+    read_signs(&mut maker, row, &mut runner) && is_over(&maker, &runner)
 }
 
 #[test]
-fn signed(rt: HostRuntime) -> Result<(), Fail> {
+fn signed(rt: HostRuntime) {
     assert!(rt; BARE.len() == 65);
     assert!(rt; PAYLOAD.len() == 68);
     assert!(rt; SIGNED.len() == 98);
     for (number, row) in ROWS.iter().enumerate() {
-        assert!(rt; is_signed(rt.alloc(), row)?, "{number}");
-        assert!(rt; is_read_and_signed(rt.alloc(), row)?, "{number}");
+        let is_so = is_signed(rt.alloc(), row) && is_read_and_signed(rt.alloc(), row);
+        assert!(rt; is_so, "{number}");
     }
-    Ok(())
 }
+
+/// A tag with bytes behind its tagger, and what comes of it.
+const MORE: &Row = &Row {
+    text: TAGGER_AND_MORE,
+    hash: Sha1,
+    key: b"",
+    call: None,
+    comes: Comes::Refused("Malformed"),
+};
 
 /// Bytes behind a tagger are met before any call.
 #[test]
-fn not_made_owned(rt: HostRuntime) -> Result<(), Fail> {
-    let row = Row {
-        text: TAGGER_AND_MORE,
-        hash: Sha1,
-        key: b"",
-        call: None,
-        comes: Comes::Refused("Malformed"),
-    };
-    assert!(rt; is_read_and_signed(rt.alloc(), &row)?);
-    Ok(())
+fn not_made_owned(rt: HostRuntime) {
+    assert!(rt; is_read_and_signed(rt.alloc(), MORE));
 }
 
 /// Signing by a program of SSH with this key.
-fn ssh(alloc: Global, key: &[u8]) -> Result<Options, OutOfMemory> {
-    Ok(Options {
+fn ssh(maker: &mut Maker, key: &[u8]) -> Options {
+    Options {
         format: Format::Ssh,
-        program: text(alloc, b"ssh-keygen")?,
-        program_arguments: Vec::new(alloc),
-        signing_key: text(alloc, key)?,
-        environment: environment_of(alloc, false)?,
-    })
+        program: maker.text(b"ssh-keygen"),
+        program_arguments: Vec::new(maker.alloc),
+        signing_key: maker.text(key),
+        environment: maker.environment(false),
+    }
 }
 
 /// The call that signs a payload with the key `k`, given by its bytes, and this file that is left.
-fn ssh_step(payload: &'static [&'static [u8]], left: Option<&'static [u8]>) -> Step {
+fn ssh_step(payload: &'static [&'static [u8]], left: Option<&'static [u8]>) -> Step<'static> {
     Step {
         program: b"ssh-keygen",
         words: "-Y sign -n git -f @0 -U @1",
@@ -217,20 +245,31 @@ fn ssh_step(payload: &'static [&'static [u8]], left: Option<&'static [u8]>) -> S
     }
 }
 
-#[test]
-fn by_programs_of_ssh(rt: HostRuntime) -> Result<(), Fail> {
-    let alloc = rt.alloc();
-    let rows = [
-        (Some(PGP), Comes::Text(SIGNED)),
-        (None, Comes::Refused("MissingSshSignature")),
-    ];
-    for (left, comes) in rows {
-        let mut runner = runner_of(alloc, &[ssh_step(&[b"k", PAYLOAD], left)])?;
-        let tag = TagRef::from_bytes(NEWLINES, Sha1)?.into_owned(alloc)?;
-        let came = tag.sign(alloc, ssh(alloc, b"key::k")?, &mut runner);
-        assert!(rt; is_so(&text_of(alloc, came), comes, &runner)?);
+/// Whether this comes of signing the tag with newlines, by a runner that plays a program of SSH.
+fn signs_by_ssh(maker: &mut Maker, runner: &mut Played, comes: Comes) -> bool {
+    let alloc = maker.alloc;
+    match owned_form(alloc, NEWLINES, Sha1) {
+        Ok(tag) => is_so(
+            alloc,
+            &tag.sign(alloc, ssh(maker, b"key::k"), runner),
+            comes,
+        ),
+        Err(_) => false,
     }
-    Ok(())
+}
+
+/// Whether this comes of signing it by a program of SSH that leaves this file.
+fn is_signed_by_ssh(alloc: Global, left: Option<&'static [u8]>, comes: Comes) -> bool {
+    let mut maker = Maker::new(alloc);
+    let mut runner = maker.runner(&[ssh_step(&[b"k", PAYLOAD], left)]);
+    signs_by_ssh(&mut maker, &mut runner, comes) && is_over(&maker, &runner)
+}
+
+#[test]
+fn by_programs_of_ssh(rt: HostRuntime) {
+    let refused = Comes::Refused("MissingSshSignature");
+    assert!(rt; is_signed_by_ssh(rt.alloc(), Some(PGP), Comes::Text(SIGNED)));
+    assert!(rt; is_signed_by_ssh(rt.alloc(), None, refused));
 }
 
 /// The signature of OpenPGP with these bytes.
@@ -241,37 +280,57 @@ fn pgp(bytes: &[u8]) -> SignatureRef<'_> {
     }
 }
 
+/// Whether the tag of a text has a message of one newline, and this signature.
+fn has_signature(text: &[u8], signature: SignatureRef<'_>) -> bool {
+    match TagRef::from_bytes(text, Sha1) {
+        Ok(tag) => tag.message == BStr::new(b"\n") && tag.signature() == Some(signature),
+        Err(_) => false,
+    }
+}
+
+/// Whether its owned form has this signature.
+fn is_owned_with_signature(alloc: Global, text: &[u8], signature: SignatureRef<'_>) -> bool {
+    match owned_form(alloc, text, Sha1) {
+        Ok(tag) => tag.signature() == Some(signature),
+        Err(_) => false,
+    }
+}
+
+/// Whether the tag of a text has no signature.
+fn is_read_without_signature(text: &[u8]) -> bool {
+    match TagRef::from_bytes(text, Sha1) {
+        Ok(tag) => tag.signature().is_none(),
+        Err(_) => false,
+    }
+}
+
 /// A tag that is read has the signature that is found in its text.
 #[test]
-fn read_back(rt: HostRuntime) -> Result<(), Fail> {
-    let tag = TagRef::from_bytes(SIGNED, Sha1)?;
-    assert!(rt; tag.message == BStr::new(b"\n"));
-    assert!(rt; tag.signature() == Some(pgp(PGP)));
-    let owned = tag.into_owned(rt.alloc())?;
-    assert!(rt; owned.signature() == Some(pgp(PGP)));
-    assert!(rt; TagRef::from_bytes(NEWLINES, Sha1)?.signature().is_none());
-    Ok(())
+fn read_back(rt: HostRuntime) {
+    assert!(rt; has_signature(SIGNED, pgp(PGP)));
+    assert!(rt; is_owned_with_signature(rt.alloc(), SIGNED, pgp(PGP)));
+    assert!(rt; is_read_without_signature(NEWLINES));
 }
 
 /// Whether this signature, with what it signs, is found in the text of a tag.
-fn is_found(alloc: Global, text: &[u8], bytes: &[u8], payload: &[u8]) -> Result<bool, OutOfMemory> {
+fn is_found(alloc: Global, text: &[u8], bytes: &[u8], payload: &[u8]) -> bool {
     match TagRefIter::signature(text) {
         Some((signature, signed)) => {
-            let signed = signed.to_bstring(alloc)?;
-            Ok(signature == pgp(bytes) && signed.as_bytes() == payload)
+            signature == pgp(bytes) && has_bytes(alloc, &signed, payload)
         }
-        None => Ok(false),
+        None => false,
     }
 }
 
+/// Whether none is found.
+fn is_unsigned(text: &[u8]) -> bool {
+    TagRefIter::signature(text).is_none()
+}
+
 #[test]
-fn signatures_found(rt: HostRuntime) -> Result<(), Fail> {
-    let alloc = rt.alloc();
-    assert!(rt; is_found(alloc, SIGNED, PGP, PAYLOAD)?);
-    assert!(rt; is_found(alloc, SHA256_SIGNED, PGP, SHA256_PAYLOAD)?);
-    assert!(rt; is_found(alloc, PGP, PGP, b"")?);
-    for unsigned in [BARE, PAYLOAD, SHA256] {
-        assert!(rt; TagRefIter::signature(unsigned).is_none());
-    }
-    Ok(())
+fn signatures_found(rt: HostRuntime) {
+    assert!(rt; is_found(rt.alloc(), SIGNED, PGP, PAYLOAD));
+    assert!(rt; is_found(rt.alloc(), SHA256_SIGNED, PGP, SHA256_PAYLOAD));
+    assert!(rt; is_found(rt.alloc(), PGP, PGP, b""));
+    assert!(rt; is_unsigned(BARE) && is_unsigned(PAYLOAD) && is_unsigned(SHA256));
 }

@@ -1,16 +1,14 @@
 //! Verifying: the words of each call, and what comes of each answer.
 
-use crate::signing::calls::{
-    PROGRAM, Step, Told, WHY, environment_of, runner_of, text, text_if_some, texts_of, time,
-};
+use crate::signing::calls::{Maker, PROGRAM, Step, Told, WHY, name_with, time};
+use crate::signing::objects::is_over;
+use crate::signing::played::Played;
 use bstr::{BStr, BString};
-use gixobj_hash::OutOfMemory;
 use gixobj_signature::signature::SignedData;
 use gixobj_signature::signature::verify::TrustLevel::{self, Fully, Marginal, Ultimate};
 use gixobj_signature::signature::verify::{Error, Options, Outcome};
 use gixobj_text::signature::Format;
 use std::alloc::{AllocError, Global};
-use std::test::Fail;
 
 /// Signatures of the three formats.
 const PGP: &[u8] = b"-----BEGIN PGP SIGNATURE-----\n";
@@ -29,7 +27,10 @@ const BAD: &[u8] = b"[GNUPG:] BADSIG K A\n[GNUPG:] TRUST_ULTIMATE\n";
 const GOOD_SSH: &[u8] = b"Good \"git\" signature for A with X key F\n";
 
 /// What is told of the call of a program of OpenPGP or of X.509, the trust that is asked for, and what comes of it.
-const GPG: &[(Told, TrustLevel, &str)] = &[
+type Gpg = (Told, TrustLevel, &'static str);
+
+/// Rows of programs of OpenPGP and of X.509.
+const GPG: &[Gpg] = &[
     (
         Told::Ran(true, GOOD, b"human", None),
         Fully,
@@ -183,17 +184,16 @@ const ROWS: &[Row] = &[
     },
 ];
 
-/// How is verified by a program of this format.
-fn options_of(
-    alloc: Global,
-    format: Format,
-    minimum_trust: TrustLevel,
-    revoked: Option<&[u8]>,
-) -> Result<Options, OutOfMemory> {
-    let program = text(alloc, PROGRAM)?;
-    let program_arguments = texts_of(alloc, &[b"-x"])?;
-    let environment = environment_of(alloc, false)?;
-    Ok(match format {
+/// By a program of which format is verified, the trust that is asked for, and the file of revoked keys.
+type How = (Format, TrustLevel, Option<&'static [u8]>);
+
+/// How is verified.
+fn options_of(maker: &mut Maker, how: How) -> Options {
+    let (format, minimum_trust, revoked) = how;
+    let program = maker.text(PROGRAM);
+    let program_arguments = maker.texts(&[b"-x"]);
+    let environment = maker.environment(false);
+    match format {
         Format::OpenPgp => Options::OpenPgp {
             program,
             program_arguments,
@@ -210,16 +210,16 @@ fn options_of(
             program,
             program_arguments,
             environment,
-            allowed_signers: text(alloc, b"allowed")?,
-            revocation_file: text_if_some(alloc, revoked)?,
+            allowed_signers: maker.text(b"allowed"),
+            revocation_file: maker.text_if_some(revoked),
             verify_time: time(),
             minimum_trust,
         },
-    })
+    }
 }
 
 /// The call of a program of OpenPGP, of which this is told.
-fn pgp_step(told: Told) -> Step {
+fn pgp_step(told: Told) -> Step<'static> {
     Step {
         program: PROGRAM,
         words: "-x --keyid-format=long --status-fd=1 --verify @0 -",
@@ -232,7 +232,7 @@ fn pgp_step(told: Told) -> Step {
 }
 
 /// The call of a program of X.509, of which this is told.
-fn x509_step(told: Told) -> Step {
+fn x509_step(told: Told) -> Step<'static> {
     Step {
         program: PROGRAM,
         words: "-x --status-fd=1 --verify @0 @1",
@@ -245,7 +245,7 @@ fn x509_step(told: Told) -> Step {
 }
 
 /// A call of a program of SSH, of which this is told.
-fn ssh_step(words: &'static str, input: &'static [u8], told: Told) -> Step {
+fn ssh_step(words: &'static str, input: &'static [u8], told: Told) -> Step<'static> {
     Step {
         program: PROGRAM,
         words,
@@ -257,41 +257,65 @@ fn ssh_step(words: &'static str, input: &'static [u8], told: Told) -> Step {
     }
 }
 
-/// The calls of a row.
-fn steps_of(alloc: Global, row: &Row) -> Result<Vec<Step>, AllocError> {
-    let mut steps = Vec::new(alloc);
-    let words = "-x -Y find-principals -f allowed -s @0 @time";
-    steps.push(ssh_step(words, b"", row.principals))?;
-    for (words, told) in row.asked {
-        steps.push(ssh_step(words, b"signed data", *told))?;
+/// Has a runner expect the calls for these principals.
+fn expect_asked(maker: &mut Maker, runner: &mut Played, asked: &[(&'static str, Told)]) {
+    for &(words, told) in asked {
+        maker.expect(runner, &ssh_step(words, b"signed data", told));
     }
-    if let Some(told) = row.any {
+}
+
+/// Has a runner expect the call without a principal, if it is made.
+fn expect_any(maker: &mut Maker, runner: &mut Played, any: Option<Told>) {
+    if let Some(told) = any {
         let words = "-x -Y check-novalidate -n git -s @0 @time";
-        steps.push(ssh_step(words, b"signed data", told))?;
+        maker.expect(runner, &ssh_step(words, b"signed data", told));
     }
-    Ok(steps)
+}
+
+/// The runner that expects the calls of a row.
+fn runner_of_row(maker: &mut Maker, row: &Row) -> Played {
+    let words = "-x -Y find-principals -f allowed -s @0 @time";
+    let mut runner = maker.runner(&[ssh_step(words, b"", row.principals)]);
+    expect_asked(maker, &mut runner, row.asked);
+    expect_any(maker, &mut runner, row.any);
+    runner
+}
+
+/// Whether this came of verifying.
+fn is_so(alloc: Global, came: &Result<Outcome, Error>, comes: &str) -> bool {
+    match came {
+        Ok(outcome) => is_outcome(alloc, outcome, comes),
+        Err(error) => name_of(error) == comes,
+    }
+}
+
+/// Whether verifying this signature comes to this by a runner that plays it, and by all of its calls.
+fn verifies(
+    maker: &mut Maker,
+    signature: &[u8],
+    how: How,
+    runner: &mut Played,
+    comes: &str,
+) -> bool {
+    let options = options_of(maker, how);
+    let signed = SignedData::new(b"signed", b" data");
+    let came = signed.verify(maker.alloc, BStr::new(signature), options, runner);
+    is_so(maker.alloc, &came, comes) && is_over(maker, runner)
 }
 
 /// Whether verifying this signature comes to this, by exactly these calls.
-///
-/// `OutOfMemory` where memory ran out for it, and that wasn't what a runner told.
-fn comes_to(
-    alloc: Global,
-    signature: &[u8],
-    options: Options,
-    steps: &[Step],
-    comes: &str,
-) -> Result<bool, OutOfMemory> {
-    let mut runner = runner_of(alloc, steps)?;
-    let signed = SignedData::new(b"signed", b" data");
-    let outcome = signed.verify(alloc, BStr::new(signature), options, &mut runner);
-    let is_so = match &outcome {
-        Ok(outcome) => outcome_text(alloc, outcome)?.as_str() == comes,
-        Err(error) if name_of(error) == comes => true,
-        Err(Error::OutOfMemory) => return Err(OutOfMemory),
+fn comes_to(alloc: Global, signature: &[u8], how: How, steps: &[Step<'_>], comes: &str) -> bool {
+    let mut maker = Maker::new(alloc);
+    let mut runner = maker.runner(steps);
+    verifies(&mut maker, signature, how, &mut runner, comes)
+}
+
+/// Whether an outcome is told so.
+fn is_outcome(alloc: Global, outcome: &Outcome, told: &str) -> bool {
+    match outcome_text(alloc, outcome) {
+        Ok(text) => text.as_str() == told,
         Err(_) => false,
-    };
-    Ok(is_so && runner.steps.is_empty())
+    }
 }
 
 /// An outcome: its status, trust, signer, key, fingerprint, what people are told, and whether it is accepted.
@@ -305,12 +329,17 @@ fn outcome_text(alloc: Global, outcome: &Outcome) -> Result<String, AllocError> 
     let key = shown(&outcome.key);
     let fingerprint = shown(&outcome.fingerprint);
     let told = shown_output(outcome.output.as_bytes());
-    let valid = if outcome.is_valid() {
+    let valid = valid_word(outcome);
+    format!(in alloc; "{status:?} {trust_level:?} {signer} {key} {fingerprint} [{told}] {valid}")
+}
+
+/// Whether an outcome is accepted, in words.
+fn valid_word(outcome: &Outcome) -> &'static str {
+    if outcome.is_valid() {
         "valid"
     } else {
         "not valid"
-    };
-    format!(in alloc; "{status:?} {trust_level:?} {signer} {key} {fingerprint} [{told}] {valid}")
+    }
 }
 
 /// A text, or `-`.
@@ -333,44 +362,54 @@ fn shown_output(text: &[u8]) -> &str {
 fn name_of(error: &Error) -> &'static str {
     match error {
         Error::UnsupportedFormat => "UnsupportedFormat",
-        Error::TemporaryFile(why) if why.as_bytes() == WHY => "TemporaryFile",
-        Error::Spawn(why) if why.as_bytes() == WHY => "Spawn",
-        Error::Communicate(why) if why.as_bytes() == WHY => "Communicate",
-        Error::CommitTime(why) if why.as_bytes() == WHY => "CommitTime",
+        Error::TemporaryFile(why) => name_with("TemporaryFile", why, WHY),
+        Error::Spawn(why) => name_with("Spawn", why, WHY),
+        Error::Communicate(why) => name_with("Communicate", why, WHY),
+        Error::CommitTime(why) => name_with("CommitTime", why, WHY),
         Error::OutOfMemory => "OutOfMemory",
         _ => "another",
     }
 }
 
-#[test]
-fn by_programs_of_open_pgp_and_x509(rt: HostRuntime) -> Result<(), Fail> {
-    let alloc = rt.alloc();
-    for (number, (told, minimum, comes)) in GPG.iter().enumerate() {
-        let options = options_of(alloc, Format::OpenPgp, *minimum, None)?;
-        let is_so = comes_to(alloc, PGP, options, &[pgp_step(*told)], comes)?;
-        assert!(rt; is_so, "{number}");
-        let options = options_of(alloc, Format::X509, *minimum, None)?;
-        let is_so = comes_to(alloc, X509, options, &[x509_step(*told)], comes)?;
-        assert!(rt; is_so, "{number}");
-    }
-    Ok(())
+/// Whether what a row says comes of a signature of OpenPGP.
+fn comes_of_pgp(alloc: Global, row: &Gpg) -> bool {
+    let (told, minimum, comes) = *row;
+    let how = (Format::OpenPgp, minimum, None);
+    comes_to(alloc, PGP, how, &[pgp_step(told)], comes)
+}
+
+/// Whether what a row says comes of a signature of X.509.
+fn comes_of_x509(alloc: Global, row: &Gpg) -> bool {
+    let (told, minimum, comes) = *row;
+    let how = (Format::X509, minimum, None);
+    comes_to(alloc, X509, how, &[x509_step(told)], comes)
 }
 
 #[test]
-fn by_programs_of_ssh(rt: HostRuntime) -> Result<(), Fail> {
-    let alloc = rt.alloc();
+fn by_programs_of_open_pgp_and_x509(rt: HostRuntime) {
+    for (number, row) in GPG.iter().enumerate() {
+        let is_so = comes_of_pgp(rt.alloc(), row) && comes_of_x509(rt.alloc(), row);
+        assert!(rt; is_so, "{number}");
+    }
+}
+
+/// Whether verifying by a program of SSH comes to what a row says.
+fn comes_to_row(alloc: Global, row: &Row) -> bool {
+    let mut maker = Maker::new(alloc);
+    let mut runner = runner_of_row(&mut maker, row);
+    let how = (Format::Ssh, Fully, Some(b"revoked".as_slice()));
+    verifies(&mut maker, SSH, how, &mut runner, row.comes)
+}
+
+#[test]
+fn by_programs_of_ssh(rt: HostRuntime) {
     for (number, row) in ROWS.iter().enumerate() {
-        let options = options_of(alloc, Format::Ssh, Fully, Some(b"revoked"))?;
-        let steps = steps_of(alloc, row)?;
-        let is_so = comes_to(alloc, SSH, options, &steps, row.comes)?;
-        assert!(rt; is_so, "{number}");
+        assert!(rt; comes_to_row(rt.alloc(), row), "{number}");
     }
-    Ok(())
 }
 
 #[test]
-fn without_a_file_of_revoked_keys(rt: HostRuntime) -> Result<(), Fail> {
-    let alloc = rt.alloc();
+fn without_a_file_of_revoked_keys(rt: HostRuntime) {
     let steps = [
         ssh_step(
             "-x -Y find-principals -f allowed -s @0 @time",
@@ -383,56 +422,62 @@ fn without_a_file_of_revoked_keys(rt: HostRuntime) -> Result<(), Fail> {
             Told::Ran(true, GOOD_SSH, b"", None),
         ),
     ];
-    let options = options_of(alloc, Format::Ssh, Ultimate, None)?;
-    let is_so = comes_to(
-        alloc,
-        SSH,
-        options,
-        &steps,
-        "Good Fully A F F [..] not valid",
-    )?;
-    assert!(rt; is_so);
-    Ok(())
+    let how = (Format::Ssh, Ultimate, None);
+    let comes = "Good Fully A F F [..] not valid";
+    assert!(rt; comes_to(rt.alloc(), SSH, how, &steps, comes));
 }
 
-/// Whether a signature of another format is refused with both formats, by no call.
-fn mismatches(
-    alloc: Global,
-    program: Format,
-    signature: &[u8],
-    format: Format,
-) -> Result<bool, OutOfMemory> {
-    let options = options_of(alloc, program, Fully, None)?;
-    let mut runner = runner_of(alloc, &[])?;
-    let signed = SignedData::new(b"", b"");
-    let outcome = signed.verify(alloc, BStr::new(signature), options, &mut runner);
-    Ok(match outcome {
+/// Whether a signature of another format was refused with both formats.
+fn is_mismatch(came: &Result<Outcome, Error>, program: Format, signature: Format) -> bool {
+    match came {
         Err(
             Error::FormatMismatch {
                 program_format,
                 signature_format,
             },
-        ) => program_format == program && signature_format == format,
+        ) => *program_format == program && *signature_format == signature,
         _ => false,
-    })
+    }
+}
+
+/// Whether a signature of another format is refused with both formats, by no call.
+fn mismatches(alloc: Global, program: Format, signature: &[u8], format: Format) -> bool {
+    let mut maker = Maker::new(alloc);
+    let mut runner = maker.runner(&[]);
+    let options = options_of(&mut maker, (program, Fully, None));
+    let signed = SignedData::new(b"", b"");
+    let came = signed.verify(alloc, BStr::new(signature), options, &mut runner);
+    is_mismatch(&came, program, format) && is_over(&maker, &runner)
+}
+
+/// Signatures, and their formats.
+const FORMATS: &[(&[u8], Format)] = &[
+    (PGP, Format::OpenPgp),
+    (X509, Format::X509),
+    (SSH, Format::Ssh),
+];
+
+/// Whether a program of this format verifies no signature of another one, by no call.
+fn takes_no_other(alloc: Global, program: Format) -> bool {
+    for &(signature, format) in FORMATS {
+        if program != format && !mismatches(alloc, program, signature, format) {
+            return false;
+        }
+    }
+    true
+}
+
+/// Whether a program of this format verifies nothing that is no signature, by no call.
+fn takes_signatures_alone(alloc: Global, program: Format) -> bool {
+    let how = (program, Fully, None);
+    comes_to(alloc, b"not a signature", how, &[], "UnsupportedFormat")
 }
 
 #[test]
-fn other_formats_are_refused_without_a_call(rt: HostRuntime) -> Result<(), Fail> {
-    let alloc = rt.alloc();
-    let formats = [
-        (PGP, Format::OpenPgp),
-        (X509, Format::X509),
-        (SSH, Format::Ssh),
-    ];
-    for (_, program) in formats {
-        let options = options_of(alloc, program, Fully, None)?;
-        let is_so = comes_to(alloc, b"not a signature", options, &[], "UnsupportedFormat")?;
+fn other_formats_are_refused_without_a_call(rt: HostRuntime) {
+    for program in [Format::OpenPgp, Format::X509, Format::Ssh] {
+        let is_so = takes_signatures_alone(rt.alloc(), program)
+            && takes_no_other(rt.alloc(), program);
         assert!(rt; is_so, "{program:?}");
-        for (signature, format) in formats {
-            let is_so = program == format || mismatches(alloc, program, signature, format)?;
-            assert!(rt; is_so, "{program:?} {format:?}");
-        }
     }
-    Ok(())
 }

@@ -1,23 +1,16 @@
 //! Orders and hashes of tags and tokens.
 
-use crate::helpers::hash_of;
-use crate::tags::{BARE, tag_with};
-use bstr::{BStr, BString};
-use gixobj_base::actor::SignatureRef;
+use crate::helpers::{are_copied, are_in_order, hash_of};
+use crate::signing::calls::Maker;
+use crate::tags::BARE;
+use bstr::BStr;
+use gixobj_base::actor::{Signature, SignatureRef};
 use gixobj_base::decode::Error;
 use gixobj_base::hash::ObjectId;
 use gixobj_base::{Kind, hash};
 use gixobj_codec::tag::ref_iter::Token;
 use gixobj_codec::{Tag, TagRef};
 use std::alloc::Global;
-use std::cmp::Ordering;
-use std::hash::Hash;
-use std::test::Fail;
-
-/// Whether values compare so, and are alike where they are equal.
-fn compare_as<T: Ord + Hash>(first: &T, second: &T, wanted: Ordering) -> bool {
-    first.cmp(second) == wanted && (hash_of(first) == hash_of(second)) == wanted.is_eq()
-}
 
 /// A tag, and others that are greater one after the other: each in a further field, and less in those
 /// behind it.
@@ -55,29 +48,42 @@ fn tags_in_a_row(first: TagRef<'_>) -> [TagRef<'_>; 7] {
     [first, signed, told, tagged, named, of_blob, of_other]
 }
 
-#[test]
-fn tags_in_order(rt: HostRuntime) -> Result<(), Fail> {
-    let tags = tags_in_a_row(TagRef::from_bytes(BARE, hash::Kind::Sha1)?);
-    for (at, first) in tags.iter().enumerate() {
-        for (other_at, second) in tags.iter().enumerate() {
-            assert!(rt;
-                compare_as(first, second, at.cmp(&other_at)),
-                "{at} {other_at}"
-            );
-        }
+/// Whether the tags in a row are in order.
+fn are_tags_in_order(text: &[u8]) -> bool {
+    match TagRef::from_bytes(text, hash::Kind::Sha1) {
+        Ok(tag) => are_in_order(&tags_in_a_row(tag)),
+        Err(_) => false,
     }
-    Ok(())
+}
+
+#[test]
+fn tags_in_order(rt: HostRuntime) {
+    assert!(rt; are_tags_in_order(BARE));
+}
+
+/// Whether the tags of two texts are equal.
+fn are_read_equal(first: &[u8], second: &[u8]) -> bool {
+    match (
+        TagRef::from_bytes(first, hash::Kind::Sha1),
+        TagRef::from_bytes(second, hash::Kind::Sha1),
+    ) {
+        (Ok(first), Ok(second)) => first == second && hash_of(&first) == hash_of(&second),
+        _ => false,
+    }
+}
+
+/// Whether a tag is equal to that of a copy of its text.
+fn is_equal_elsewhere(alloc: Global, text: &[u8]) -> bool {
+    match Vec::from_slice(alloc, text) {
+        Ok(copy) => are_read_equal(text, &copy),
+        Err(_) => false,
+    }
 }
 
 /// Parts are their bytes, wherever they lie.
 #[test]
-fn tags_that_are_equal(rt: HostRuntime) -> Result<(), Fail> {
-    let text = tag_with(rt.alloc(), b"")?;
-    let tag = TagRef::from_bytes(&text, hash::Kind::Sha1)?;
-    let same = TagRef::from_bytes(BARE, hash::Kind::Sha1)?;
-    assert!(rt; same == tag);
-    assert!(rt; hash_of(&same) == hash_of(&tag));
-    Ok(())
+fn tags_that_are_equal(rt: HostRuntime) {
+    assert!(rt; is_equal_elsewhere(rt.alloc(), BARE));
 }
 
 /// An actor of some tag.
@@ -89,58 +95,75 @@ fn actor() -> SignatureRef<'static> {
     }
 }
 
-/// Whether a copy of a tag is equal to it.
-fn is_equal_to_its_copy(tag: &Tag) -> bool {
-    match tag.clone() {
-        Ok(same) => same == *tag && hash_of(&same) == hash_of(tag),
-        Err(_) => false,
+/// The actor, owned, or none where there was no memory for it.
+fn own_actor(maker: &mut Maker) -> Option<Signature> {
+    match actor().to_owned(maker.alloc) {
+        Ok(actor) => Some(actor),
+        Err(_) => {
+            maker.is_refused = true;
+            None
+        }
     }
 }
 
-/// The owned form of the bare tag, or at another place one with one field that is greater.
-fn owned_tag(alloc: Global, at: usize) -> Result<Tag, Error> {
-    let mut tag = TagRef::from_bytes(BARE, hash::Kind::Sha1)?.into_owned(alloc)?;
+/// Makes one field of the bare tag greater, or none at the first place.
+fn change(maker: &mut Maker, tag: &mut Tag, at: usize) {
     match at {
-        1 => tag.signature = Some(BString::from_slice(alloc, b"")?),
-        2 => tag.message = BString::from_slice(alloc, b"a")?,
-        3 => tag.tagger = Some(actor().to_owned(alloc)?),
-        4 => tag.name = BString::from_slice(alloc, b"v2")?,
+        1 => tag.signature = Some(maker.text(b"")),
+        2 => tag.message = maker.text(b"a"),
+        3 => tag.tagger = own_actor(maker),
+        4 => tag.name = maker.text(b"v2"),
         5 => tag.target_kind = Kind::Blob,
         6 => tag.target = ObjectId::empty_blob(hash::Kind::Sha1),
         _ => {}
     }
-    Ok(tag)
+}
+
+/// The owned form of the bare tag.
+fn owned_tag(alloc: Global) -> Result<Tag, Error> {
+    TagRef::from_bytes(BARE, hash::Kind::Sha1)?.into_owned(alloc)
+}
+
+/// Puts the bare tag, or at another place the greater one, behind other tags.
+fn put_tag(maker: &mut Maker, tags: &mut Vec<Tag>, at: usize) {
+    match owned_tag(maker.alloc) {
+        Ok(mut tag) => {
+            change(maker, &mut tag, at);
+            maker.put(tags, tag);
+        }
+        Err(_) => maker.is_refused = true,
+    }
 }
 
 /// The bare tag and the greater ones, owned.
-fn owned_tags(alloc: Global) -> Result<Vec<Tag>, Error> {
-    let mut tags = Vec::new(alloc);
+fn owned_tags(maker: &mut Maker) -> Vec<Tag> {
+    let mut tags = Vec::new(maker.alloc);
     for at in 0..7usize {
-        tags.push(owned_tag(alloc, at)?)?;
+        put_tag(maker, &mut tags, at);
     }
-    Ok(tags)
+    tags
 }
 
 #[test]
-fn owned_tags_in_order(rt: HostRuntime) -> Result<(), Fail> {
-    let tags = owned_tags(rt.alloc())?;
-    assert!(rt; tags.len() == 7);
-    for (at, first) in tags.iter().enumerate() {
-        assert!(rt; is_equal_to_its_copy(first), "{at}");
-        for (other_at, second) in tags.iter().enumerate() {
-            assert!(rt;
-                compare_as(first, second, at.cmp(&other_at)),
-                "{at} {other_at}"
-            );
-        }
+fn owned_tags_in_order(rt: HostRuntime) {
+    let mut maker = Maker::new(rt.alloc());
+    let tags = owned_tags(&mut maker);
+    assert!(rt; !maker.is_refused && tags.len() == 7);
+    assert!(rt; are_copied(&tags));
+    assert!(rt; are_in_order(&tags));
+}
+
+/// The token behind the tagger.
+fn body(message: &'static [u8], signature: Option<BStr<'static>>) -> Token<'static> {
+    Token::Body {
+        message: BStr::new(message),
+        signature,
     }
-    Ok(())
 }
 
 /// Tokens in order.
 fn tokens_in_a_row() -> [Token<'static>; 9] {
     let none = BStr::new(b"");
-    let body = |message, signature| Token::Body { message, signature };
     [
         Token::Target {
             id: ObjectId::null(hash::Kind::Sha1),
@@ -153,29 +176,14 @@ fn tokens_in_a_row() -> [Token<'static>; 9] {
         Token::Name(none),
         Token::Tagger(None),
         Token::Tagger(Some(actor())),
-        body(none, Some(none)),
-        body(BStr::new(b"a"), None),
+        body(b"", Some(none)),
+        body(b"a", None),
     ]
-}
-
-/// Whether a copy of a token is equal to it.
-fn is_like_its_copy(token: &Token<'_>) -> bool {
-    match token.clone() {
-        Ok(same) => same == *token && hash_of(&same) == hash_of(token),
-        Err(_) => false,
-    }
 }
 
 #[test]
 fn tokens_in_order(rt: HostRuntime) {
     let tokens = tokens_in_a_row();
-    for (at, first) in tokens.iter().enumerate() {
-        assert!(rt; is_like_its_copy(first), "{at}");
-        for (other_at, second) in tokens.iter().enumerate() {
-            assert!(rt;
-                compare_as(first, second, at.cmp(&other_at)),
-                "{at} {other_at}"
-            );
-        }
-    }
+    assert!(rt; are_copied(&tokens));
+    assert!(rt; are_in_order(&tokens));
 }

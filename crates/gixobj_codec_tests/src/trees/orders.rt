@@ -2,38 +2,47 @@
 
 use super::tree_text;
 use crate::helpers::hash_of;
-use bstr::BString;
+use crate::signing::calls::Maker;
 use gixobj_base::hash::{Kind, ObjectId};
 use gixobj_base::tree::{Entry, EntryKind};
 use gixobj_codec::TreeRef;
 use gixobj_codec::tree::EntryRef;
-use std::alloc::{AllocError, Global};
+use std::alloc::Global;
 use std::cmp::Ordering;
-use std::test::Fail;
+
+/// Kinds and names of entries, and whether the id is that of the empty blob and not the null one.
+const ROWS: &[(EntryKind, &[u8], bool)] = &[
+    (EntryKind::Blob, b"a", false),
+    (EntryKind::Blob, b"a", true),
+    (EntryKind::BlobExecutable, b"a", false),
+    (EntryKind::Blob, b"a.b", false),
+    (EntryKind::Tree, b"a", false),
+    (EntryKind::Blob, b"a/", false),
+    (EntryKind::Blob, b"a/x", false),
+    (EntryKind::Blob, b"a0", false),
+];
+
+/// An entry of a row.
+fn entry(maker: &mut Maker, kind: EntryKind, name: &[u8], is_of_blob: bool) -> Entry {
+    Entry {
+        mode: kind.into(),
+        filename: maker.text(name),
+        oid: if is_of_blob {
+            ObjectId::empty_blob(Kind::Sha1)
+        } else {
+            ObjectId::null(Kind::Sha1)
+        },
+    }
+}
 
 /// Each entry comes before the next one.
-fn ascending(alloc: Global) -> Result<Vec<Entry>, AllocError> {
-    let null = ObjectId::null(Kind::Sha1);
-    let empty = ObjectId::empty_blob(Kind::Sha1);
-    let rows: &[(EntryKind, &[u8], ObjectId)] = &[
-        (EntryKind::Blob, b"a", null),
-        (EntryKind::Blob, b"a", empty),
-        (EntryKind::BlobExecutable, b"a", null),
-        (EntryKind::Blob, b"a.b", null),
-        (EntryKind::Tree, b"a", null),
-        (EntryKind::Blob, b"a/", null),
-        (EntryKind::Blob, b"a/x", null),
-        (EntryKind::Blob, b"a0", null),
-    ];
-    let mut entries = Vec::new(alloc);
-    for &(kind, name, oid) in rows {
-        entries.push(Entry {
-            mode: kind.into(),
-            filename: BString::from_slice(alloc, name)?,
-            oid,
-        })?;
+fn ascending(maker: &mut Maker) -> Vec<Entry> {
+    let mut entries = Vec::new(maker.alloc);
+    for &(kind, name, is_of_blob) in ROWS {
+        let entry = entry(maker, kind, name, is_of_blob);
+        maker.put(&mut entries, entry);
     }
-    Ok(entries)
+    entries
 }
 
 /// Whether two entries are so in order, borrowed as owned.
@@ -56,12 +65,13 @@ fn is_at(entries: &[Entry], at: usize, entry: &Entry) -> bool {
 }
 
 #[test]
-fn entries_in_order(rt: HostRuntime) -> Result<(), Fail> {
-    let entries = ascending(rt.alloc())?;
+fn entries_in_order(rt: HostRuntime) {
+    let mut maker = Maker::new(rt.alloc());
+    let entries = ascending(&mut maker);
+    assert!(rt; !maker.is_refused);
     for (at, entry) in entries.iter().enumerate() {
         assert!(rt; is_at(&entries, at, entry), "{at}");
     }
-    Ok(())
 }
 
 /// Whether two borrowed entries are equal and have one hash, or neither, as is wanted.
@@ -82,12 +92,13 @@ fn is_like_itself(entries: &[Entry], at: usize, entry: &Entry) -> bool {
 }
 
 #[test]
-fn entries_are_like_themselves_alone(rt: HostRuntime) -> Result<(), Fail> {
-    let entries = ascending(rt.alloc())?;
+fn entries_are_like_themselves_alone(rt: HostRuntime) {
+    let mut maker = Maker::new(rt.alloc());
+    let entries = ascending(&mut maker);
+    assert!(rt; !maker.is_refused);
     for (at, entry) in entries.iter().enumerate() {
         assert!(rt; is_like_itself(&entries, at, entry), "{at}");
     }
-    Ok(())
 }
 
 /// Whether a borrowed entry has the hash of the owned one, and becomes it.
@@ -103,12 +114,13 @@ fn becomes_itself(alloc: Global, entry: &Entry) -> bool {
 }
 
 #[test]
-fn borrowed_and_owned(rt: HostRuntime) -> Result<(), Fail> {
-    let entries = ascending(rt.alloc())?;
+fn borrowed_and_owned(rt: HostRuntime) {
+    let mut maker = Maker::new(rt.alloc());
+    let entries = ascending(&mut maker);
+    assert!(rt; !maker.is_refused);
     for entry in &entries {
         assert!(rt; becomes_itself(rt.alloc(), entry));
     }
-    Ok(())
 }
 
 /// Fronts of entries. Each tree of them comes before the next one.

@@ -10,22 +10,28 @@ use gixobj_base::tree::EntryKind;
 use gixobj_codec::TreeRef;
 use gixobj_codec::tree::EntryRef;
 use std::alloc::{AllocError, Global};
-use std::test::Fail;
 
-/// A tree of three entries with this id. The second and the third have a zero byte in their names.
+/// Kinds and names of three entries. The second and the third have a zero byte in their names.
+const ROWS: &[(EntryKind, &[u8])] = &[
+    (EntryKind::Blob, b"a"),
+    (EntryKind::Link, b"b\0c"),
+    (EntryKind::Blob, b"d\0"),
+];
+
+/// The entry of this kind and name, with this id.
+fn entry<'a>(kind: EntryKind, name: &'a [u8], id: &'a ObjectId) -> EntryRef<'a> {
+    EntryRef {
+        mode: kind.into(),
+        filename: BStr::new(name),
+        oid: id.as_oid(),
+    }
+}
+
+/// A tree of those entries with this id.
 fn with_a_zero_byte<'a>(alloc: Global, id: &'a ObjectId) -> Result<TreeRef<'a>, AllocError> {
-    let rows: &[(EntryKind, &[u8])] = &[
-        (EntryKind::Blob, b"a"),
-        (EntryKind::Link, b"b\0c"),
-        (EntryKind::Blob, b"d\0"),
-    ];
     let mut entries = Vec::new(alloc);
-    for &(kind, name) in rows {
-        entries.push(EntryRef {
-            mode: kind.into(),
-            filename: BStr::new(name),
-            oid: id.as_oid(),
-        })?;
+    for &(kind, name) in ROWS {
+        entries.push(entry(kind, name, id))?;
     }
     Ok(TreeRef { entries })
 }
@@ -48,21 +54,31 @@ fn is_refused_for(alloc: Global, tree: &TreeRef<'_>, name: &[u8], before: &[u8])
     }
 }
 
+/// Whether the tree of those entries is refused for this name behind these bytes, and counted with so many.
+fn is_tree_refused_for(alloc: Global, name: &[u8], before: &[u8], size: u64) -> bool {
+    match with_a_zero_byte(alloc, &ObjectId::Sha1(ONES)) {
+        Ok(tree) => { is_refused_for(alloc, &tree, name, before) && tree.size() == Some(size) }
+        Err(_) => false,
+    }
+}
+
 /// A refused name leaves the entry before it, and its own mode and space.
 #[test]
-fn names_with_a_zero_byte(rt: HostRuntime) -> Result<(), Fail> {
-    let id = ObjectId::Sha1(ONES);
-    let tree = with_a_zero_byte(rt.alloc(), &id)?;
-    assert!(rt; is_refused_for(rt.alloc(), &tree, b"b\0c", BEFORE));
-    assert!(rt; tree.size() == Some(29 + 31 + 30));
-    Ok(())
+fn names_with_a_zero_byte(rt: HostRuntime) {
+    assert!(rt; is_tree_refused_for(rt.alloc(), b"b\0c", BEFORE, 29 + 31 + 30));
+}
+
+/// Whether writers of the tree of a text stop.
+fn stops_read(alloc: Global, text: &[u8]) -> bool {
+    match TreeRef::from_bytes(alloc, text, Kind::Sha1) {
+        Ok(tree) => stops(alloc, &tree, text),
+        Err(_) => false,
+    }
 }
 
 #[test]
-fn writers_that_fail(rt: HostRuntime) -> Result<(), Fail> {
-    let tree = TreeRef::from_bytes(rt.alloc(), EXAMPLE, Kind::Sha1)?;
-    assert!(rt; stops(rt.alloc(), &tree, EXAMPLE));
-    Ok(())
+fn writers_that_fail(rt: HostRuntime) {
+    assert!(rt; stops_read(rt.alloc(), EXAMPLE));
 }
 
 /// Whether so many bytes are counted and written of a tree.
@@ -74,16 +90,20 @@ fn has_size(alloc: Global, tree: &TreeRef<'_>, len: usize) -> bool {
     }
 }
 
+/// Whether so many bytes are counted and written of the tree of a text, with one more entry with this id.
+fn has_size_with(alloc: Global, text: &[u8], id: &ObjectId, len: usize) -> bool {
+    match TreeRef::from_bytes(alloc, text, Kind::Sha1) {
+        Ok(mut tree) => {
+            tree.entries.push(entry(EntryKind::Tree, b"b", id)).is_ok()
+                && has_size(alloc, &tree, len)
+        }
+        Err(_) => false,
+    }
+}
+
 /// Ids of both kinds are counted and written with their own length.
 #[test]
-fn ids_of_both_kinds(rt: HostRuntime) -> Result<(), Fail> {
+fn ids_of_both_kinds(rt: HostRuntime) {
     let id = ObjectId::null(Kind::Sha256);
-    let mut tree = TreeRef::from_bytes(rt.alloc(), ENTRY, Kind::Sha1)?;
-    tree.entries.push(EntryRef {
-        mode: EntryKind::Tree.into(),
-        filename: BStr::new(b"b"),
-        oid: id.as_oid(),
-    })?;
-    assert!(rt; has_size(rt.alloc(), &tree, 29 + 40));
-    Ok(())
+    assert!(rt; has_size_with(rt.alloc(), ENTRY, &id, 29 + 40));
 }
