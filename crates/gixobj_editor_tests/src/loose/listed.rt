@@ -68,7 +68,7 @@ const TREES: &[(&str, &[u8], &[u8])] = &[
 ];
 
 /// These trees.
-fn listed() -> &'static [(&'static str, &'static [u8], &'static [u8])] {
+fn listed_trees() -> &'static [(&'static str, &'static [u8], &'static [u8])] {
     TREES
 }
 
@@ -84,7 +84,7 @@ fn lists(alloc: Global, line: &str, input: &[u8], output: &[u8]) -> bool {
 
 #[test]
 fn trees(rt: HostRuntime) {
-    for &(line, input, output) in listed() {
+    for &(line, input, output) in listed_trees() {
         assert!(rt; lists(rt.alloc(), line, input, output), "{line} {input:?}");
     }
 }

@@ -141,7 +141,7 @@ fn read() -> &'static [(&'static str, &'static [u8], &'static str, &'static str)
 }
 
 /// What a run comes to that tells these texts: it fails where there is something on standard error.
-fn told<'a>(texts: (&'a str, &'a str)) -> Told<'a> {
+fn told_by<'a>(texts: (&'a str, &'a str)) -> Told<'a> {
     let (output, errors) = texts;
     Told {
         status: u8::from(!errors.is_empty()),
@@ -163,7 +163,7 @@ fn writes_in_steps(
         step,
         fails: false,
     };
-    answers_reader(alloc, line, &mut reader, told(texts))
+    answers_reader(alloc, line, &mut reader, told_by(texts))
 }
 
 #[test]
@@ -215,7 +215,7 @@ fn writes_interrupted(alloc: Global, line: &str, object: &[u8], texts: (&str, &s
         rest: object,
         is_next: false,
     };
-    answers_reader(alloc, line, &mut reader, told(texts))
+    answers_reader(alloc, line, &mut reader, told_by(texts))
 }
 
 #[test]
