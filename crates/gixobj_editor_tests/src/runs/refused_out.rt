@@ -86,12 +86,20 @@ fn told_of_refused_trees(rt: HostRuntime) {
     assert!(rt; editor.store_mut().keeps() == 3);
 }
 
+/// Whether a write was refused for this.
+fn is_secret_refused(reply: &EditReply<Refusal>) -> bool {
+    match reply {
+        EditReply::WriteRefused(WriteError::Out(refusal)) => matches!(refusal, Refusal::Secret),
+        _ => false,
+    }
+}
+
 /// Whether a reply gives the refusal.
 fn is_for_secret(reply: Option<&Reply<Refusal>>) -> bool {
-    matches!(
-        reply,
-        Some(Reply::Edit(EditReply::WriteRefused(WriteError::Out(Refusal::Secret))))
-    )
+    match reply {
+        Some(Reply::Edit(reply)) => is_secret_refused(reply),
+        _ => false,
+    }
 }
 
 /// Whether the third reply to commands gives the refusal.
