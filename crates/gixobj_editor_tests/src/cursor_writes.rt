@@ -1,13 +1,11 @@
 //! Refused writes by cursors, and writes behind them. Ids are those that `git mktree --missing` answers.
 
-use crate::cursor_calls::{hands_out, upserted_by};
-use crate::samples::{FILE, empty_editor, path_of, upserted, writes};
+use crate::samples::{cursor_of, empty_editor, hands_out, upserted, upserted_by, writes};
 use gixobj_base::Tree;
 use gixobj_base::hash::Kind as HashKind;
 use gixobj_editor::editor::{Cursor, Editor, WriteError};
 use gixobj_find::Memory;
 use std::alloc::Global;
-use std::test::Fail;
 
 /// Whether a write by a cursor stops at its call of this number, with the refusal of the closure.
 fn stops_at(alloc: Global, cursor: &mut Cursor<'_, Memory>, number: u8) -> bool {
@@ -26,15 +24,11 @@ fn stops_at(alloc: Global, cursor: &mut Cursor<'_, Memory>, number: u8) -> bool 
     stopped && calls == number
 }
 
-/// An editor of the files `a/x`, `b/y` and `c/d/z`.
-fn of_three_files(alloc: Global) -> Result<Editor<Memory>, Fail> {
-    let mut editor = empty_editor(alloc);
-    for path in [b"a x".as_slice(), b"b y".as_slice(), b"c d z".as_slice()] {
-        if upserted(alloc, &mut editor, path, FILE)? != 0 {
-            return Err("three files")?;
-        }
-    }
-    Ok(editor)
+/// Whether the files `a/x`, `b/y` and `c/d/z` are put in.
+fn are_put(alloc: Global, editor: &mut Editor<Memory>) -> bool {
+    upserted(alloc, editor, b"a x") == 0
+        && upserted(alloc, editor, b"b y") == 0
+        && upserted(alloc, editor, b"c d z") == 0
 }
 
 /// The tree of the directory `c/d` of these files.
@@ -63,53 +57,56 @@ fn handed_out() -> &'static [(&'static [u8], &'static [&'static [u8]])] {
     HANDED_OUT
 }
 
-/// Whether a write at a directory that stops at its call of this number has lost nothing: the next one by the same
-/// cursor hands out trees of all these ids, and the one behind it the last alone.
-fn stops_and_goes_on(
-    alloc: Global,
-    directory: &[u8],
-    number: u8,
-    ids: &[&[u8]],
-) -> Result<bool, Fail> {
-    let mut editor = of_three_files(alloc)?;
-    let directory = path_of(alloc, directory)?;
-    let mut cursor = editor.cursor_at(&directory)?;
+/// Whether a write by a cursor that stops at its call of this number has lost nothing: the next one hands out trees of
+/// all these ids, and the one behind it the last alone.
+fn goes_on(alloc: Global, cursor: &mut Cursor<'_, Memory>, number: u8, ids: &[&[u8]]) -> bool {
     let last = ids.get(ids.len().saturating_sub(1)..).unwrap_or(&[]);
-    Ok(
-        stops_at(alloc, &mut cursor, number)
-            && hands_out(alloc, &mut cursor, ids)
-            && hands_out(alloc, &mut cursor, last),
-    )
+    stops_at(alloc, cursor, number)
+        && hands_out(alloc, cursor, ids)
+        && hands_out(alloc, cursor, last)
+}
+
+/// Whether that is so of a cursor at a directory.
+fn stops_and_goes_on(alloc: Global, directory: &[u8], number: u8, ids: &[&[u8]]) -> bool {
+    let mut editor = empty_editor(alloc);
+    if !are_put(alloc, &mut editor) {
+        return false;
+    }
+    match cursor_of(alloc, &mut editor, directory) {
+        Some(mut cursor) => goes_on(alloc, &mut cursor, number, ids),
+        None => false,
+    }
 }
 
 /// Whether that is so at each call of a write.
-fn stops_anywhere(alloc: Global, directory: &[u8], ids: &[&[u8]]) -> Result<bool, Fail> {
+fn stops_anywhere(alloc: Global, directory: &[u8], ids: &[&[u8]]) -> bool {
     let mut number = 0u8;
     for _ in ids {
         number = number.wrapping_add(1);
-        if !stops_and_goes_on(alloc, directory, number, ids)? {
-            return Ok(false);
+        if !stops_and_goes_on(alloc, directory, number, ids) {
+            return false;
         }
     }
-    Ok(true)
+    true
 }
 
 #[test]
-fn failed_out_at_each_tree(rt: HostRuntime) -> Result<(), Fail> {
-    let alloc = rt.alloc();
+fn failed_out_at_each_tree(rt: HostRuntime) {
     for (directory, ids) in handed_out() {
-        assert!(rt; stops_anywhere(alloc, directory, ids)?);
+        assert!(rt; stops_anywhere(rt.alloc(), directory, ids));
     }
-    Ok(())
 }
 
 /// Whether a cursor at the directory `a` puts the files `b/c` and `d` in, and a write by it stops at its second tree.
-fn stops_in_a(alloc: Global, editor: &mut Editor<Memory>) -> Result<bool, Fail> {
-    let directory = path_of(alloc, b"a")?;
-    let mut cursor = editor.cursor_at(&directory)?;
-    let first = upserted_by(alloc, &mut cursor, b"b c")?;
-    let second = upserted_by(alloc, &mut cursor, b"d")?;
-    Ok(first == 0 && second == 0 && stops_at(alloc, &mut cursor, 2))
+fn stops_in_a(alloc: Global, editor: &mut Editor<Memory>) -> bool {
+    match cursor_of(alloc, editor, b"a") {
+        Some(mut cursor) => {
+            upserted_by(alloc, &mut cursor, b"b c") == 0
+                && upserted_by(alloc, &mut cursor, b"d") == 0
+                && stops_at(alloc, &mut cursor, 2)
+        }
+        None => false,
+    }
 }
 
 /// The trees of the directories `a/b` and `a` with these files, and of the root that has the file `q` too.
@@ -120,11 +117,9 @@ const BELOW_AND_ROOT: &[&[u8]] = &[
 ];
 
 #[test]
-fn failed_out_and_then_the_root(rt: HostRuntime) -> Result<(), Fail> {
-    let alloc = rt.alloc();
-    let mut editor = empty_editor(alloc);
-    assert!(rt; upserted(alloc, &mut editor, b"q", FILE)? == 0);
-    assert!(rt; stops_in_a(alloc, &mut editor)?);
-    assert!(rt; writes(alloc, &mut editor, BELOW_AND_ROOT));
-    Ok(())
+fn failed_out_and_then_the_root(rt: HostRuntime) {
+    let mut editor = empty_editor(rt.alloc());
+    assert!(rt; upserted(rt.alloc(), &mut editor, b"q") == 0);
+    assert!(rt; stops_in_a(rt.alloc(), &mut editor));
+    assert!(rt; writes(rt.alloc(), &mut editor, BELOW_AND_ROOT));
 }

@@ -2,12 +2,9 @@
 
 mod growths;
 
-use crate::streams::words_in;
+use crate::streams::{Told, answers, fails_at_reader, status_of};
 use gixobj_base_tests::limited::{Limited, Stepping};
-use gixobj_script::engine::engine;
-use std::alloc::{AllocError, Global};
-use std::io::{Read, Write};
-use std::test::Fail;
+use std::alloc::Global;
 
 const NESTED: &str = "upsert blob 83baae61804e65cc73a7201a7252750c76066a30 bak/test.txt
 upsert blob fa49b077972391ad58037050f2a75f74e3671e92 new.txt
@@ -67,31 +64,14 @@ lookups 0
 
 const USAGE: &str = "usage: gixobj show|tree|edit [sha256]\n";
 
-/// The status of a run of the program, by the words of a line.
-fn status_of<R: Read, O: Write, E: Write>(
-    alloc: Global,
-    line: &str,
-    input: &mut R,
-    output: &mut O,
-    errors: &mut E,
-) -> Result<u8, AllocError> {
-    let words = words_in(alloc, line)?;
-    Ok(engine(alloc, words.as_slice(), input, output, errors))
-}
-
-/// What the program answers of an input: the status, and what it writes on its two outputs, which have room for it.
-fn answer_of(alloc: Global, line: &str, input: &str) -> Result<(u8, Vec<u8>, Vec<u8>), AllocError> {
-    let mut rest = input.as_bytes();
-    let mut told = Vec::with_capacity(alloc, 1024)?;
-    let mut refused = Vec::with_capacity(alloc, 1024)?;
-    let status = status_of(alloc, line, &mut rest, &mut told, &mut refused)?;
-    Ok((status, told, refused))
-}
-
 /// Whether the program tells this of an input, and nothing on standard error.
-fn tells(alloc: Global, line: &str, input: &str, told: &str) -> Result<bool, AllocError> {
-    let (status, output, errors) = answer_of(alloc, line, input)?;
-    Ok(status == 0 && output.as_slice() == told.as_bytes() && errors.is_empty())
+fn tells(alloc: Global, line: &str, input: &str, told: &str) -> bool {
+    let told = Told {
+        status: 0,
+        output: told.as_bytes(),
+        errors: b"",
+    };
+    answers(alloc, line, input.as_bytes(), told)
 }
 
 /// Words, inputs, and what is told: three files, of which one is in a directory (`edit_nested`); a directory is no leaf, and
@@ -112,11 +92,10 @@ fn inputs() -> &'static [(&'static str, &'static str, &'static str)] {
 }
 
 #[test]
-fn inputs_and_what_is_told(rt: HostRuntime) -> Result<(), Fail> {
+fn inputs_and_what_is_told(rt: HostRuntime) {
     for (line, input, told) in inputs() {
-        assert!(rt; tells(rt.alloc(), line, input, told)?, "{line} {input}");
+        assert!(rt; tells(rt.alloc(), line, input, told), "{line} {input}");
     }
-    Ok(())
 }
 
 /// Words, inputs, and what comes of each: the status, and what is told on standard error.
@@ -134,48 +113,58 @@ const FAULTS: &[(&str, &str, u8, &str)] = &[
     ("", "write\n", 2, USAGE),
 ];
 
-#[test]
-fn faults(rt: HostRuntime) -> Result<(), Fail> {
-    let alloc = rt.alloc();
-    for &(line, input, status, refused) in FAULTS {
-        let got = answer_of(alloc, line, input)?;
-        assert_eq!(rt; got.0, status, "{line} {input}");
-        assert!(rt; got.1.is_empty(), "{line} {input}");
-        assert_eq!(rt; got.2.as_slice(), refused.as_bytes(), "{line} {input}");
-    }
-    Ok(())
+/// Whether the program ends with this status on an input, with nothing on standard output and this on standard error.
+fn refuses(alloc: Global, line: &str, input: &str, status: u8, errors: &str) -> bool {
+    let told = Told {
+        status,
+        output: b"",
+        errors: errors.as_bytes(),
+    };
+    answers(alloc, line, input.as_bytes(), told)
 }
 
-/// A script that is cut off isn't run.
 #[test]
-fn input_that_fails(rt: HostRuntime) -> Result<(), Fail> {
-    let alloc = rt.alloc();
+fn faults(rt: HostRuntime) {
+    for &(line, input, status, errors) in FAULTS {
+        assert!(rt;
+            refuses(rt.alloc(), line, input, status, errors),
+            "{line} {input}"
+        );
+    }
+}
+
+/// Whether a script that comes byte by byte and is cut off behind its end isn't run.
+fn is_cut_off(alloc: Global) -> bool {
     let mut input = Stepping {
         rest: NESTED.as_bytes(),
         step: 1,
         fails: true,
     };
-    let mut told = Vec::new(alloc);
-    let mut refused = Vec::new(alloc);
-    let status = status_of(alloc, "edit", &mut input, &mut told, &mut refused)?;
-    assert_eq!(rt; status, 1);
-    assert!(rt; told.is_empty());
-    assert_eq!(rt; refused.as_slice(), b"gixobj: input failed\n".as_slice());
-    Ok(())
+    fails_at_reader(alloc, "edit", &mut input, b"gixobj: input failed\n")
+}
+
+/// A script that is cut off isn't run.
+#[test]
+fn input_that_fails(rt: HostRuntime) {
+    assert!(rt; is_cut_off(rt.alloc()));
+}
+
+/// Whether the output of a script fails where there is room for so much, which is this front of what is told.
+fn fails_at_output(alloc: Global, room: usize, front: &str) -> bool {
+    let mut narrow = Limited {
+        held: Vec::new(alloc),
+        room,
+    };
+    let mut errors = Vec::new(alloc);
+    let mut rest = NESTED.as_bytes();
+    let status = status_of(alloc, "edit", &mut rest, &mut narrow, &mut errors);
+    status == Ok(1)
+        && narrow.held.as_slice() == front.as_bytes()
+        && errors.as_slice() == b"gixobj: output failed\n".as_slice()
 }
 
 #[test]
-fn output_that_fails(rt: HostRuntime) -> Result<(), Fail> {
-    let alloc = rt.alloc();
-    for (room, front) in [(0, ""), (5, "ok\nok")] {
-        let held = Vec::new(alloc);
-        let mut narrow = Limited { held, room };
-        let mut refused = Vec::new(alloc);
-        let mut rest = NESTED.as_bytes();
-        let status = status_of(alloc, "edit", &mut rest, &mut narrow, &mut refused)?;
-        assert_eq!(rt; status, 1);
-        assert_eq!(rt; narrow.held.as_slice(), front.as_bytes());
-        assert_eq!(rt; refused.as_slice(), b"gixobj: output failed\n".as_slice());
-    }
-    Ok(())
+fn output_that_fails(rt: HostRuntime) {
+    assert!(rt; fails_at_output(rt.alloc(), 0, ""));
+    assert!(rt; fails_at_output(rt.alloc(), 5, "ok\nok"));
 }

@@ -1,22 +1,22 @@
 //! The entries that an editor and a cursor get, behind scripts; and names with a slash, which no script says.
 
-use crate::cursor_calls::upserted_by;
-use crate::runs::samples::{editor_over, replies_to};
-use crate::samples::{FILE, empty_editor, number, number_of, path_of, told, writes};
+use crate::runs::samples::{editor_over, has_asked};
+use crate::samples::{
+    FILE, cursor_of, empty_editor, is_run, number, path_of, upserted, upserted_by, writes,
+};
 use gixobj_base::hash::ObjectId;
-use gixobj_base::tree::EntryKind;
-use gixobj_editor::editor::Editor;
+use gixobj_base::tree::{Entry, EntryKind};
+use gixobj_editor::editor::{Cursor, Editor};
 use gixobj_find::Memory;
 use gixobj_find_tests::failing::Failing;
 use std::alloc::{AllocError, Global};
-use std::test::Fail;
 
 const OTHER: ObjectId = ObjectId::Sha1([2; 20]);
 
 const NULL: ObjectId = ObjectId::Sha1([0; 20]);
 
 /// What is got at a path.
-#[derive(Clone, Copy, Debug)]
+#[derive(Clone, Copy)]
 enum Got {
     Nothing,
     /// The entry of a directory.
@@ -143,62 +143,78 @@ fn rows() -> &'static [Row] {
     ROWS
 }
 
-/// The kind and the id of the entry that an editor gets at a path.
-fn entry_at(
-    alloc: Global,
-    editor: &Editor<Failing>,
-    path: &[u8],
-) -> Result<Option<(EntryKind, ObjectId)>, Fail> {
-    let path = path_of(alloc, path)?;
-    Ok(told(editor.get(&path)?))
-}
-
-/// The same by a cursor at a directory.
-fn entry_by_a_cursor(
-    alloc: Global,
-    editor: &mut Editor<Failing>,
-    directory: &[u8],
-    path: &[u8],
-) -> Result<Option<(EntryKind, ObjectId)>, Fail> {
-    let (directory, path) = (path_of(alloc, directory)?, path_of(alloc, path)?);
-    let cursor = editor.cursor_at(&directory)?;
-    Ok(told(cursor.get(&path)?))
-}
-
 /// Whether this is so of an entry.
-fn is_got(found: Option<(EntryKind, ObjectId)>, wanted: Got) -> bool {
+fn is_got(found: Option<&Entry>, wanted: Got) -> bool {
     match (found, wanted) {
         (None, Got::Nothing) => true,
-        (Some((kind, _)), Got::Directory) => kind == EntryKind::Tree,
-        (Some((kind, id)), Got::Entry(wanted_kind, wanted_id)) => {
-            kind == wanted_kind && id == wanted_id
-        }
+        (Some(entry), Got::Directory) => entry.mode.kind() == EntryKind::Tree,
+        (Some(entry), Got::Entry(kind, id)) => entry.mode.kind() == kind && entry.oid == id,
         _ => false,
     }
 }
 
-/// Whether all of a row is got behind its script.
-fn is_all_got(alloc: Global, row: &Row) -> Result<bool, Fail> {
-    let mut editor = editor_over(alloc, &[], &[]);
-    let _ = replies_to(alloc, &mut editor, row.script)?;
+/// Whether an editor gets this at a path.
+fn gets(alloc: Global, editor: &Editor<Failing>, path: &[u8], wanted: Got) -> bool {
+    match path_of(alloc, path) {
+        Ok(path) => match editor.get(&path) {
+            Ok(entry) => is_got(entry, wanted),
+            Err(_) => false,
+        },
+        Err(_) => false,
+    }
+}
+
+/// The same by a cursor.
+fn gets_by(alloc: Global, cursor: &Cursor<'_, Failing>, path: &[u8], wanted: Got) -> bool {
+    match path_of(alloc, path) {
+        Ok(path) => match cursor.get(&path) {
+            Ok(entry) => is_got(entry, wanted),
+            Err(_) => false,
+        },
+        Err(_) => false,
+    }
+}
+
+/// Whether this is got at a path, by a cursor at a directory, if there is one, else by the editor.
+fn gets_at(
+    alloc: Global,
+    editor: &mut Editor<Failing>,
+    directory: Option<&[u8]>,
+    path: &[u8],
+    wanted: Got,
+) -> bool {
+    let Some(directory) = directory else {
+        return gets(alloc, editor, path, wanted);
+    };
+    match cursor_of(alloc, editor, directory) {
+        Some(cursor) => gets_by(alloc, &cursor, path, wanted),
+        None => false,
+    }
+}
+
+/// Whether all of a row is got.
+fn gets_all(alloc: Global, editor: &mut Editor<Failing>, row: &Row) -> bool {
     for (path, wanted) in row.gets {
-        let found = match row.cursor {
-            Some(directory) => entry_by_a_cursor(alloc, &mut editor, directory, path)?,
-            None => entry_at(alloc, &editor, path)?,
-        };
-        if !is_got(found, *wanted) {
-            return Ok(false);
+        if !gets_at(alloc, editor, row.cursor, path, *wanted) {
+            return false;
         }
     }
-    Ok(editor.lookups() == row.lookups && editor.store_mut().lookups() == row.lookups)
+    true
+}
+
+/// Whether all of a row is got behind its script.
+fn is_all_got(alloc: Global, row: &Row) -> bool {
+    let mut editor = editor_over(alloc, &[], &[]);
+    is_run(alloc, &mut editor, row.script.as_bytes())
+        && gets_all(alloc, &mut editor, row)
+        && has_asked(&mut editor, row.lookups)
 }
 
 #[test]
-fn entries_that_are_got(rt: HostRuntime) -> Result<(), Fail> {
+fn entries_that_are_got(rt: HostRuntime) {
     for row in rows() {
-        assert!(rt; is_all_got(rt.alloc(), row)?, "{}", row.name);
+        assert!(rt; is_all_got(rt.alloc(), row), "{}", row.name);
     }
-    Ok(())
 }
 
 /// A thousand names `d`, with these bytes between them.
@@ -210,68 +226,78 @@ fn thousand_names(alloc: Global, front: &[u8], between: &[u8]) -> Result<Vec<u8>
     Ok(path)
 }
 
-#[test]
-fn a_path_of_a_thousand_names(rt: HostRuntime) -> Result<(), Fail> {
-    let alloc = rt.alloc();
-    let mut editor = editor_over(alloc, &[], &[]);
+/// Whether a script puts the file in at the path of a thousand names.
+fn is_put_deep(alloc: Global, editor: &mut Editor<Failing>) -> bool {
     let front = b"upsert blob 0101010101010101010101010101010101010101 d";
-    let script = thousand_names(alloc, front, b"/d")?;
-    let _ = replies_to(
-        alloc,
-        &mut editor,
-        str::from_utf8(script.as_slice()).unwrap_or(""),
-    )?;
-    let path = thousand_names(alloc, b"d", b" d")?;
-    let found = entry_at(alloc, &editor, &path)?;
-    assert!(rt; is_got(found, Got::Entry(EntryKind::Blob, FILE)));
-    Ok(())
-}
-
-/// The number of the refusal of a cursor at this path, or 0.
-fn cursor_made(alloc: Global, editor: &mut Editor<Failing>, path: &[u8]) -> Result<u8, AllocError> {
-    let path = path_of(alloc, path)?;
-    match editor.cursor_at(&path) {
-        Ok(_) => Ok(0),
-        Err(refusal) => Ok(number_of(&refusal)),
+    match thousand_names(alloc, front, b"/d") {
+        Ok(script) => is_run(alloc, editor, script.as_slice()),
+        Err(_) => false,
     }
 }
 
-/// An editor whose root has the directory `a` alone, by an id that the store doesn't have.
-fn over_an_unknown_tree(alloc: Global) -> Result<Editor<Failing>, Fail> {
-    let mut editor = editor_over(alloc, &[], &[]);
-    let script = "upsert tree 0303030303030303030303030303030303030303 a";
-    let _ = replies_to(alloc, &mut editor, script)?;
-    Ok(editor)
+/// Whether the file is got at this path.
+fn is_got_deep(alloc: Global, editor: &Editor<Failing>) -> bool {
+    match thousand_names(alloc, b"d", b" d") {
+        Ok(path) => gets(
+            alloc,
+            editor,
+            path.as_slice(),
+            Got::Entry(EntryKind::Blob, FILE),
+        ),
+        Err(_) => false,
+    }
 }
 
-/// The number of the refusal of a file at this path, or 0.
-fn put(alloc: Global, editor: &mut Editor<Failing>, path: &[u8]) -> Result<u8, AllocError> {
-    let path = path_of(alloc, path)?;
-    Ok(number(&editor.try_upsert(&path, EntryKind::Blob, FILE)))
+#[test]
+fn a_path_of_a_thousand_names(rt: HostRuntime) {
+    let mut editor = editor_over(rt.alloc(), &[], &[]);
+    assert!(rt; is_put_deep(rt.alloc(), &mut editor));
+    assert!(rt; is_got_deep(rt.alloc(), &editor));
 }
+
+/// The number of the refusal of a cursor at this path, or 0.
+fn cursor_made(alloc: Global, editor: &mut Editor<Failing>, path: &[u8]) -> Option<u8> {
+    match path_of(alloc, path) {
+        Ok(path) => Some(number(&editor.cursor_at(&path))),
+        Err(_) => None,
+    }
+}
+
+/// The root gets the directory `a` alone, by an id that the store doesn't have.
+const UNKNOWN_TREE: &[u8] = b"upsert tree 0303030303030303030303030303030303030303 a";
 
 /// The names `a` and `b/c`.
 const WITH_A_SLASH: &[u8] = b"a b/c";
 
 #[test]
-fn names_with_a_slash(rt: HostRuntime) -> Result<(), Fail> {
+fn names_with_a_slash(rt: HostRuntime) {
     let alloc = rt.alloc();
-    let mut editor = over_an_unknown_tree(alloc)?;
-    assert!(rt; put(alloc, &mut editor, b"a/b")? == 2);
-    assert!(rt; put(alloc, &mut editor, WITH_A_SLASH)? == 2);
-    assert!(rt; cursor_made(alloc, &mut editor, WITH_A_SLASH)? == 2);
-    assert!(rt; editor.lookups() == 0 && editor.store_mut().lookups() == 0);
-    Ok(())
+    let mut editor = editor_over(alloc, &[], &[]);
+    assert!(rt; is_run(alloc, &mut editor, UNKNOWN_TREE));
+    assert!(rt; upserted(alloc, &mut editor, b"a/b") == 2);
+    assert!(rt; upserted(alloc, &mut editor, WITH_A_SLASH) == 2);
+    assert!(rt; cursor_made(alloc, &mut editor, WITH_A_SLASH) == Some(2));
+    assert!(rt; has_asked(&mut editor, 0));
+}
+
+/// Whether a cursor is refused the removal of the file `b/c`.
+fn is_refused_removal(alloc: Global, cursor: &mut Cursor<'_, Memory>) -> bool {
+    match path_of(alloc, b"b/c") {
+        Ok(path) => number(&cursor.try_remove_leaf(&path)) == 2,
+        Err(_) => false,
+    }
 }
 
 /// Whether a cursor at the directory `a` puts the file `b` in, and is refused the file `c/d` and the removal of `b/c`.
-fn is_refused_slashes(alloc: Global, editor: &mut Editor<Memory>) -> Result<bool, Fail> {
-    let (directory, leaf) = (path_of(alloc, b"a")?, path_of(alloc, b"b/c")?);
-    let mut cursor = editor.cursor_at(&directory)?;
-    let first = upserted_by(alloc, &mut cursor, b"b")?;
-    let second = upserted_by(alloc, &mut cursor, b"c/d")?;
-    let third = number(&cursor.try_remove_leaf(&leaf));
-    Ok(first == 0 && second == 2 && third == 2)
+fn is_refused_slashes(alloc: Global, editor: &mut Editor<Memory>) -> bool {
+    match cursor_of(alloc, editor, b"a") {
+        Some(mut cursor) => {
+            upserted_by(alloc, &mut cursor, b"b") == 0
+                && upserted_by(alloc, &mut cursor, b"c/d") == 2
+                && is_refused_removal(alloc, &mut cursor)
+        }
+        None => false,
+    }
 }
 
 /// The tree of the file `b` that `git mktree --missing` answers, and the root with this tree at `a`.
@@ -281,10 +307,8 @@ const BELOW_AND_ROOT: &[&[u8]] = &[
 ];
 
 #[test]
-fn names_with_a_slash_from_a_cursor(rt: HostRuntime) -> Result<(), Fail> {
-    let alloc = rt.alloc();
-    let mut editor = empty_editor(alloc);
-    assert!(rt; is_refused_slashes(alloc, &mut editor)?);
-    assert!(rt; writes(alloc, &mut editor, BELOW_AND_ROOT));
-    Ok(())
+fn names_with_a_slash_from_a_cursor(rt: HostRuntime) {
+    let mut editor = empty_editor(rt.alloc());
+    assert!(rt; is_refused_slashes(rt.alloc(), &mut editor));
+    assert!(rt; writes(rt.alloc(), &mut editor, BELOW_AND_ROOT));
 }

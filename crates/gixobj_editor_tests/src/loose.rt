@@ -1,14 +1,9 @@
 //! Loose objects, shown and listed by the program. What these tests share: the objects of the folder
-//! examples/, as `git` wrote them, and runs over memory.
+//! examples/, as `git` wrote them.
 
 mod listed;
 mod runs;
 mod shown;
-
-use crate::streams::words_in;
-use gixobj_script::engine::engine;
-use std::alloc::{AllocError, Global};
-use std::io::{Read, Write};
 
 /// The content of `hello.txt`.
 pub(crate) const HELLO: &[u8] = b"blob 6\x00hello\n";
@@ -43,37 +38,3 @@ pub(crate) const TAG_SHA256: &[u8] =
 /// A tree of one entry.
 pub(crate) const ONE_ENTRY: &[u8] =
     b"tree 36\x00100644 test.txt\x00\x83\xba\xaea\x80Ne\xccs\xa7 \x1arRu\x0cv\x06j0";
-
-/// What the program answers of an input: the status, and what it writes on its two outputs.
-pub(crate) fn answer_of(
-    alloc: Global,
-    line: &str,
-    input: &[u8],
-) -> Result<(u8, Vec<u8>, Vec<u8>), AllocError> {
-    let mut rest = input;
-    answer_from(alloc, line, &mut rest)
-}
-
-/// The same of what a reader gives.
-pub(crate) fn answer_from<R: Read>(
-    alloc: Global,
-    line: &str,
-    reader: &mut R,
-) -> Result<(u8, Vec<u8>, Vec<u8>), AllocError> {
-    let mut answered = Vec::new(alloc);
-    let mut refused = Vec::new(alloc);
-    let status = status_of(alloc, line, reader, &mut answered, &mut refused)?;
-    Ok((status, answered, refused))
-}
-
-/// The status of a run of the program, by the words of a line.
-pub(crate) fn status_of<R: Read, O: Write, E: Write>(
-    alloc: Global,
-    line: &str,
-    input: &mut R,
-    output: &mut O,
-    errors: &mut E,
-) -> Result<u8, AllocError> {
-    let words = words_in(alloc, line)?;
-    Ok(engine(alloc, words.as_slice(), input, output, errors))
-}

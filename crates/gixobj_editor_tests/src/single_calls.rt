@@ -1,41 +1,44 @@
 //! Single calls: the prefix of a cursor whose store was used; and how a name with a slash is told.
 
-use crate::samples::{FILE, empty_editor, path_of};
-use bstr::BString;
+use crate::samples::{FILE, cursor_of, empty_editor, path_of, tells_replies, upserted_by};
 use gixobj_base::encode;
-use gixobj_base::tree::EntryKind;
 use gixobj_editor::editor::{Editor, Error};
 use gixobj_editor::{EditReply, Reply};
 use gixobj_find::Memory;
-use gixobj_script::told_lines;
-use std::test::Fail;
+use std::alloc::Global;
 
-/// Puts a file in by a cursor at a directory, whose store is used before.
-fn put_behind_a_use(
-    editor: &mut Editor<Memory>,
-    directory: &[BString],
-    file: &[BString],
-) -> Result<(), Error> {
-    let mut cursor = editor.cursor_at(directory)?;
-    let _ = cursor.store_mut();
-    cursor.try_upsert(file, EntryKind::Blob, FILE)
+/// Whether the file `b` is put in by a cursor at the directory `a`, whose store is used before.
+fn is_put_behind_a_use(alloc: Global, editor: &mut Editor<Memory>) -> bool {
+    match cursor_of(alloc, editor, b"a") {
+        Some(mut cursor) => {
+            let _ = cursor.store_mut();
+            upserted_by(alloc, &mut cursor, b"b") == 0
+        }
+        None => false,
+    }
+}
+
+/// Whether the file is got at `a/b`.
+fn is_got(alloc: Global, editor: &Editor<Memory>) -> bool {
+    let Ok(file) = path_of(alloc, b"a b") else {
+        return false;
+    };
+    match editor.get(&file) {
+        Ok(Some(entry)) => entry.oid == FILE,
+        _ => false,
+    }
 }
 
 #[test]
-fn the_prefix_stays(rt: HostRuntime) -> Result<(), Fail> {
-    let alloc = rt.alloc();
-    let mut editor = empty_editor(alloc);
-    put_behind_a_use(&mut editor, &path_of(alloc, b"a")?, &path_of(alloc, b"b")?)?;
-    let file = path_of(alloc, b"a b")?;
-    assert!(rt; editor.get(&file)?.is_some_and(|entry| entry.oid == FILE));
-    Ok(())
+fn the_prefix_stays(rt: HostRuntime) {
+    let mut editor = empty_editor(rt.alloc());
+    assert!(rt; is_put_behind_a_use(rt.alloc(), &mut editor));
+    assert!(rt; is_got(rt.alloc(), &editor));
 }
 
 #[test]
-fn told_of_a_slash(rt: HostRuntime) -> Result<(), Fail> {
-    let alloc = rt.alloc();
+fn told_of_a_slash(rt: HostRuntime) {
     let slash: EditReply<encode::Error> = EditReply::Refused(Error::SlashInPathComponent);
-    let lines = told_lines(alloc, &[Reply::Edit(slash)], 0)?;
-    assert!(rt; lines.as_slice() == b"refused 2\nlookups 0\n".as_slice());
-    Ok(())
+    let replies = [Reply::Edit(slash)];
+    assert!(rt; tells_replies(rt.alloc(), &replies, 0, "refused 2\nlookups 0\n"));
 }

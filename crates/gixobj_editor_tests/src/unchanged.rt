@@ -1,15 +1,21 @@
 //! Writes over directories that are as they were when they were opened: these keep the ids of their entries and aren't
 //! handed out. Ids are those that `git mktree --missing` answers.
 
-use crate::samples::{FILE, editor_of, is_run, path_of, stored_file, tree_of, upserted, went_out};
-use bstr::BString;
+use crate::samples::{
+    FILE, cursor_of, is_run, over_a_directory, push_entry, stored_file, tree_of, upserted,
+    went_out, written_by,
+};
 use gixobj_base::Tree;
 use gixobj_base::hash::{Kind as HashKind, ObjectId};
-use gixobj_base::tree::{Entry, EntryKind};
-use gixobj_editor::editor::{Editor, Written};
+use gixobj_base::tree::EntryKind;
+use gixobj_editor::editor::{Cursor, Editor, Written};
 use gixobj_find::{Keep, Memory};
-use std::alloc::Global;
-use std::test::Fail;
+use std::alloc::{AllocError, Global};
+
+/// Whether trees of these ids went out, and so many directories are counted that didn't.
+fn is_saved(alloc: Global, written: &Written, saved: usize, ids: &[&[u8]]) -> bool {
+    written.saved == saved && went_out(alloc, written, ids)
+}
 
 /// Whether a write hands out trees of these ids, asks for no other, and counts so many directories that it doesn't hand out.
 pub(crate) fn saves<S>(alloc: Global, editor: &mut Editor<S>, saved: usize, ids: &[&[u8]]) -> bool {
@@ -19,7 +25,7 @@ pub(crate) fn saves<S>(alloc: Global, editor: &mut Editor<S>, saved: usize, ids:
         tree.compute_id(alloc, HashKind::Sha1)
     };
     let is_told = match editor.write(out) {
-        Ok(written) => written.saved == saved && went_out(alloc, &written, ids),
+        Ok(written) => is_saved(alloc, &written, saved, ids),
         Err(_) => false,
     };
     is_told && calls == ids.len()
@@ -160,41 +166,50 @@ fn rows() -> &'static [Row] {
     ROWS
 }
 
-/// Whether a write by a cursor at the directory `a` hands out trees of these ids, and counts so many unchanged directories.
-fn saves_by_a_cursor(
-    alloc: Global,
-    editor: &mut Editor<Memory>,
-    wanted: &Saved,
-) -> Result<bool, Fail> {
-    let directory = path_of(alloc, b"a")?;
-    let mut cursor = editor.cursor_at(&directory)?;
-    match cursor.write(|tree: &Tree| tree.compute_id(alloc, HashKind::Sha1)) {
-        Ok(written) => Ok(written.saved == wanted.saved && went_out(alloc, &written, wanted.ids)),
-        Err(_) => Ok(false),
+/// Whether a write by a cursor hands out trees of these ids, and counts so many unchanged directories.
+fn saves_by(alloc: Global, cursor: &mut Cursor<'_, Memory>, wanted: &Saved) -> bool {
+    match written_by(alloc, cursor) {
+        Ok(written) => is_saved(alloc, &written, wanted.saved, wanted.ids),
+        Err(_) => false,
     }
+}
+
+/// Whether that is so of a cursor at the directory `a`, where it is told.
+fn saves_at_a(alloc: Global, editor: &mut Editor<Memory>, wanted: &Option<Saved>) -> bool {
+    let Some(wanted) = wanted else {
+        return true;
+    };
+    match cursor_of(alloc, editor, b"a") {
+        Some(mut cursor) => saves_by(alloc, &mut cursor, wanted),
+        None => false,
+    }
+}
+
+/// Whether the script of a row is run on its editor, and the writes behind it are as it says.
+fn are_written_of(alloc: Global, editor: &mut Editor<Memory>, row: &Row) -> bool {
+    is_run(alloc, editor, row.script.as_bytes())
+        && saves_at_a(alloc, editor, &row.by_a_cursor)
+        && saves(
+            alloc,
+            editor,
+            row.by_the_editor.saved,
+            row.by_the_editor.ids,
+        )
 }
 
 /// Whether the writes behind the script of a row are as it says.
-fn are_written(alloc: Global, row: &Row) -> Result<bool, Fail> {
-    let mut editor = stored_file(alloc, row.stored)?;
-    if !is_run(alloc, &mut editor, row.script) {
-        return Ok(false);
+fn are_written(alloc: Global, row: &Row) -> bool {
+    match stored_file(alloc, row.stored) {
+        Some(mut editor) => are_written_of(alloc, &mut editor, row),
+        None => false,
     }
-    if let Some(wanted) = &row.by_a_cursor {
-        if !saves_by_a_cursor(alloc, &mut editor, wanted)? {
-            return Ok(false);
-        }
-    }
-    let wanted = &row.by_the_editor;
-    Ok(saves(alloc, &mut editor, wanted.saved, wanted.ids))
 }
 
 #[test]
-fn writes_and_what_they_save(rt: HostRuntime) -> Result<(), Fail> {
+fn writes_and_what_they_save(rt: HostRuntime) {
     for row in rows() {
-        assert!(rt; are_written(rt.alloc(), row)?, "{}", row.name);
+        assert!(rt; are_written(rt.alloc(), row), "{}", row.name);
     }
-    Ok(())
 }
 
 /// Whether a tree of two files went out by the id of the file `c` alone, and then the root as it was.
@@ -228,37 +243,59 @@ fn writes_by_an_old_id(alloc: Global, editor: &mut Editor<Memory>) -> bool {
     }
 }
 
+/// Whether the file `a/b/d` is put beside the stored file `c`, and a write is so behind it.
+fn is_put_and_written(alloc: Global) -> bool {
+    match stored_file(alloc, &[b"a", b"b", b"c"]) {
+        Some(mut editor) => {
+            upserted(alloc, &mut editor, b"a b d") == 0 && writes_by_an_old_id(alloc, &mut editor)
+        }
+        None => false,
+    }
+}
+
 /// A changed directory that gets the id that its entry had, in one that is unchanged by that.
 #[test]
-fn a_changed_directory_in_an_unchanged_one(rt: HostRuntime) -> Result<(), Fail> {
-    let alloc = rt.alloc();
-    let mut editor = stored_file(alloc, &[b"a", b"b", b"c"])?;
-    assert!(rt; upserted(alloc, &mut editor, b"a b d", FILE)? == 0);
-    assert!(rt; writes_by_an_old_id(alloc, &mut editor));
-    Ok(())
+fn a_changed_directory_in_an_unchanged_one(rt: HostRuntime) {
+    assert!(rt; is_put_and_written(rt.alloc()));
 }
 
 /// An id that isn't the digest of what a store has by it.
 const NO_DIGEST: ObjectId = ObjectId::Sha1([5; 20]);
 
-/// An editor whose root has the directory `a` alone, by that id, of the file `b` and an entry `n` of the other id, if any.
-fn over_no_digest(alloc: Global, other: Option<ObjectId>) -> Result<Editor<Memory>, Fail> {
+/// A tree of the file `b` and an entry `n` of the other id, if any.
+fn b_and_another(alloc: Global, other: Option<ObjectId>) -> Result<Tree, AllocError> {
     let mut tree = tree_of(alloc, EntryKind::Blob, b"b", FILE)?;
     if let Some(oid) = other {
-        tree.entries.push(Entry {
-            mode: EntryKind::Blob.into(),
-            filename: BString::from_slice(alloc, b"n")?,
-            oid,
-        })?;
+        push_entry(alloc, &mut tree, EntryKind::Blob, b"n", oid)?;
     }
-    let mut store = Memory::new(alloc);
-    store.keep(NO_DIGEST, &tree)?;
-    Ok(editor_of(tree_of(alloc, EntryKind::Tree, b"a", NO_DIGEST)?, store)?)
+    Ok(tree)
 }
 
-/// Whether a write is so behind the file `a/b`, which is there already.
-fn saves_the_same(alloc: Global, editor: &mut Editor<Memory>, saved: usize, ids: &[&[u8]]) -> bool {
-    upserted(alloc, editor, b"a b", FILE) == Ok(0) && saves(alloc, editor, saved, ids)
+/// Whether a store keeps this tree by that id.
+fn is_kept(alloc: Global, store: &mut Memory, other: Option<ObjectId>) -> bool {
+    match b_and_another(alloc, other) {
+        Ok(tree) => store.keep(NO_DIGEST, &tree).is_ok(),
+        Err(_) => false,
+    }
+}
+
+/// An editor whose root has the directory `a` alone, by that id, of the file `b` and an entry `n` of the other id, if any.
+fn over_no_digest(alloc: Global, other: Option<ObjectId>) -> Option<Editor<Memory>> {
+    let mut store = Memory::new(alloc);
+    if !is_kept(alloc, &mut store, other) {
+        return None;
+    }
+    over_a_directory(alloc, b"a", NO_DIGEST, store)
+}
+
+/// Whether a write on it is so behind the file `a/b`, which is there already.
+fn saves_the_same(alloc: Global, other: Option<ObjectId>, saved: usize, ids: &[&[u8]]) -> bool {
+    match over_no_digest(alloc, other) {
+        Some(mut editor) => {
+            upserted(alloc, &mut editor, b"a b") == 0 && saves(alloc, &mut editor, saved, ids)
+        }
+        None => false,
+    }
 }
 
 /// The root that has the directory by that id, and what goes out where its tree is another one.
@@ -271,11 +308,8 @@ const BY_DIGESTS: &[&[u8]] = &[
 
 /// The tree is compared, not its id; and an entry of the null id is never written, so a tree with one is another.
 #[test]
-fn a_tree_by_another_id_than_its_digest(rt: HostRuntime) -> Result<(), Fail> {
-    let alloc = rt.alloc();
-    let mut editor = over_no_digest(alloc, None)?;
-    assert!(rt; saves_the_same(alloc, &mut editor, 1, &[BY_NO_DIGEST]));
-    let mut editor = over_no_digest(alloc, Some(ObjectId::null(HashKind::Sha1)))?;
-    assert!(rt; saves_the_same(alloc, &mut editor, 0, BY_DIGESTS));
-    Ok(())
+fn a_tree_by_another_id_than_its_digest(rt: HostRuntime) {
+    let null = ObjectId::null(HashKind::Sha1);
+    assert!(rt; saves_the_same(rt.alloc(), None, 1, &[BY_NO_DIGEST]));
+    assert!(rt; saves_the_same(rt.alloc(), Some(null), 0, BY_DIGESTS));
 }

@@ -1,15 +1,15 @@
 //! What a write hands out where it was refused before, and where a tree gets the null id; and a copy of an editor. Ids are
 //! those that `git mktree --missing` answers.
 
-use crate::samples::{FILE, empty_editor, path_of, text_of, tree_of, upserted, went_out};
+use crate::samples::{
+    cursor_of, empty_editor, over_a_directory, path_of, stored_b, upserted, went_out,
+};
 use crate::unchanged::saves;
+use gixobj_base::Tree;
 use gixobj_base::hash::{Kind as HashKind, ObjectId};
-use gixobj_base::tree::EntryKind;
-use gixobj_base::{Kind, Tree};
-use gixobj_editor::editor::{Editor, Error, WriteError};
+use gixobj_editor::editor::{Editor, WriteError, Written};
 use gixobj_find::Memory;
 use std::alloc::Global;
-use std::test::Fail;
 
 /// Whether a write stops at its second tree, with the refusal of the closure.
 pub(crate) fn stops_at_the_second(alloc: Global, editor: &mut Editor<Memory>) -> bool {
@@ -48,60 +48,71 @@ fn all_three() -> &'static [&'static [u8]] {
 }
 
 #[test]
-fn failed_out(rt: HostRuntime) -> Result<(), Fail> {
+fn failed_out(rt: HostRuntime) {
     let alloc = rt.alloc();
     let mut editor = empty_editor(alloc);
-    assert!(rt; upserted(alloc, &mut editor, b"a x", FILE)? == 0);
-    assert!(rt; upserted(alloc, &mut editor, b"b y", FILE)? == 0);
+    assert!(rt; upserted(alloc, &mut editor, b"a x") == 0);
+    assert!(rt; upserted(alloc, &mut editor, b"b y") == 0);
     assert!(rt; stops_at_the_second(alloc, &mut editor));
     assert!(rt; writes_by_a_borrowed(alloc, &mut editor, all_three()));
-    Ok(())
+}
+
+/// Whether the second tree that went out is empty, and there are two.
+fn is_second_empty(written: &Written) -> bool {
+    match written.trees.as_slice() {
+        [_, (_, root)] => root.entries.is_empty(),
+        _ => false,
+    }
 }
 
 /// Whether a write hands out two trees, the second of them empty, where each gets the null id.
 fn leaves_a_directory_out(editor: &mut Editor<Memory>) -> bool {
     let out = |_: &Tree| Ok::<ObjectId, u8>(ObjectId::null(HashKind::Sha1));
     match editor.write(out) {
-        Ok(written) => match written.trees.as_slice() {
-            [_, (_, root)] => root.entries.is_empty(),
-            _ => false,
-        },
+        Ok(written) => is_second_empty(&written),
         Err(_) => false,
     }
 }
 
 #[test]
-fn a_null_answer_leaves_a_directory_out(rt: HostRuntime) -> Result<(), Fail> {
-    let alloc = rt.alloc();
-    let mut editor = empty_editor(alloc);
-    assert!(rt; upserted(alloc, &mut editor, b"a b", FILE)? == 0);
+fn a_null_answer_leaves_a_directory_out(rt: HostRuntime) {
+    let mut editor = empty_editor(rt.alloc());
+    assert!(rt; upserted(rt.alloc(), &mut editor, b"a b") == 0);
     assert!(rt; leaves_a_directory_out(&mut editor));
-    Ok(())
+}
+
+/// Whether the store of an editor is this number, and that of a copy the other, which it gets.
+fn stays_behind_a_copy(editor: &mut Editor<u8>) -> bool {
+    match editor.clone() {
+        Ok(mut copied) => {
+            *copied.store_mut() = 2;
+            *editor.store_mut() == 1 && *copied.store_mut() == 2
+        }
+        Err(_) => false,
+    }
 }
 
 #[test]
-fn a_copy_goes_its_own_way(rt: HostRuntime) -> Result<(), Fail> {
-    let alloc = rt.alloc();
-    let mut editor = Editor::new(Tree::empty(alloc), 1u8, HashKind::Sha1);
-    let mut copied = editor.clone()?;
-    *copied.store_mut() = 2;
-    assert!(rt; *editor.store_mut() == 1 && *copied.store_mut() == 2);
-    Ok(())
+fn a_copy_goes_its_own_way(rt: HostRuntime) {
+    let mut editor = Editor::new(Tree::empty(rt.alloc()), 1u8, HashKind::Sha1);
+    assert!(rt; stays_behind_a_copy(&mut editor));
+}
+
+/// Whether the file `a/c` is taken out.
+fn is_taken_out(alloc: Global, editor: &mut Editor<&Memory>) -> bool {
+    match path_of(alloc, b"a c") {
+        Ok(path) => editor.try_remove(&path).is_ok(),
+        Err(_) => false,
+    }
 }
 
 /// Opens the stored directory `a` of the file `b` and leaves it as it is, makes the directory `d` of the file `e`, and
-/// goes to `a` by a cursor.
-fn edit_in_directories(alloc: Global, editor: &mut Editor<&Memory>) -> Result<(), Error> {
-    let (a, c, e) = (
-        path_of(alloc, b"a")?,
-        path_of(alloc, b"a c")?,
-        path_of(alloc, b"d e")?,
-    );
-    editor.try_upsert(&c, EntryKind::Blob, FILE)?;
-    editor.try_remove(&c)?;
-    editor.try_upsert(&e, EntryKind::Blob, FILE)?;
-    let _ = editor.cursor_at(&a)?;
-    Ok(())
+/// goes to `a` by a cursor. Whether all that is done.
+fn edit_in_directories(alloc: Global, editor: &mut Editor<&Memory>) -> bool {
+    upserted(alloc, editor, b"a c") == 0
+        && is_taken_out(alloc, editor)
+        && upserted(alloc, editor, b"d e") == 0
+        && cursor_of(alloc, editor, b"a").is_some()
 }
 
 /// The tree of the file `e`, and the root with the files `a/b` and `d/e`.
@@ -110,20 +121,40 @@ const OF_BOTH_DIRECTORIES: &[&[u8]] = &[
     b"5c622c7b15c7f2057a2b6842e32d963f07e3d235",
 ];
 
+/// Whether a copy and then the editor save the directory `a`, and both count one lookup.
+fn save_in_both(alloc: Global, editor: &mut Editor<&Memory>) -> bool {
+    match editor.clone() {
+        Ok(mut copied) => {
+            saves(alloc, &mut copied, 1, OF_BOTH_DIRECTORIES)
+                && saves(alloc, editor, 1, OF_BOTH_DIRECTORIES)
+                && copied.lookups() == 1
+                && editor.lookups() == 1
+        }
+        Err(_) => false,
+    }
+}
+
+/// Whether that is so where these directories are edited in an editor of the stored directory `a`.
+fn copies_directories(alloc: Global, store: &Memory, id: ObjectId) -> bool {
+    match over_a_directory(alloc, b"a", id, store) {
+        Some(mut editor) => {
+            edit_in_directories(alloc, &mut editor) && save_in_both(alloc, &mut editor)
+        }
+        None => false,
+    }
+}
+
+/// Whether that is so over a store of the directory of the file `b`.
+fn copies_stored_directories(alloc: Global) -> bool {
+    let mut store = Memory::new(alloc);
+    match stored_b(alloc, &mut store) {
+        Some(id) => copies_directories(alloc, &store, id),
+        None => false,
+    }
+}
+
 /// A copy has the open directories, each with what it was opened with.
 #[test]
-fn a_copy_of_open_directories(rt: HostRuntime) -> Result<(), Fail> {
-    let alloc = rt.alloc();
-    let mut store = Memory::new(alloc);
-    let text = text_of(alloc, &tree_of(alloc, EntryKind::Blob, b"b", FILE)?)?;
-    let id = store.insert(Kind::Tree, HashKind::Sha1, &text)?;
-    let root = tree_of(alloc, EntryKind::Tree, b"a", id)?;
-    assert!(rt; root.is_well_formed());
-    let mut editor = Editor::new(root, &store, HashKind::Sha1);
-    edit_in_directories(alloc, &mut editor)?;
-    let mut copied = editor.clone()?;
-    assert!(rt; saves(alloc, &mut copied, 1, OF_BOTH_DIRECTORIES));
-    assert!(rt; saves(alloc, &mut editor, 1, OF_BOTH_DIRECTORIES));
-    assert!(rt; copied.lookups() == 1 && editor.lookups() == 1);
-    Ok(())
+fn a_copy_of_open_directories(rt: HostRuntime) {
+    assert!(rt; copies_stored_directories(rt.alloc()));
 }

@@ -1,12 +1,12 @@
 //! Whole runs of the program, over readers and writers of memory that may fail.
 
-use super::{ONE_ENTRY, answer_from, answer_of, status_of};
-use crate::streams::words_in;
+use super::ONE_ENTRY;
+use crate::streams::{Told, answers, answers_reader, fails_at_reader, status_of, words_in};
 use gixobj_base_tests::limited::{Limited, Stepping};
 use gixobj_show::engine::run;
+use std::alloc::{AllocError, Global};
 use std::io;
 use std::io::{ErrorKind, Read, Write};
-use std::test::Fail;
 
 const USAGE: &str = "usage: gixobj show|tree|edit [sha256]\n";
 
@@ -91,16 +91,30 @@ const SHOWN: &[(&str, &[u8], u8, &str, &str)] = &[
     ("show sha256 sha256", b"blob 6\0hello\n", 2, "", USAGE),
 ];
 
+/// These words and inputs.
+fn shown() -> &'static [(&'static str, &'static [u8], u8, &'static str, &'static str)] {
+    SHOWN
+}
+
+/// Whether the program answers this to an input.
+fn shows(alloc: Global, line: &str, input: &[u8], status: u8, texts: (&str, &str)) -> bool {
+    let (output, errors) = texts;
+    let told = Told {
+        status,
+        output: output.as_bytes(),
+        errors: errors.as_bytes(),
+    };
+    answers(alloc, line, input, told)
+}
+
 #[test]
-fn show_objects_and_faults(rt: HostRuntime) -> Result<(), Fail> {
-    let alloc = rt.alloc();
-    for &(line, input, status, output, errors) in SHOWN {
-        let got = answer_of(alloc, line, input)?;
-        assert_eq!(rt; got.0, status, "{line} {input:?}");
-        assert_eq!(rt; got.1.as_slice(), output.as_bytes(), "{line} {input:?}");
-        assert_eq!(rt; got.2.as_slice(), errors.as_bytes(), "{line} {input:?}");
+fn show_objects_and_faults(rt: HostRuntime) {
+    for &(line, input, status, output, errors) in shown() {
+        assert!(rt;
+            shows(rt.alloc(), line, input, status, (output, errors)),
+            "{line} {input:?}"
+        );
     }
-    Ok(())
 }
 
 /// Inputs of each command, and what is written of each on standard output and on standard error.
@@ -121,56 +135,97 @@ const READ: &[(&str, &[u8], &str, &str)] = &[
     ("tree", b"tree 6\0hello\n", "", "gixobj: bad tree\n"),
 ];
 
-#[test]
-fn readers_in_steps(rt: HostRuntime) -> Result<(), Fail> {
-    let alloc = rt.alloc();
-    for &(line, object, output, errors) in READ {
-        for step in [1, 5, 4096] {
-            let mut reader = Stepping {
-                rest: object,
-                step,
-                fails: false,
-            };
-            let got = answer_from(alloc, line, &mut reader)?;
-            assert_eq!(rt; got.1.as_slice(), output.as_bytes(), "{line} {object:?}");
-            assert_eq!(rt; got.2.as_slice(), errors.as_bytes(), "{line} {object:?}");
-        }
+/// These inputs.
+fn read() -> &'static [(&'static str, &'static [u8], &'static str, &'static str)] {
+    READ
+}
+
+/// What a run comes to that tells these texts: it fails where there is something on standard error.
+fn told_by<'a>(texts: (&'a str, &'a str)) -> Told<'a> {
+    let (output, errors) = texts;
+    Told {
+        status: u8::from(!errors.is_empty()),
+        output: output.as_bytes(),
+        errors: errors.as_bytes(),
     }
-    Ok(())
+}
+
+/// Whether the program writes this of an object that is read in steps of so many bytes.
+fn writes_in_steps(
+    alloc: Global,
+    line: &str,
+    object: &[u8],
+    step: usize,
+    texts: (&str, &str),
+) -> bool {
+    let mut reader = Stepping {
+        rest: object,
+        step,
+        fails: false,
+    };
+    answers_reader(alloc, line, &mut reader, told_by(texts))
 }
 
 #[test]
-fn readers_that_fail(rt: HostRuntime) -> Result<(), Fail> {
+fn readers_in_steps(rt: HostRuntime) {
     let alloc = rt.alloc();
-    for &(line, object, _, _) in READ {
-        for step in [1, 5, 4096] {
-            let mut reader = Stepping {
-                rest: object,
-                step,
-                fails: true,
-            };
-            let got = answer_from(alloc, line, &mut reader)?;
-            assert_eq!(rt; got.0, 1, "{line} {object:?}");
-            assert!(rt; got.1.is_empty(), "{line} {object:?}");
-            assert_eq!(rt; got.2.as_slice(), b"gixobj: input failed\n".as_slice());
-        }
+    for &(line, object, output, errors) in read() {
+        let texts = (output, errors);
+        assert!(rt;
+            writes_in_steps(alloc, line, object, 1, texts),
+            "{line} {object:?}"
+        );
+        assert!(rt;
+            writes_in_steps(alloc, line, object, 5, texts),
+            "{line} {object:?}"
+        );
+        assert!(rt;
+            writes_in_steps(alloc, line, object, 4096, texts),
+            "{line} {object:?}"
+        );
     }
-    Ok(())
+}
+
+/// Whether the program fails where an object is read in steps of so many bytes and the reader fails behind it.
+fn fails_in_steps(alloc: Global, line: &str, object: &[u8], step: usize) -> bool {
+    let mut reader = Stepping {
+        rest: object,
+        step,
+        fails: true,
+    };
+    fails_at_reader(alloc, line, &mut reader, b"gixobj: input failed\n")
 }
 
 #[test]
-fn interrupted_readers(rt: HostRuntime) -> Result<(), Fail> {
+fn readers_that_fail(rt: HostRuntime) {
     let alloc = rt.alloc();
-    for &(line, object, output, errors) in READ {
-        let mut reader = Interrupted {
-            rest: object,
-            is_next: false,
-        };
-        let got = answer_from(alloc, line, &mut reader)?;
-        assert_eq!(rt; got.1.as_slice(), output.as_bytes(), "{line} {object:?}");
-        assert_eq!(rt; got.2.as_slice(), errors.as_bytes(), "{line} {object:?}");
+    for &(line, object, _, _) in read() {
+        assert!(rt; fails_in_steps(alloc, line, object, 1), "{line} {object:?}");
+        assert!(rt; fails_in_steps(alloc, line, object, 5), "{line} {object:?}");
+        assert!(rt;
+            fails_in_steps(alloc, line, object, 4096),
+            "{line} {object:?}"
+        );
     }
-    Ok(())
+}
+
+/// Whether the program writes this of an object whose reader is interrupted before each byte.
+fn writes_interrupted(alloc: Global, line: &str, object: &[u8], texts: (&str, &str)) -> bool {
+    let mut reader = Interrupted {
+        rest: object,
+        is_next: false,
+    };
+    answers_reader(alloc, line, &mut reader, told_by(texts))
+}
+
+#[test]
+fn interrupted_readers(rt: HostRuntime) {
+    for &(line, object, output, errors) in read() {
+        assert!(rt;
+            writes_interrupted(rt.alloc(), line, object, (output, errors)),
+            "{line} {object:?}"
+        );
+    }
 }
 
 /// Words, inputs, and what comes of each where nothing can be written: the status, and what is told on standard error.
@@ -183,84 +238,101 @@ const UNWRITTEN: &[(&str, &[u8], u8, &str)] = &[
     ("", b"", 2, USAGE),
 ];
 
-#[test]
-fn writers_that_fail(rt: HostRuntime) -> Result<(), Fail> {
-    let alloc = rt.alloc();
-    for &(line, object, status, errors) in UNWRITTEN {
-        let mut refused = Vec::new(alloc);
-        let mut rest = object;
-        let got = status_of(alloc, line, &mut rest, &mut Full, &mut refused)?;
-        assert_eq!(rt; got, status, "{line} {object:?}");
-        assert_eq!(rt; refused.as_slice(), errors.as_bytes(), "{line} {object:?}");
-        let mut rest = object;
-        let got = status_of(alloc, line, &mut rest, &mut Full, &mut Full)?;
-        assert_eq!(rt; got, status, "{line} {object:?}");
-    }
-    Ok(())
+/// These words and inputs.
+fn unwritten() -> &'static [(&'static str, &'static [u8], u8, &'static str)] {
+    UNWRITTEN
+}
+
+/// Whether the program ends with this status where its answer can't be written, and tells this on standard error.
+fn is_unwritten(alloc: Global, line: &str, mut object: &[u8], status: u8, errors: &str) -> bool {
+    let mut refused = Vec::new(alloc);
+    status_of(alloc, line, &mut object, &mut Full, &mut refused) == Ok(status)
+        && refused.as_slice() == errors.as_bytes()
+}
+
+/// Whether it does where nothing can be told either.
+fn is_untold(alloc: Global, line: &str, mut object: &[u8], status: u8) -> bool {
+    status_of(alloc, line, &mut object, &mut Full, &mut Full) == Ok(status)
 }
 
 #[test]
-fn a_writer_that_fails_in_mid_line(rt: HostRuntime) -> Result<(), Fail> {
+fn writers_that_fail(rt: HostRuntime) {
     let alloc = rt.alloc();
-    let line = b"100644 blob 83baae61804e65cc73a7201a7252750c76066a30 test.txt\n".as_slice();
-    for room in [1, 12, 61] {
-        let mut object = ONE_ENTRY;
-        let mut narrow = Limited {
-            held: Vec::new(alloc),
-            room,
-        };
-        let mut refused = Vec::new(alloc);
-        let status = status_of(alloc, "tree", &mut object, &mut narrow, &mut refused)?;
-        assert_eq!(rt; status, 1);
-        assert!(rt; line.starts_with(narrow.held.as_slice()));
-        assert_eq!(rt; narrow.held.len(), room);
-        assert_eq!(rt; refused.as_slice(), b"gixobj: output failed\n".as_slice());
-    }
-    Ok(())
-}
-
-#[test]
-fn show_alone_does_nothing_else(rt: HostRuntime) -> Result<(), Fail> {
-    let alloc = rt.alloc();
-    for line in ["tree", "tree sha256", "edit", "show sha1", ""] {
-        let words = words_in(alloc, line)?;
-        let mut object = ONE_ENTRY;
-        let mut answered = Vec::new(alloc);
-        let mut refused = Vec::new(alloc);
-        let status = run(
-            alloc,
-            words.as_slice(),
-            &mut object,
-            &mut answered,
-            &mut refused,
+    for &(line, object, status, errors) in unwritten() {
+        assert!(rt;
+            is_unwritten(alloc, line, object, status, errors),
+            "{line} {object:?}"
         );
-        assert_eq!(rt; status, 2, "{line}");
-        assert!(rt; answered.is_empty(), "{line}");
-        assert_eq!(rt; refused.as_slice(), USAGE.as_bytes(), "{line}");
-        assert_eq!(rt; object, ONE_ENTRY, "{line}");
+        assert!(rt; is_untold(alloc, line, object, status), "{line} {object:?}");
     }
-    Ok(())
+}
+
+/// What is listed of a tree of one entry.
+const LINE: &[u8] = b"100644 blob 83baae61804e65cc73a7201a7252750c76066a30 test.txt\n";
+
+/// Whether the program fails in mid-line where there is room for so much, which is written.
+fn fails_in_mid_line(alloc: Global, room: usize) -> bool {
+    let mut object = ONE_ENTRY;
+    let mut narrow = Limited {
+        held: Vec::new(alloc),
+        room,
+    };
+    let mut refused = Vec::new(alloc);
+    let status = status_of(alloc, "tree", &mut object, &mut narrow, &mut refused);
+    status == Ok(1)
+        && LINE.starts_with(narrow.held.as_slice())
+        && narrow.held.len() == room
+        && refused.as_slice() == b"gixobj: output failed\n".as_slice()
 }
 
 #[test]
-fn over_memory(rt: HostRuntime) -> Result<(), Fail> {
-    let alloc = rt.alloc();
-    let words = words_in(alloc, "show")?;
+fn a_writer_that_fails_in_mid_line(rt: HostRuntime) {
+    assert!(rt; fails_in_mid_line(rt.alloc(), 1));
+    assert!(rt; fails_in_mid_line(rt.alloc(), 12));
+    assert!(rt; fails_in_mid_line(rt.alloc(), 61));
+}
+
+/// The status of a run of what only shows, by the words of a line.
+fn shown_alone(
+    alloc: Global,
+    line: &str,
+    input: &mut &[u8],
+    output: &mut Vec<u8>,
+    errors: &mut Vec<u8>,
+) -> Result<u8, AllocError> {
+    let words = words_in(alloc, line)?;
+    Ok(run(alloc, words.as_slice(), input, output, errors))
+}
+
+/// Whether what only shows reads nothing by these words, and tells how it is used.
+fn does_nothing(alloc: Global, line: &str) -> bool {
+    let mut object = ONE_ENTRY;
+    let mut answered = Vec::new(alloc);
+    let mut refused = Vec::new(alloc);
+    shown_alone(alloc, line, &mut object, &mut answered, &mut refused) == Ok(2)
+        && answered.is_empty()
+        && refused.as_slice() == USAGE.as_bytes()
+        && object == ONE_ENTRY
+}
+
+#[test]
+fn show_alone_does_nothing_else(rt: HostRuntime) {
+    for line in ["tree", "tree sha256", "edit", "show sha1", ""] {
+        assert!(rt; does_nothing(rt.alloc(), line), "{line}");
+    }
+}
+
+/// Whether what only shows tells of an object in memory.
+fn is_shown_alone(alloc: Global) -> bool {
     let mut object: &[u8] = b"blob 6\0hello\n";
     let mut answered = Vec::new(alloc);
     let mut refused = Vec::new(alloc);
-    let status = run(
-        alloc,
-        words.as_slice(),
-        &mut object,
-        &mut answered,
-        &mut refused,
-    );
-    assert_eq!(rt; status, 0);
-    assert_eq!(rt;
-        answered.as_slice(),
-        b"blob 6 ce013625030ba8dba906f756967f9e9ca394464a\n".as_slice()
-    );
-    assert!(rt; refused.is_empty());
-    Ok(())
+    shown_alone(alloc, "show", &mut object, &mut answered, &mut refused) == Ok(0)
+        && answered.as_slice() == HELLO.as_bytes()
+        && refused.is_empty()
+}
+
+#[test]
+fn over_memory(rt: HostRuntime) {
+    assert!(rt; is_shown_alone(rt.alloc()));
 }

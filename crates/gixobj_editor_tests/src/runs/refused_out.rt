@@ -4,13 +4,13 @@ use crate::runs::samples::{commands_of, editor_over};
 use gixobj_base::Tree;
 use gixobj_base::hash::{Kind as HashKind, ObjectId};
 use gixobj_editor::editor::{Editor, WriteError};
-use gixobj_editor::{EditReply, Reply, run};
+use gixobj_editor::{Command, EditReply, Reply, run};
 use gixobj_find_tests::failing::Failing;
 use gixobj_script::edit_on;
 use std::alloc::Global;
 
 /// Why a tree gets no id.
-#[derive(Clone, Copy, Debug, PartialEq, Eq)]
+#[derive(Clone, Copy)]
 enum Refusal {
     /// It has a file of the name `secret`.
     Secret,
@@ -18,13 +18,19 @@ enum Refusal {
     Unwritten,
 }
 
+/// Whether a tree has a file of the name `secret`.
+fn is_secret(tree: &Tree) -> bool {
+    for entry in tree.entries.iter() {
+        if entry.filename.as_bytes() == b"secret".as_slice() {
+            return true;
+        }
+    }
+    false
+}
+
 /// The id of a tree without a file of the name `secret`.
 fn id_unless_secret(alloc: Global, tree: &Tree) -> Result<ObjectId, Refusal> {
-    let is_secret = tree
-        .entries
-        .iter()
-        .any(|entry| entry.filename.as_bytes() == b"secret".as_slice());
-    if is_secret {
+    if is_secret(tree) {
         return Err(Refusal::Secret);
     }
     match tree.compute_id(alloc, HashKind::Sha1) {
@@ -80,25 +86,45 @@ fn told_of_refused_trees(rt: HostRuntime) {
     assert!(rt; editor.store_mut().keeps() == 3);
 }
 
+/// Whether a write was refused for this.
+fn is_secret_refused(reply: &EditReply<Refusal>) -> bool {
+    match reply {
+        EditReply::WriteRefused(WriteError::Out(refusal)) => matches!(refusal, Refusal::Secret),
+        _ => false,
+    }
+}
+
+/// Whether a reply gives the refusal.
+fn is_for_secret(reply: Option<&Reply<Refusal>>) -> bool {
+    match reply {
+        Some(Reply::Edit(reply)) => is_secret_refused(reply),
+        _ => false,
+    }
+}
+
+/// Whether the third reply to commands gives the refusal.
+fn is_third_refused(alloc: Global, editor: &mut Editor<Failing>, commands: Vec<Command>) -> bool {
+    match run(
+        alloc,
+        editor,
+        commands,
+        |tree: &Tree| id_unless_secret(alloc, tree),
+    ) {
+        Ok(replies) => is_for_secret(replies.get(2)),
+        Err(_) => false,
+    }
+}
+
 /// Whether the third reply to the script gives the refusal.
 fn gives_the_refusal(alloc: Global, editor: &mut Editor<Failing>) -> bool {
-    let Ok(commands) = commands_of(alloc, SCRIPT) else {
-        return false;
-    };
-    let Ok(replies) = run(alloc, editor, commands, |tree: &Tree| {
-        id_unless_secret(alloc, tree)
-    }) else {
-        return false;
-    };
-    matches!(
-        replies.get(2),
-        Some(Reply::Edit(EditReply::WriteRefused(WriteError::Out(Refusal::Secret))))
-    )
+    match commands_of(alloc, SCRIPT) {
+        Ok(commands) => is_third_refused(alloc, editor, commands),
+        Err(_) => false,
+    }
 }
 
 #[test]
 fn refusal_handed_on(rt: HostRuntime) {
-    let alloc = rt.alloc();
-    let mut editor = editor_over(alloc, &[], &[]);
-    assert!(rt; gives_the_refusal(alloc, &mut editor));
+    let mut editor = editor_over(rt.alloc(), &[], &[]);
+    assert!(rt; gives_the_refusal(rt.alloc(), &mut editor));
 }

@@ -9,9 +9,8 @@ use gixobj_editor::editor::Editor;
 use gixobj_editor::{Command, Edit, Reply, run};
 use gixobj_find::Memory;
 use gixobj_find_tests::failing::Failing;
-use gixobj_script::{edit_on, read_script};
+use gixobj_script::read_script;
 use std::alloc::{AllocError, Global};
-use std::test::Fail;
 
 /// Edits before and after writes: what a write handed out is looked up again.
 pub(crate) const TEN_LINES: &str = "upsert blob fa49b077972391ad58037050f2a75f74e3671e92 new.txt
@@ -63,35 +62,67 @@ pub(crate) fn run_on(
     )
 }
 
-/// The replies to a script.
+/// The replies to a script; or nothing where it isn't run.
 pub(crate) fn replies_to(
     alloc: Global,
     editor: &mut Editor<Failing>,
     script: &str,
-) -> Result<Vec<Reply<encode::Error>>, Fail> {
-    let commands = commands_of(alloc, script)?;
-    Ok(run_on(alloc, editor, commands)?)
+) -> Option<Vec<Reply<encode::Error>>> {
+    match commands_of(alloc, script) {
+        Ok(commands) => run_on(alloc, editor, commands).ok(),
+        Err(_) => None,
+    }
 }
 
-/// Whether this is told of a script.
-pub(crate) fn tells(
-    alloc: Global,
-    editor: &mut Editor<Failing>,
-    script: &str,
-    wanted: &str,
-) -> bool {
-    let out = |tree: &Tree| tree.compute_id(alloc, HashKind::Sha1);
-    match edit_on(alloc, editor, script.as_bytes(), HashKind::Sha1, out) {
-        Ok(text) => text.as_slice() == wanted.as_bytes(),
-        Err(_) => false,
-    }
+/// Whether the store was asked for so many trees, and the editor counts them.
+pub(crate) fn has_asked(editor: &mut Editor<Failing>, lookups: u64) -> bool {
+    editor.lookups() == lookups && editor.store_mut().lookups() == lookups
 }
 
 /// A file of this name is put in.
 pub(crate) fn put(alloc: Global, name: &[u8]) -> Result<Edit, AllocError> {
+    let name = BString::from_slice(alloc, name)?;
     Ok(Edit::Upsert {
-        path: vec![in alloc; BString::from_slice(alloc, name)?]?,
+        path: vec![in alloc; name]?,
         kind: EntryKind::Blob,
         id: FILE,
     })
+}
+
+/// Puts behind edits that a file of this name is put in.
+pub(crate) fn push_put(
+    alloc: Global,
+    edits: &mut Vec<Edit>,
+    name: &[u8],
+) -> Result<(), AllocError> {
+    edits.push(put(alloc, name)?)?;
+    Ok(())
+}
+
+/// Edits in the directory `a`, by one command.
+fn in_a(alloc: Global, edits: Vec<Edit>) -> Result<Command, AllocError> {
+    let name = BString::from_slice(alloc, b"a")?;
+    let prefix = vec![in alloc; name]?;
+    Ok(Command::At { prefix, edits })
+}
+
+/// The same, and then the root is written.
+pub(crate) fn in_a_and_written(
+    alloc: Global,
+    edits: Vec<Edit>,
+) -> Result<Vec<Command>, AllocError> {
+    let at = in_a(alloc, edits)?;
+    Ok(vec![in alloc; at, Command::Edit(Edit::Write)]?)
+}
+
+/// The replies to commands on the empty root, if there are commands.
+pub(crate) fn replies_on_empty(
+    alloc: Global,
+    commands: Result<Vec<Command>, AllocError>,
+) -> Option<Vec<Reply<encode::Error>>> {
+    let mut editor = editor_over(alloc, &[], &[]);
+    match commands {
+        Ok(commands) => run_on(alloc, &mut editor, commands).ok(),
+        Err(_) => None,
+    }
 }

@@ -1,17 +1,16 @@
 //! Stores that refuse to keep a tree, or fail to find one: what is told, and how the run goes on.
 
-use crate::runs::samples::{TEN_LINES, editor_over, replies_to, tells};
-use crate::samples::names;
+use crate::runs::samples::{TEN_LINES, editor_over, replies_to};
+use crate::samples::{names, told_of};
 use gixobj_base::encode;
 use gixobj_base::hash::ObjectId;
-use gixobj_editor::editor::Error;
+use gixobj_editor::editor::{Editor, Error};
 use gixobj_editor::{EditReply, Reply};
 use gixobj_find::KeepError;
 use gixobj_find::find::existing_object;
 use gixobj_find_tests::failing::{Failing, OFFLINE};
 use gixobj_object::{Find, find};
 use std::alloc::Global;
-use std::test::Fail;
 
 const BAK: &str = "d8329fc1cc938780ffdd9f94e0d364e0ea74f579";
 
@@ -334,12 +333,23 @@ fn rows() -> &'static [Row] {
     ROWS
 }
 
+/// Whether this is told of a script.
+fn tells(alloc: Global, editor: &mut Editor<Failing>, row: &Row) -> bool {
+    match told_of(alloc, editor, row.script.as_bytes()) {
+        Some(text) => text.as_slice() == row.told.as_bytes(),
+        None => false,
+    }
+}
+
+/// Whether the store was asked as often as the editor counts, and so often to keep a tree.
+fn is_counted(editor: &mut Editor<Failing>, keeps: u64) -> bool {
+    editor.lookups() == editor.store_mut().lookups() && editor.store_mut().keeps() == keeps
+}
+
 /// Whether this is told of the script of a row, and the store was asked as often as is told.
 fn tells_and_asks(alloc: Global, row: &Row) -> bool {
     let mut editor = editor_over(alloc, row.lookups_that_fail, row.keeps_that_fail);
-    tells(alloc, &mut editor, row.script, row.told)
-        && editor.lookups() == editor.store_mut().lookups()
-        && editor.store_mut().keeps() == row.keeps
+    tells(alloc, &mut editor, row) && is_counted(&mut editor, row.keeps)
 }
 
 #[test]
@@ -349,33 +359,43 @@ fn told_of_refusals(rt: HostRuntime) {
     }
 }
 
+/// Whether it is refused since the store failed.
+fn is_for_store(refusal: &Error) -> bool {
+    match refusal {
+        Error::FindExistingObject(existing_object::Error::Find(find::Error::Store(message))) => {
+            message.as_bytes() == OFFLINE
+        }
+        _ => false,
+    }
+}
+
 /// Whether an edit was refused since the store failed.
 fn is_offline(reply: Option<&Reply<encode::Error>>) -> bool {
     match reply {
-        Some(
-            Reply::Edit(
-                EditReply::Refused(
-                    Error::FindExistingObject(
-                        existing_object::Error::Find(find::Error::Store(message)),
-                    ),
-                ),
-            ),
-        ) => message.as_bytes() == OFFLINE,
+        Some(Reply::Edit(EditReply::Refused(refusal))) => is_for_store(refusal),
         _ => false,
+    }
+}
+
+/// Whether the replies of these places to a script are so, where the store fails at these lookups.
+fn are_offline(
+    alloc: Global,
+    lookups_that_fail: &'static [u64],
+    script: &str,
+    places: (usize, usize),
+) -> bool {
+    let mut editor = editor_over(alloc, lookups_that_fail, &[]);
+    match replies_to(alloc, &mut editor, script) {
+        Some(replies) => { is_offline(replies.get(places.0)) && is_offline(replies.get(places.1)) }
+        None => false,
     }
 }
 
 /// Each edit that looked up in vain says so.
 #[test]
-fn a_store_that_fails(rt: HostRuntime) -> Result<(), Fail> {
-    let alloc = rt.alloc();
-    let mut editor = editor_over(alloc, &[1], &[]);
-    let replies = replies_to(alloc, &mut editor, AT_THE_FIRST)?;
-    assert!(rt; is_offline(replies.get(4)));
-    let mut editor = editor_over(alloc, &[1, 3], &[]);
-    let replies = replies_to(alloc, &mut editor, AT_THE_FIRST_AND_THE_THIRD)?;
-    assert!(rt; is_offline(replies.get(4)) && is_offline(replies.get(5)));
-    Ok(())
+fn a_store_that_fails(rt: HostRuntime) {
+    assert!(rt; are_offline(rt.alloc(), &[1], AT_THE_FIRST, (4, 4)));
+    assert!(rt; are_offline(rt.alloc(), &[1, 3], AT_THE_FIRST_AND_THE_THIRD, (4, 5)));
 }
 
 /// Whether the last reply says that two trees went out, and the second wasn't kept.
@@ -388,6 +408,22 @@ fn stops_at_the_second(replies: &[Reply<encode::Error>], id: &str) -> bool {
     }
 }
 
+/// Whether a script is answered so.
+fn is_stopped(alloc: Global, editor: &mut Editor<Failing>) -> bool {
+    match replies_to(alloc, editor, WRITE) {
+        Some(replies) => stops_at_the_second(replies.as_slice(), ROOT),
+        None => false,
+    }
+}
+
+/// Whether a directory is looked up for a removal of nothing, which is done.
+fn is_looked_up(alloc: Global, editor: &mut Editor<Failing>) -> bool {
+    match replies_to(alloc, editor, "remove bak/none") {
+        Some(replies) => { matches!(replies.first(), Some(Reply::Edit(EditReply::Done))) }
+        None => false,
+    }
+}
+
 /// Whether the store finds an object at the id.
 fn finds(alloc: Global, store: &Failing, id: &str) -> bool {
     let Some(id) = ObjectId::from_hex(id.as_bytes()) else {
@@ -397,19 +433,20 @@ fn finds(alloc: Global, store: &Failing, id: &str) -> bool {
     matches!(&store.try_find(id.as_oid(), &mut buffer), Ok(Some(_)))
 }
 
+/// Whether the store finds the first tree, and not the second, and the editor has counted no lookup.
+fn has_the_first_alone(alloc: Global, editor: &mut Editor<Failing>) -> bool {
+    finds(alloc, editor.store_mut(), BAK)
+        && !finds(alloc, editor.store_mut(), ROOT)
+        && editor.lookups() == 0
+}
+
 /// The first tree is in the store, and the second isn't. The directory is no longer open: an edit in it looks it up.
 #[test]
-fn second_tree_refused(rt: HostRuntime) -> Result<(), Fail> {
-    let alloc = rt.alloc();
-    let mut editor = editor_over(alloc, &[], &[2]);
-    let replies = replies_to(alloc, &mut editor, WRITE)?;
-    assert!(rt; stops_at_the_second(&replies, ROOT));
-    assert!(rt; finds(alloc, editor.store_mut(), BAK));
-    assert!(rt; !finds(alloc, editor.store_mut(), ROOT));
-    assert!(rt; editor.lookups() == 0);
-    let replies = replies_to(alloc, &mut editor, "remove bak/none")?;
-    assert!(rt; matches!(replies.first(), Some(Reply::Edit(EditReply::Done))));
+fn second_tree_refused(rt: HostRuntime) {
+    let mut editor = editor_over(rt.alloc(), &[], &[2]);
+    assert!(rt; is_stopped(rt.alloc(), &mut editor));
+    assert!(rt; has_the_first_alone(rt.alloc(), &mut editor));
+    assert!(rt; is_looked_up(rt.alloc(), &mut editor));
     assert!(rt; editor.lookups() == 1);
     assert!(rt; editor.store_mut().lookups() == 3);
-    Ok(())
 }
