@@ -11,13 +11,12 @@ mod uploads;
 use crate::samples::id;
 use bstr::BStr;
 use gix_object::CommitRef;
-use gix_object::hash::Kind;
+use gix_object::hash::{Kind, ObjectId};
 use gixobj_callers::auditor::{place_of, value_of, values_of};
 use gixobj_callers::importer::owned_copy_of;
 use gixobj_callers::store::{CopyError, copy_of};
 use gixobj_callers::walker::{ends_behind_errors, message_of, parents_of, tree_of};
 use std::alloc::Global;
-use std::test::Fail;
 
 const TREE: &[u8] = b"4b825dc642cb6eb9a060e54bf8d69288fbee4904";
 
@@ -34,43 +33,114 @@ const MERGE: &[u8] = b"tree 4b825dc642cb6eb9a060e54bf8d69288fbee4904\n\
     x 1\n\
     gpgsig A\n B\n\nhi\n";
 
+/// A text that no commit has.
+const CUT: &[u8] = b"tree 4b";
+
+/// The tree of a commit; of another text none.
+fn tree_in(alloc: Global, text: &[u8]) -> Option<ObjectId> {
+    match tree_of(alloc, text, Kind::Sha1) {
+        Ok(tree) => Some(tree),
+        Err(_) => None,
+    }
+}
+
+/// Whether these are both parents.
+fn are_both(parents: &[ObjectId]) -> bool {
+    match parents {
+        [first, second] => *first == id(FIRST) && *second == id(SECOND),
+        _ => false,
+    }
+}
+
 /// Whether the commit has both parents.
-fn has_both_parents(alloc: Global) -> Result<bool, Fail> {
-    let parents = parents_of(alloc, MERGE, Kind::Sha1)?;
-    match parents.as_slice() {
-        [first, second] => Ok(*first == id(FIRST) && *second == id(SECOND)),
-        _ => Ok(false),
+fn has_both_parents(alloc: Global) -> bool {
+    match parents_of(alloc, MERGE, Kind::Sha1) {
+        Ok(parents) => are_both(&parents),
+        Err(_) => false,
+    }
+}
+
+/// Whether the commit has its message.
+fn has_message(alloc: Global) -> bool {
+    match message_of(alloc, MERGE, Kind::Sha1) {
+        Ok(message) => message == BStr::new(b"hi\n"),
+        Err(_) => false,
     }
 }
 
 #[test]
-fn walked(rt: HostRuntime) -> Result<(), Fail> {
+fn walked(rt: HostRuntime) {
     let alloc = rt.alloc();
-    assert!(rt; tree_of(alloc, MERGE, Kind::Sha1)? == id(TREE));
-    assert!(rt; has_both_parents(alloc)?);
-    assert!(rt; message_of(alloc, MERGE, Kind::Sha1)? == BStr::new(b"hi\n"));
-    assert!(rt; ends_behind_errors(alloc, b"tree 4b", Kind::Sha1));
-    assert!(rt; tree_of(alloc, b"tree 4b", Kind::Sha1).is_err());
-    Ok(())
+    assert!(rt; tree_in(alloc, MERGE) == Some(id(TREE)));
+    assert!(rt; has_both_parents(alloc));
+    assert!(rt; has_message(alloc));
+    assert!(rt; ends_behind_errors(alloc, CUT, Kind::Sha1));
+    assert!(rt; tree_in(alloc, CUT).is_none());
+}
+
+/// Whether the commit's copy is the same.
+fn is_copied(alloc: Global) -> bool {
+    match copy_of(alloc, MERGE, Kind::Sha1) {
+        Ok(copy) => copy.as_slice() == MERGE,
+        Err(_) => false,
+    }
+}
+
+/// Whether the commit's copy by owned forms is the same.
+fn is_copied_by_owned(alloc: Global) -> bool {
+    match owned_copy_of(alloc, MERGE, Kind::Sha1) {
+        Ok(copy) => copy.as_slice() == MERGE,
+        Err(_) => false,
+    }
+}
+
+/// Whether a copy of the other text is refused as it is read.
+fn is_not_read(alloc: Global) -> bool {
+    match copy_of(alloc, CUT, Kind::Sha1) {
+        Err(CopyError::Read(_)) => true,
+        _ => false,
+    }
 }
 
 #[test]
-fn copied(rt: HostRuntime) -> Result<(), Fail> {
+fn copied(rt: HostRuntime) {
     let alloc = rt.alloc();
-    assert!(rt; copy_of(alloc, MERGE, Kind::Sha1)?.as_slice() == MERGE);
-    assert!(rt; owned_copy_of(alloc, MERGE, Kind::Sha1)?.as_slice() == MERGE);
-    let refused = copy_of(alloc, b"tree 4b", Kind::Sha1);
-    assert!(rt; matches!(&refused, Err(CopyError::Read(_))));
-    Ok(())
+    assert!(rt; is_copied(alloc));
+    assert!(rt; is_copied_by_owned(alloc));
+    assert!(rt; is_not_read(alloc));
+}
+
+/// How many values a header of the commit has; none where there is no memory.
+fn count_of(alloc: Global, commit: &CommitRef<'_>, name: &str) -> Option<usize> {
+    match values_of(alloc, commit, name) {
+        Ok(values) => Some(values.len()),
+        Err(_) => None,
+    }
+}
+
+/// Whether the commit has its signature, and one header `x`.
+fn has_headers(alloc: Global, commit: &CommitRef<'_>) -> bool {
+    value_of(commit, "gpgsig") == Some(BStr::new(b"A\nB\n"))
+        && count_of(alloc, commit, "x") == Some(1)
+}
+
+/// Whether the signature is the second header of the owned commit.
+fn is_signed_second(alloc: Global, commit: CommitRef<'_>) -> bool {
+    match commit.into_owned(alloc) {
+        Ok(owned) => place_of(&owned, "gpgsig") == Some(1),
+        Err(_) => false,
+    }
+}
+
+/// Whether the commit has its headers, and its owned form too.
+fn is_audited(alloc: Global) -> bool {
+    match CommitRef::from_bytes(alloc, MERGE, Kind::Sha1) {
+        Ok(commit) => has_headers(alloc, &commit) && is_signed_second(alloc, commit),
+        Err(_) => false,
+    }
 }
 
 #[test]
-fn audited(rt: HostRuntime) -> Result<(), Fail> {
-    let alloc = rt.alloc();
-    let commit = CommitRef::from_bytes(alloc, MERGE, Kind::Sha1)?;
-    assert!(rt; value_of(&commit, "gpgsig") == Some(BStr::new(b"A\nB\n")));
-    assert_eq!(rt; values_of(alloc, &commit, "x")?.len(), 1);
-    let owned = commit.into_owned(alloc)?;
-    assert!(rt; place_of(&owned, "gpgsig") == Some(1));
-    Ok(())
+fn audited(rt: HostRuntime) {
+    assert!(rt; is_audited(rt.alloc()));
 }

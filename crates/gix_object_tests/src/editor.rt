@@ -18,7 +18,6 @@ use gix_object::tree::EntryKind;
 use gix_object::tree::editor::{Editor, Error, WriteError, Written};
 use gix_object::{Find, Tree};
 use std::alloc::Global;
-use std::test::Fail;
 
 const TEST: &[u8] = b"1f7a7a472abf3dd9643fd615f6da379c4acb3e3a";
 
@@ -30,21 +29,26 @@ const A: &[u8] = b"a18166ad9dc2c46e84c28b674ab8be1e202f6f82";
 /// An editor with an entry of this kind and id put in.
 fn editor_with(
     alloc: Global,
-    name: &str,
+    path: &[BString],
     kind: EntryKind,
     hex: &[u8],
 ) -> Result<Editor<Never>, Error> {
     let mut editor = Editor::new(Tree::empty(alloc), Never, HashKind::Sha1);
-    editor.try_upsert(&path_of(alloc, &[name])?, kind, id(hex))?;
+    editor.try_upsert(path, kind, id(hex))?;
     Ok(editor)
 }
 
+/// What is told of a tree that was refused so.
+fn is_told(alloc: Global, error: &WriteError<u8>, wanted: &[u8]) -> bool {
+    match error.to_string(alloc) {
+        Ok(text) => text.as_bytes() == wanted,
+        Err(_) => false,
+    }
+}
+
 #[test]
-fn failed_out(rt: HostRuntime) -> Result<(), Fail> {
-    let error: WriteError<u8> = WriteError::Out(7);
-    let text = error.to_string(rt.alloc())?;
-    assert!(rt; text.as_bytes() == b"a tree was refused: 7".as_slice());
-    Ok(())
+fn failed_out(rt: HostRuntime) {
+    assert!(rt; is_told(rt.alloc(), &WriteError::Out(7), b"a tree was refused: 7"));
 }
 
 /// Two edits and a write: the tree that is named has the files of that history.
@@ -73,19 +77,32 @@ fn edited_and_written<S: Find, E: Drop, F: FnMut(&Tree) -> Result<ObjectId, E> +
     }
 }
 
-/// Whether the file `a` is left where it is put in beside the directory `b`, and that is removed.
-fn leaves_a(alloc: Global) -> Result<bool, Fail> {
-    let mut editor = editor_with(alloc, "b", EntryKind::Tree, BAK)?;
-    let (a, b) = (path_of(alloc, &["a"])?, path_of(alloc, &["b"])?);
+/// Whether the tree that is named is that of the file `a`, where that is put in and the second path is removed.
+fn is_left(alloc: Global, editor: &mut Editor<Never>, a: &[BString], b: &[BString]) -> bool {
     let out = |tree: &Tree| tree.compute_id(alloc, HashKind::Sha1);
-    match edited_and_written(&mut editor, &a, id(TEST), &b, out)? {
-        Some(written) => Ok(written.id == id(A)),
-        None => Ok(false),
+    match edited_and_written(editor, a, id(TEST), b, out) {
+        Ok(Some(written)) => written.id == id(A),
+        _ => false,
+    }
+}
+
+/// Whether it is so beside the directory `b`.
+fn is_left_beside(alloc: Global, a: &[BString], b: &[BString]) -> bool {
+    match editor_with(alloc, b, EntryKind::Tree, BAK) {
+        Ok(mut editor) => is_left(alloc, &mut editor, a, b),
+        Err(_) => false,
+    }
+}
+
+/// Whether the file `a` is left where it is put in beside the directory `b`, and that is removed.
+fn leaves_a(alloc: Global) -> bool {
+    match (path_of(alloc, &["a"]), path_of(alloc, &["b"])) {
+        (Ok(a), Ok(b)) => is_left_beside(alloc, &a, &b),
+        _ => false,
     }
 }
 
 #[test]
-fn a_history(rt: HostRuntime) -> Result<(), Fail> {
-    assert!(rt; leaves_a(rt.alloc())?);
-    Ok(())
+fn a_history(rt: HostRuntime) {
+    assert!(rt; leaves_a(rt.alloc()));
 }

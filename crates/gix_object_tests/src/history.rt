@@ -1,13 +1,13 @@
 //! A walk through a store of one's own: two commits, each with a tree, as `git` names them.
 
 use crate::samples::{id, path_of};
+use bstr::BString;
 use gix_object::hash::{Kind as HashKind, ObjectId};
 use gix_object::tree::Entry;
 use gix_object::{Data, Kind};
 use gixobj_callers::history::{Error, ancestor, entry_of};
 use gixobj_callers::shelf::Shelf;
 use std::alloc::Global;
-use std::test::Fail;
 
 /// What `git mktree --missing` answers for the file `test.txt` of the id `83baae61804e65cc73a7201a7252750c76066a30`.
 const BAK: &[u8] = b"d8329fc1cc938780ffdd9f94e0d364e0ea74f579";
@@ -59,58 +59,77 @@ fn objects() -> [(ObjectId, Data<'static>); 4] {
     ]
 }
 
-/// The ancestor of the second commit so many commits back, or none behind one without a parent.
-fn ancestor_at(alloc: Global, generations: u32) -> Result<Option<ObjectId>, Error> {
+/// The ancestor of the second commit so many commits back.
+fn ancestor_at(alloc: Global, generations: u32) -> Result<ObjectId, Error> {
     let objects = objects();
     let store = Shelf { objects: &objects };
-    match ancestor(alloc, &store, id(SECOND), generations) {
-        Ok(found) => Ok(Some(found)),
-        Err(Error::NoParent(_)) => Ok(None),
-        Err(error) => Err(error),
+    ancestor(alloc, &store, id(SECOND), generations)
+}
+
+/// Whether the ancestor so many commits back has the id of these hex digits.
+fn is_ancestor(alloc: Global, generations: u32, hex: &[u8]) -> bool {
+    match ancestor_at(alloc, generations) {
+        Ok(found) => found == id(hex),
+        Err(_) => false,
+    }
+}
+
+/// Whether so many commits back is behind a commit without a parent.
+fn is_behind_all(alloc: Global, generations: u32) -> bool {
+    match ancestor_at(alloc, generations) {
+        Err(Error::NoParent(_)) => true,
+        _ => false,
     }
 }
 
 #[test]
-fn ancestors(rt: HostRuntime) -> Result<(), Fail> {
+fn ancestors(rt: HostRuntime) {
     let alloc = rt.alloc();
-    assert!(rt; ancestor_at(alloc, 0)? == Some(id(SECOND)));
-    assert!(rt; ancestor_at(alloc, 1)? == Some(id(FIRST)));
-    assert!(rt; ancestor_at(alloc, 2)?.is_none());
-    Ok(())
+    assert!(rt; is_ancestor(alloc, 0, SECOND));
+    assert!(rt; is_ancestor(alloc, 1, FIRST));
+    assert!(rt; is_behind_all(alloc, 2));
 }
 
 /// The entry at a path in the tree of a commit of these objects.
-fn at(alloc: Global, commit: &[u8], path: &[&str]) -> Result<Option<Entry>, Fail> {
+fn at(alloc: Global, commit: &[u8], path: &[BString]) -> Result<Option<Entry>, Error> {
     let objects = objects();
     let store = Shelf { objects: &objects };
-    Ok(entry_of(alloc, &store, id(commit), &path_of(alloc, path)?)?)
+    entry_of(alloc, &store, id(commit), path)
 }
 
 /// Whether the entry is that of the file in the inner tree.
-fn is_version_1(found: &Option<Entry>) -> bool {
+fn is_version_1(entry: &Entry) -> bool {
+    entry.oid == id(VERSION_1) && entry.filename.as_bytes() == b"test.txt".as_slice()
+}
+
+/// A word for what is found.
+fn word(found: &Result<Option<Entry>, Error>) -> &'static str {
     match found {
-        Some(entry) => entry.oid == id(VERSION_1)
-            && entry.filename.as_bytes() == b"test.txt".as_slice(),
-        None => false,
+        Ok(Some(entry)) if is_version_1(entry) => "version 1",
+        Ok(None) => "nothing",
+        Err(Error::Commit(_)) => "no commit",
+        _ => "otherwise",
+    }
+}
+
+/// A word for what is found at the path of these names in the tree of a commit.
+fn found_at(alloc: Global, commit: &[u8], names: &[&str]) -> &'static str {
+    match path_of(alloc, names) {
+        Ok(path) => word(&at(alloc, commit, &path)),
+        Err(_) => "no memory",
     }
 }
 
 #[test]
-fn entries(rt: HostRuntime) -> Result<(), Fail> {
+fn entries(rt: HostRuntime) {
     let alloc = rt.alloc();
-    assert!(rt; is_version_1(&at(alloc, SECOND, &["bak", "test.txt"])?));
-    assert!(rt; is_version_1(&at(alloc, FIRST, &["test.txt"])?));
-    assert!(rt; at(alloc, SECOND, &["bak", "new.txt"])?.is_none());
-    Ok(())
+    assert!(rt; found_at(alloc, SECOND, &["bak", "test.txt"]) == "version 1");
+    assert!(rt; found_at(alloc, FIRST, &["test.txt"]) == "version 1");
+    assert!(rt; found_at(alloc, SECOND, &["bak", "new.txt"]) == "nothing");
 }
 
 /// A tree is no commit.
 #[test]
-fn no_commit(rt: HostRuntime) -> Result<(), Fail> {
-    let alloc = rt.alloc();
-    let objects = objects();
-    let store = Shelf { objects: &objects };
-    let found = entry_of(alloc, &store, id(ROOT), &path_of(alloc, &["bak"])?);
-    assert!(rt; matches!(&found, Err(Error::Commit(_))));
-    Ok(())
+fn no_commit(rt: HostRuntime) {
+    assert!(rt; found_at(rt.alloc(), ROOT, &["bak"]) == "no commit");
 }

@@ -2,7 +2,7 @@
 
 mod growths;
 mod refusals;
-mod samples;
+pub(crate) mod samples;
 mod thousand;
 mod three_steps;
 mod unkept;

@@ -8,11 +8,12 @@ use std::alloc::{AllocError, Global};
 
 /// Whether a path begins with the names of another.
 pub(crate) fn begins(path: &[BString], front: &[BString]) -> bool {
+    for (x, y) in front.iter().zip(path) {
+        if x.as_bytes() != y.as_bytes() {
+            return false;
+        }
+    }
     front.len() <= path.len()
-        && front
-            .iter()
-            .zip(path)
-            .all(|(x, y)| x.as_bytes() == y.as_bytes())
 }
 
 /// Copies of these names.
@@ -42,6 +43,11 @@ pub(crate) fn forget(files: &mut Vec<Listed>, path: &[BString]) {
     files.retain(|file| !begins(&file.path, path));
 }
 
+/// The files but those at the path and at its beginnings, where a directory is to be.
+pub(crate) fn assure(files: &mut Vec<Listed>, path: &[BString]) {
+    files.retain(|file| !begins(path, &file.path));
+}
+
 /// The files with one at the path, in place of those at it, below it, and at its beginnings.
 pub(crate) fn put(
     alloc: Global,
@@ -50,18 +56,21 @@ pub(crate) fn put(
     id: ObjectId,
 ) -> Result<(), AllocError> {
     forget(files, path);
-    files.retain(|file| !begins(path, &file.path));
-    files.push(Listed {
-        path: copy_of(alloc, path)?,
-        mode: EntryKind::Blob.into(),
-        id,
-    })?;
+    assure(files, path);
+    let path = copy_of(alloc, path)?;
+    let mode = EntryKind::Blob.into();
+    files.push(Listed { path, mode, id })?;
     Ok(())
 }
 
-/// The files but those at the path and at its beginnings, where a directory is to be.
-pub(crate) fn assure(files: &mut Vec<Listed>, path: &[BString]) {
-    files.retain(|file| !begins(path, &file.path));
+/// A copy of a file without so many names in front.
+fn without(alloc: Global, file: &Listed, count: usize) -> Result<Listed, AllocError> {
+    let path = copy_of(alloc, file.path.get(count..).unwrap_or(&[]))?;
+    Ok(Listed {
+        path,
+        mode: file.mode,
+        id: file.id,
+    })
 }
 
 /// Copies of the files below a prefix, by their paths from there.
@@ -72,17 +81,9 @@ pub(crate) fn below(
 ) -> Result<Vec<Listed>, AllocError> {
     let mut found = Vec::new(alloc);
     for file in files {
-        if !begins(&file.path, prefix) {
-            continue;
+        if begins(&file.path, prefix) {
+            found.push(without(alloc, file, prefix.len())?)?;
         }
-        let Some(path) = file.path.get(prefix.len()..) else {
-            continue;
-        };
-        found.push(Listed {
-            path: copy_of(alloc, path)?,
-            mode: file.mode,
-            id: file.id,
-        })?;
     }
     Ok(found)
 }
@@ -94,10 +95,22 @@ fn is_same(file: &Listed, other: &Listed) -> bool {
         && file.id == other.id
 }
 
+/// Whether a list has this file.
+fn has(files: &[Listed], wanted: &Listed) -> bool {
+    for file in files {
+        if is_same(wanted, file) {
+            return true;
+        }
+    }
+    false
+}
+
 /// Whether both lists have the same files, none of them twice.
 pub(crate) fn are_same(files: &[Listed], others: &[Listed]) -> bool {
+    for file in files {
+        if !has(others, file) {
+            return false;
+        }
+    }
     files.len() == others.len()
-        && files
-            .iter()
-            .all(|file| others.iter().any(|other| is_same(file, other)))
 }

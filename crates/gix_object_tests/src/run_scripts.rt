@@ -9,7 +9,6 @@ use gix_object::tree::EntryKind;
 use gix_object::tree::editor::{Command, Edit, EditReply, Editor, Error, Reply, Written, run};
 use gix_object::{Keep, Memory, OutOfMemory, Tree, encode};
 use std::alloc::{AllocError, Global};
-use std::test::Fail;
 
 /// Numbers that follow from a seed and look random.
 #[derive(Drop)]
@@ -133,23 +132,48 @@ fn drawn_visit(alloc: Global, numbers: &mut Numbers) -> Result<Command, AllocErr
     Ok(Command::At { prefix, edits })
 }
 
-/// So many commands.
-fn drawn_commands(
+/// A command: mostly an edit, at times edits in a directory, and now and then another root.
+fn drawn_command(
     alloc: Global,
     numbers: &mut Numbers,
     stored: Stored,
-    count: u16,
-) -> Result<Vec<Command>, AllocError> {
+) -> Result<Command, AllocError> {
+    match numbers.draw() & 31 {
+        0 => match drawn_root(alloc, numbers, stored) {
+            Ok(root) => Ok(Command::SetRoot(root)),
+            Err(error) => Err(error),
+        },
+        1..=8 => drawn_visit(alloc, numbers),
+        _ => match drawn_edit(alloc, numbers) {
+            Ok(edit) => Ok(Command::Edit(edit)),
+            Err(error) => Err(error),
+        },
+    }
+}
+
+/// A thousand commands of a seed.
+fn drawn_commands(alloc: Global, seed: u64, stored: Stored) -> Result<Vec<Command>, AllocError> {
+    let mut numbers = Numbers { state: seed };
     let mut commands = Vec::new(alloc);
-    for _ in 0..count {
-        let command = match numbers.draw() & 31 {
-            0 => Command::SetRoot(drawn_root(alloc, numbers, stored)?),
-            1..=8 => drawn_visit(alloc, numbers)?,
-            _ => Command::Edit(drawn_edit(alloc, numbers)?),
-        };
-        commands.push(command)?;
+    for _ in 0..1000u16 {
+        commands.push(drawn_command(alloc, &mut numbers, stored)?)?;
     }
     Ok(commands)
+}
+
+/// Whether the last tree that was handed out has this id, and the files of the list below the prefix.
+fn is_last(
+    alloc: Global,
+    listing: &Listing,
+    prefix: &[BString],
+    written: ObjectId,
+) -> Result<bool, AllocError> {
+    let Some((id, tree)) = listing.table.last() else {
+        return Ok(false);
+    };
+    let named = files_of(alloc, &listing.table, 6, tree)?;
+    let wanted = below(alloc, &listing.files, prefix)?;
+    Ok(*id == written && are_same(&named, &wanted))
 }
 
 /// Whether what was handed out names a tree with the files of the list below the prefix.
@@ -162,64 +186,90 @@ fn is_named(
     for pair in written.trees {
         listing.table.push(pair)?;
     }
-    let Some((id, tree)) = listing.table.last() else {
-        return Ok(false);
-    };
-    let named = files_of(alloc, &listing.table, 6, tree)?;
-    let wanted = below(alloc, &listing.files, prefix)?;
-    Ok(*id == written.id && are_same(&named, &wanted))
+    is_last(alloc, listing, prefix, written.id)
 }
 
 /// Whether the list has files in a directory at the path.
 fn has_below(files: &[Listed], path: &[BString]) -> bool {
-    files.iter().any(|file| path.len() < file.path.len() && begins(&file.path, path))
+    for file in files {
+        if path.len() < file.path.len() && begins(&file.path, path) {
+            return true;
+        }
+    }
+    false
 }
 
 /// Whether the list has a file at the path.
 fn has_at(files: &[Listed], path: &[BString]) -> bool {
-    files.iter().any(|file| file.path.len() == path.len() && begins(&file.path, path))
+    for file in files {
+        if file.path.len() == path.len() && begins(&file.path, path) {
+            return true;
+        }
+    }
+    false
 }
 
-/// Puts a file into the list. One of the null id is never written.
-fn list(
+/// Whether a reply may be that to a file put in. If it is accepted the list has it; one of the null id is never written.
+fn fits_upsert(
     alloc: Global,
     files: &mut Vec<Listed>,
     path: &[BString],
     id: ObjectId,
-) -> Result<(), AllocError> {
+    reply: &EditReply<encode::Error>,
+) -> Result<bool, AllocError> {
+    if !matches!(reply, EditReply::Done) {
+        return Ok(false);
+    }
     put(alloc, files, path, id)?;
     if id.is_null() {
         forget(files, path);
     }
-    Ok(())
+    Ok(true)
+}
+
+/// Whether a reply may be that to what is at a path taken out. If it is accepted it is not in the list.
+fn fits_remove(
+    files: &mut Vec<Listed>,
+    path: &[BString],
+    reply: &EditReply<encode::Error>,
+) -> bool {
+    let is_done = matches!(reply, EditReply::Done);
+    if is_done {
+        forget(files, path);
+    }
+    is_done
+}
+
+/// Whether a reply may be that to a file at a path taken out. If it is accepted it is not in the list.
+fn fits_remove_leaf(
+    files: &mut Vec<Listed>,
+    path: &[BString],
+    reply: &EditReply<encode::Error>,
+) -> bool {
+    match reply {
+        EditReply::Done => {
+            let is_leaf = !has_below(files, path);
+            forget(files, path);
+            is_leaf
+        }
+        EditReply::Refused(Error::CannotRemoveNonLeaf { .. }) => !has_at(files, path),
+        _ => false,
+    }
 }
 
 /// Whether a reply may be that to an edit at a path that leads there from the root. If it is accepted it is done to the list.
 fn fits_edit(
     alloc: Global,
-    listing: &mut Listing,
+    files: &mut Vec<Listed>,
     edit: &Edit,
     path: &[BString],
     reply: EditReply<encode::Error>,
 ) -> Result<bool, AllocError> {
-    match (edit, reply) {
-        (Edit::Upsert { id, .. }, EditReply::Done) => {
-            list(alloc, &mut listing.files, path, *id)?;
-            Ok(true)
-        }
-        (Edit::Remove { .. }, EditReply::Done) => {
-            forget(&mut listing.files, path);
-            Ok(true)
-        }
-        (Edit::RemoveLeaf { .. }, EditReply::Done) => {
-            let is_leaf = !has_below(&listing.files, path);
-            forget(&mut listing.files, path);
-            Ok(is_leaf)
-        }
-        (Edit::RemoveLeaf { .. }, EditReply::Refused(Error::CannotRemoveNonLeaf { .. })) => {
-            Ok(!has_at(&listing.files, path))
-        }
-        _ => Ok(false),
+    match edit {
+        Edit::Upsert { id, .. } => fits_upsert(alloc, files, path, *id, &reply),
+        Edit::Remove { .. } => Ok(fits_remove(files, path, &reply)),
+        Edit::RemoveLeaf { .. } => Ok(fits_remove_leaf(files, path, &reply)),
+        Edit::Write => Ok(false),
     }
 }
 
@@ -243,7 +293,7 @@ fn fits_in(
 ) -> Result<bool, AllocError> {
     if let Some(path) = path_of(edit) {
         let path = joined(alloc, prefix, path)?;
-        return fits_edit(alloc, listing, edit, &path, reply);
+        return fits_edit(alloc, &mut listing.files, edit, &path, reply);
     }
     match reply {
         EditReply::Written(written) => is_named(alloc, listing, prefix, written),
@@ -271,6 +321,12 @@ fn fit_at(
     Ok(true)
 }
 
+/// Gives the list the files of another root, and answers whether it may be one.
+fn list_root(alloc: Global, listing: &mut Listing, root: &Tree) -> Result<bool, AllocError> {
+    listing.files = files_of(alloc, &listing.table, 6, root)?;
+    Ok(!is_in_wrong_order(root))
+}
+
 /// Whether a reply may be that to a command.
 fn fits(
     alloc: Global,
@@ -283,10 +339,7 @@ fn fits(
         (Command::At { prefix, edits }, Reply::At(replies)) => {
             fit_at(alloc, listing, prefix, edits, replies)
         }
-        (Command::SetRoot(root), Reply::RootSet) => {
-            listing.files = files_of(alloc, &listing.table, 6, root)?;
-            Ok(!is_in_wrong_order(root))
-        }
+        (Command::SetRoot(root), Reply::RootSet) => list_root(alloc, listing, root),
         (Command::SetRoot(root), Reply::RootRefused) => Ok(is_in_wrong_order(root)),
         _ => Ok(false),
     }
@@ -310,17 +363,34 @@ fn all_fit(
     Ok(true)
 }
 
-/// Puts a tree into the store and the table, and answers its id.
-fn store_tree(
+/// A store, and a table of what is in it.
+#[derive(Drop)]
+struct Filled {
+    store: Memory,
+    table: Vec<(ObjectId, Tree)>,
+}
+
+/// Puts a tree of two entries into the store and the table, and answers its id. None where there is no memory for it.
+fn store_pair(
     alloc: Global,
-    store: &mut Memory,
-    table: &mut Vec<(ObjectId, Tree)>,
-    tree: Tree,
-) -> Result<ObjectId, Fail> {
-    let id = tree.compute_id(alloc, HashKind::Sha1)?;
-    store.keep(id, &tree)?;
-    table.push((id, tree))?;
-    Ok(id)
+    filled: &mut Filled,
+    names: [&'static [u8]; 2],
+    kind: EntryKind,
+    id: ObjectId,
+) -> Option<ObjectId> {
+    let tree = pair_of(alloc, names, kind, id).ok()?;
+    let id = tree.compute_id(alloc, HashKind::Sha1).ok()?;
+    filled.store.keep(id, &tree).ok()?;
+    filled.table.push((id, tree)).ok()?;
+    Some(id)
+}
+
+/// Puts both trees into the store and the table.
+fn fill(alloc: Global, filled: &mut Filled) -> Option<Stored> {
+    let file = ObjectId::Sha1([8; 20]);
+    let inner = store_pair(alloc, filled, [b"a", b"b"], EntryKind::Blob, file)?;
+    let outer = store_pair(alloc, filled, [b"a", b"c"], EntryKind::Tree, inner)?;
+    Some(Stored { inner, outer })
 }
 
 /// The replies to commands that are run on the empty root.
@@ -338,31 +408,39 @@ fn replies_to(
     )
 }
 
-/// Whether a run of a thousand commands gets replies that fit: of each write of it the tree that is named has the files
-/// of the list.
-fn agrees(alloc: Global, seed: u64) -> Result<bool, Fail> {
-    let mut store = Memory::new(alloc);
-    let mut table = Vec::new(alloc);
-    let file = ObjectId::Sha1([8; 20]);
-    let inner = pair_of(alloc, [b"a", b"b"], EntryKind::Blob, file)?;
-    let inner = store_tree(alloc, &mut store, &mut table, inner)?;
-    let outer = pair_of(alloc, [b"a", b"c"], EntryKind::Tree, inner)?;
-    let outer = store_tree(alloc, &mut store, &mut table, outer)?;
-    let stored = Stored { inner, outer };
-    let commands = drawn_commands(alloc, &mut Numbers { state: seed }, stored, 1000)?;
-    let same_commands = drawn_commands(alloc, &mut Numbers { state: seed }, stored, 1000)?;
-    let replies = replies_to(alloc, store, commands)?;
+/// Whether a run of the commands of a seed gets replies that fit them.
+fn replies_fit(
+    alloc: Global,
+    filled: Filled,
+    seed: u64,
+    stored: Stored,
+) -> Result<bool, OutOfMemory> {
+    let commands = drawn_commands(alloc, seed, stored)?;
+    let replies = replies_to(alloc, filled.store, commands)?;
+    let same_commands = drawn_commands(alloc, seed, stored)?;
     let mut listing = Listing {
         files: Vec::new(alloc),
-        table,
+        table: filled.table,
     };
     Ok(all_fit(alloc, &mut listing, &same_commands, replies)?)
 }
 
-#[test]
-fn files_of_a_thousand_commands(rt: HostRuntime) -> Result<(), Fail> {
-    for seed in 1..3u64 {
-        assert!(rt; agrees(rt.alloc(), seed)?);
+/// Whether a run of a thousand commands gets replies that fit: of each write of it the tree that is named has the files
+/// of the list.
+fn agrees(alloc: Global, seed: u64) -> bool {
+    let mut filled = Filled {
+        store: Memory::new(alloc),
+        table: Vec::new(alloc),
+    };
+    match fill(alloc, &mut filled) {
+        Some(stored) => replies_fit(alloc, filled, seed, stored).unwrap_or(false),
+        None => false,
     }
-    Ok(())
+}
+
+#[test]
+fn files_of_a_thousand_commands(rt: HostRuntime) {
+    for seed in 1..3u64 {
+        assert!(rt; agrees(rt.alloc(), seed));
+    }
 }

@@ -16,13 +16,52 @@ pub(crate) fn path_of(alloc: Global, names: &[&str]) -> Result<Vec<BString>, All
     Ok(path)
 }
 
-/// An edit that puts a file in at the path of these names.
-pub(crate) fn upsert(alloc: Global, names: &[&str], id: ObjectId) -> Result<Edit, AllocError> {
-    Ok(Edit::Upsert {
-        path: path_of(alloc, names)?,
-        kind: EntryKind::Blob,
-        id,
-    })
+/// An edit, by the names of its path and the hex digits of its id.
+#[derive(Clone, Copy)]
+pub(crate) enum Row {
+    /// A file is put in.
+    File(&'static [&'static str], &'static [u8]),
+    /// A directory is put in.
+    Directory(&'static [&'static str], &'static [u8]),
+    /// What is there is taken out.
+    Remove(&'static [&'static str]),
+    /// The file there is taken out.
+    RemoveLeaf(&'static [&'static str]),
+    /// A write.
+    Write,
+}
+
+/// An edit that puts an entry of a kind in.
+fn upsert(alloc: Global, names: &[&str], kind: EntryKind, hex: &[u8]) -> Result<Edit, AllocError> {
+    let path = path_of(alloc, names)?;
+    let id = id(hex);
+    Ok(Edit::Upsert { path, kind, id })
+}
+
+/// The edit of a row.
+fn edit_of(alloc: Global, row: Row) -> Result<Edit, AllocError> {
+    match row {
+        Row::File(names, hex) => upsert(alloc, names, EntryKind::Blob, hex),
+        Row::Directory(names, hex) => upsert(alloc, names, EntryKind::Tree, hex),
+        Row::Remove(names) => match path_of(alloc, names) {
+            Ok(path) => Ok(Edit::Remove { path }),
+            Err(error) => Err(error),
+        },
+        Row::RemoveLeaf(names) => match path_of(alloc, names) {
+            Ok(path) => Ok(Edit::RemoveLeaf { path }),
+            Err(error) => Err(error),
+        },
+        Row::Write => Ok(Edit::Write),
+    }
+}
+
+/// The edits of these rows.
+pub(crate) fn edits_of(alloc: Global, rows: &[Row]) -> Result<Vec<Edit>, AllocError> {
+    let mut edits = Vec::new(alloc);
+    for row in rows {
+        edits.push(edit_of(alloc, *row)?)?;
+    }
+    Ok(edits)
 }
 
 /// The id that the hex digits spell; of others the null id.

@@ -1,11 +1,12 @@
 //! What callers tell of one header of a commit, and of one object on a shelf.
 
+use crate::samples::id;
 use bstr::BStr;
-use gix_object::hash::{Kind as HashKind, ObjectId};
-use gix_object::{CommitRef, Data, Exists, FindHeader, Header, Kind};
+use gix_object::hash::{Kind as HashKind, ObjectId, oid};
+use gix_object::{CommitRef, Data, Exists, FindHeader, Kind};
 use gixobj_callers::auditor::value_of;
 use gixobj_callers::shelf::Shelf;
-use std::test::Fail;
+use std::alloc::Global;
 
 /// A signed commit with a header of its own.
 const SIGNED: &[u8] = b"tree 4b825dc642cb6eb9a060e54bf8d69288fbee4904\n\
@@ -14,26 +15,46 @@ const SIGNED: &[u8] = b"tree 4b825dc642cb6eb9a060e54bf8d69288fbee4904\n\
     x 1\n\
     gpgsig A\n B\n\nhi\n";
 
-#[test]
-fn values_of_headers(rt: HostRuntime) -> Result<(), Fail> {
-    let commit = CommitRef::from_bytes(rt.alloc(), SIGNED, HashKind::Sha1)?;
-    assert!(rt; value_of(&commit, "x") == Some(BStr::new(b"1")));
-    assert!(rt; value_of(&commit, "y").is_none());
-    Ok(())
+/// Whether the commit has a header `x` of the value 1, and no header `y`.
+fn has_headers(commit: &CommitRef<'_>) -> bool {
+    value_of(commit, "x") == Some(BStr::new(b"1")) && value_of(commit, "y").is_none()
 }
 
-/// The blob of `hello` and a newline, by the id that `git hash-object` answers.
+/// Whether the signed commit has these headers.
+fn is_signed_so(alloc: Global) -> bool {
+    match CommitRef::from_bytes(alloc, SIGNED, HashKind::Sha1) {
+        Ok(commit) => has_headers(&commit),
+        Err(_) => false,
+    }
+}
+
 #[test]
-fn an_object_on_a_shelf(rt: HostRuntime) -> Result<(), Fail> {
-    let id = ObjectId::from_hex(b"ce013625030ba8dba906f756967f9e9ca394464a").ok_or("an id")?;
+fn values_of_headers(rt: HostRuntime) {
+    assert!(rt; is_signed_so(rt.alloc()));
+}
+
+/// What `git hash-object` answers for `hello` and a newline.
+const HELLO: &[u8] = b"ce013625030ba8dba906f756967f9e9ca394464a";
+
+/// Whether a shelf has a blob of six bytes at an id.
+fn has_hello(shelf: &Shelf<'_>, id: oid<'_>) -> bool {
+    match shelf.try_header(id) {
+        Ok(Some(header)) => header.kind == Kind::Blob && header.size == 6,
+        _ => false,
+    }
+}
+
+/// Whether a shelf of that blob has it at this id, and no empty blob.
+fn is_on_a_shelf(id: ObjectId) -> bool {
     let objects = [(id, Data::new(b"hello\n", Kind::Blob, HashKind::Sha1))];
     let shelf = Shelf { objects: &objects };
-    let header = Header {
-        kind: Kind::Blob,
-        size: 6,
-    };
-    assert!(rt; shelf.try_header(id.as_oid())? == Some(header));
-    assert!(rt; shelf.exists(id.as_oid()));
-    assert!(rt; !shelf.exists(ObjectId::empty_blob(HashKind::Sha1).as_oid()));
-    Ok(())
+    has_hello(&shelf, id.as_oid())
+        && shelf.exists(id.as_oid())
+        && !shelf.exists(ObjectId::empty_blob(HashKind::Sha1).as_oid())
+}
+
+#[test]
+fn an_object_on_a_shelf(rt: HostRuntime) {
+    assert!(rt; id(HELLO) != ObjectId::null(HashKind::Sha1));
+    assert!(rt; is_on_a_shelf(id(HELLO)));
 }

@@ -10,15 +10,24 @@ use gix_object::tree::editor::{Error, WriteError, Written};
 use gix_object::{Tree, encode};
 use gixobj_callers::checkout::{CheckoutError, Planned, with_entries_at};
 use std::alloc::{AllocError, Global};
-use std::test::Fail;
 
 /// The file of the first id at a path.
 fn file_at(alloc: Global, names: &[&str]) -> Result<Planned, AllocError> {
+    let path = path_of(alloc, names)?;
     Ok(Planned {
-        path: path_of(alloc, names)?,
+        path,
         kind: EntryKind::Blob,
         id: id(FIRST),
     })
+}
+
+/// The files of the first id at these paths.
+fn files_at(alloc: Global, paths: &[&[&str]]) -> Result<Vec<Planned>, AllocError> {
+    let mut files = Vec::new(alloc);
+    for names in paths {
+        files.push(file_at(alloc, names)?)?;
+    }
+    Ok(files)
 }
 
 fn check_out(
@@ -34,38 +43,44 @@ fn check_out(
 /// What `git mktree --missing` answers for the files `a/b/hello.txt` and `a/hello.txt` of the first id.
 const CHECKED_OUT: &[u8] = b"3365befd1a144ea91abbebb315dc3f3d7c071db2";
 
-/// Whether both files, put into the directory `a`, make that root, and three trees go out.
-fn is_checked_out(alloc: Global) -> Result<bool, Fail> {
-    let prefix = path_of(alloc, &["a"])?;
-    let near = file_at(alloc, &["hello.txt"])?;
-    let far = file_at(alloc, &["b", "hello.txt"])?;
-    let written = check_out(alloc, &prefix, &[near, far])?;
-    Ok(written.id == id(CHECKED_OUT) && written.trees.len() == 3)
+/// A word for a root: whether it is that of both files, and three trees go out.
+fn word(written: &Written) -> &'static str {
+    if written.id == id(CHECKED_OUT) && written.trees.len() == 3 {
+        "both"
+    } else {
+        "otherwise"
+    }
 }
 
-#[test]
-fn checked_out(rt: HostRuntime) -> Result<(), Fail> {
-    assert!(rt; is_checked_out(rt.alloc())?);
-    Ok(())
-}
-
-/// A word for what comes of a file, put at a path from a directory.
-fn refusal(alloc: Global, prefix: &[&str], names: &[&str]) -> Result<&'static str, AllocError> {
-    let prefix = path_of(alloc, prefix)?;
-    let file = file_at(alloc, names)?;
-    Ok(match check_out(alloc, &prefix, &[file]) {
+/// A word for what comes of files that are put into a directory.
+fn outcome(alloc: Global, prefix: &[BString], entries: &[Planned]) -> &'static str {
+    match check_out(alloc, prefix, entries) {
+        Ok(written) => word(&written),
         Err(CheckoutError::Edit(Error::EmptyPathComponent)) => "empty name",
         Err(CheckoutError::Edit(Error::SlashInPathComponent)) => "slash in a name",
         Err(CheckoutError::Write(WriteError::Out(_))) => "not written",
         _ => "otherwise",
-    })
+    }
+}
+
+/// A word for what comes of files, put at paths from a directory.
+fn outcome_at(alloc: Global, prefix: &[&str], paths: &[&[&str]]) -> &'static str {
+    match (path_of(alloc, prefix), files_at(alloc, paths)) {
+        (Ok(prefix), Ok(files)) => outcome(alloc, &prefix, &files),
+        _ => "no memory",
+    }
 }
 
 #[test]
-fn not_checked_out(rt: HostRuntime) -> Result<(), Fail> {
+fn checked_out(rt: HostRuntime) {
+    let files: [&[&str]; 2] = [&["hello.txt"], &["b", "hello.txt"]];
+    assert!(rt; outcome_at(rt.alloc(), &["a"], &files) == "both");
+}
+
+#[test]
+fn not_checked_out(rt: HostRuntime) {
     let alloc = rt.alloc();
-    assert_eq!(rt; refusal(alloc, &["a", ""], &["x"])?, "empty name");
-    assert_eq!(rt; refusal(alloc, &["a"], &["x/y"])?, "slash in a name");
-    assert_eq!(rt; refusal(alloc, &["a"], &["\0"])?, "not written");
-    Ok(())
+    assert!(rt; outcome_at(alloc, &["a", ""], &[&["x"]]) == "empty name");
+    assert!(rt; outcome_at(alloc, &["a"], &[&["x/y"]]) == "slash in a name");
+    assert!(rt; outcome_at(alloc, &["a"], &[&["\0"]]) == "not written");
 }

@@ -1,13 +1,12 @@
 //! Edits that are imported into a store.
 
 use super::{FIRST, SECOND};
-use crate::samples::{id, path_of, upsert};
+use crate::samples::{Row, edits_of, id};
 use gix_object::hash::Kind;
 use gix_object::tree::editor::{Edit, Editor, Error, WriteError, Written};
 use gix_object::{Memory, Tree, encode};
 use gixobj_callers::importer::{ImportError, import_files};
 use std::alloc::Global;
-use std::test::Fail;
 
 fn empty_editor(alloc: Global) -> Editor<Memory> {
     Editor::new(Tree::empty(alloc), Memory::new(alloc), Kind::Sha1)
@@ -26,10 +25,23 @@ fn import(
     )
 }
 
+/// Whether this is a root of this id, and two trees go out.
+fn is_root(written: &Written, root: &[u8]) -> bool {
+    written.id == id(root) && written.trees.len() == 2
+}
+
 /// Whether an import makes a root of this id, and two trees go out.
-fn is_imported(alloc: Global, editor: &mut Editor<Memory>, edits: Vec<Edit>, root: &[u8]) -> bool {
+fn makes(alloc: Global, editor: &mut Editor<Memory>, edits: Vec<Edit>, root: &[u8]) -> bool {
     match import(alloc, editor, edits) {
-        Ok(written) => written.id == id(root) && written.trees.len() == 2,
+        Ok(written) => is_root(&written, root),
+        Err(_) => false,
+    }
+}
+
+/// Whether an import of the edits of these rows makes a root of this id, and two trees go out.
+fn is_imported(alloc: Global, editor: &mut Editor<Memory>, rows: &[Row], root: &[u8]) -> bool {
+    match edits_of(alloc, rows) {
+        Ok(edits) => makes(alloc, editor, edits, root),
         Err(_) => false,
     }
 }
@@ -43,21 +55,17 @@ const IMPORTED: &[u8] = b"4308448a0c406025f0a267505e3259565bf6351e";
 const GONE_ON: &[u8] = b"ed09f01c0a6d6684b098b8d3591ada3fb12b32f3";
 
 #[test]
-fn imported(rt: HostRuntime) -> Result<(), Fail> {
+fn imported(rt: HostRuntime) {
     let alloc = rt.alloc();
     let mut editor = empty_editor(alloc);
-    let near = upsert(alloc, &["c"], id(SECOND))?;
-    let far = upsert(alloc, &["a", "b"], id(FIRST))?;
-    assert!(rt; is_imported(alloc, &mut editor, vec![in alloc; far, near]?, IMPORTED));
-    let more = upsert(alloc, &["a", "d"], id(SECOND))?;
-    let path = path_of(alloc, &["c"])?;
-    let less = Edit::Remove { path };
-    assert!(rt; is_imported(alloc, &mut editor, vec![in alloc; more, less]?, GONE_ON));
-    Ok(())
+    let rows = [Row::File(&["a", "b"], FIRST), Row::File(&["c"], SECOND)];
+    assert!(rt; is_imported(alloc, &mut editor, &rows, IMPORTED));
+    let rows = [Row::File(&["a", "d"], SECOND), Row::Remove(&["c"])];
+    assert!(rt; is_imported(alloc, &mut editor, &rows, GONE_ON));
 }
 
 /// A word for what comes of an import.
-fn refusal(alloc: Global, editor: &mut Editor<Memory>, edits: Vec<Edit>) -> &'static str {
+fn outcome(alloc: Global, editor: &mut Editor<Memory>, edits: Vec<Edit>) -> &'static str {
     match import(alloc, editor, edits) {
         Err(ImportError::HoldsWrite) => "holds a write",
         Err(
@@ -71,19 +79,21 @@ fn refusal(alloc: Global, editor: &mut Editor<Memory>, edits: Vec<Edit>) -> &'st
     }
 }
 
+/// A word for what comes of an import of the edits of these rows.
+fn refusal(alloc: Global, editor: &mut Editor<Memory>, rows: &[Row]) -> &'static str {
+    match edits_of(alloc, rows) {
+        Ok(edits) => outcome(alloc, editor, edits),
+        Err(_) => "no memory",
+    }
+}
+
 #[test]
-fn not_imported(rt: HostRuntime) -> Result<(), Fail> {
+fn not_imported(rt: HostRuntime) {
     let alloc = rt.alloc();
     let mut editor = empty_editor(alloc);
-    let near = upsert(alloc, &["c"], id(SECOND))?;
-    let edits = vec![in alloc; near, Edit::Write]?;
-    assert_eq!(rt; refusal(alloc, &mut editor, edits), "holds a write");
-    let near = upsert(alloc, &["c"], id(SECOND))?;
-    let slashed = upsert(alloc, &["a/b"], id(FIRST))?;
-    let edits = vec![in alloc; near, slashed]?;
-    assert_eq!(rt; refusal(alloc, &mut editor, edits), "slash in the second");
-    let zero = upsert(alloc, &["\0"], id(FIRST))?;
-    let edits = vec![in alloc; zero]?;
-    assert_eq!(rt; refusal(alloc, &mut editor, edits), "not written");
-    Ok(())
+    let rows = [Row::File(&["c"], SECOND), Row::Write];
+    assert!(rt; refusal(alloc, &mut editor, &rows) == "holds a write");
+    let rows = [Row::File(&["c"], SECOND), Row::File(&["a/b"], FIRST)];
+    assert!(rt; refusal(alloc, &mut editor, &rows) == "slash in the second");
+    assert!(rt; refusal(alloc, &mut editor, &[Row::File(&["\0"], FIRST)]) == "not written");
 }

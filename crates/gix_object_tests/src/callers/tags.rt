@@ -8,7 +8,7 @@ use gix_object::{CommitRef, TagRef};
 use gixobj_callers::auditor::merged_tags_of;
 use gixobj_callers::publisher::{checked_name, tag_copy_of, target_of};
 use gixobj_callers::verifier::read_both_ways;
-use std::test::Fail;
+use std::alloc::Global;
 
 /// A tag of the empty tree.
 const TAG: &[u8] = b"object 4b825dc642cb6eb9a060e54bf8d69288fbee4904\ntype tree\ntag v1\n";
@@ -19,30 +19,66 @@ const MERGE: &[u8] = b"tree 4b825dc642cb6eb9a060e54bf8d69288fbee4904\n\
     committer A <a@b> 0 +0000\n\
     mergetag object 4b825dc642cb6eb9a060e54bf8d69288fbee4904\n type tree\n tag v1\n\nhi\n";
 
+/// Whether the tag's copy is the same.
+fn is_copied(alloc: Global) -> bool {
+    match tag_copy_of(alloc, TAG, Kind::Sha1) {
+        Ok(copy) => copy.as_slice() == TAG,
+        Err(_) => false,
+    }
+}
+
+/// Whether the tag has its name.
+fn is_named(name: BStr<'_>) -> bool {
+    match TagRef::from_bytes(TAG, Kind::Sha1) {
+        Ok(tag) => checked_name(&tag) == Some(name),
+        Err(_) => false,
+    }
+}
+
 #[test]
-fn copied_and_told(rt: HostRuntime) -> Result<(), Fail> {
-    assert!(rt; tag_copy_of(rt.alloc(), TAG, Kind::Sha1)?.as_slice() == TAG);
+fn copied_and_told(rt: HostRuntime) {
+    assert!(rt; is_copied(rt.alloc()));
     assert!(rt; target_of(TAG, Kind::Sha1) == Some(id(TARGET)));
-    let tag = TagRef::from_bytes(TAG, Kind::Sha1)?;
-    assert!(rt; checked_name(&tag) == Some(BStr::new(b"v1")));
-    Ok(())
+    assert!(rt; is_named(BStr::new(b"v1")));
+}
+
+/// Whether a text is read both ways, as a tag of this name.
+fn is_told_both_ways(text: &[u8], name: BStr<'_>) -> Option<bool> {
+    let both = read_both_ways(text, Kind::Sha1)?;
+    Some(both.target == id(TARGET) && both.name == name)
 }
 
 #[test]
-fn told_both_ways(rt: HostRuntime) -> Result<(), Fail> {
-    let both = read_both_ways(TAG, Kind::Sha1).ok_or("a tag")?;
-    assert!(rt; both.target == id(TARGET));
-    assert!(rt; both.name == BStr::new(b"v1"));
-    assert!(rt; read_both_ways(b"tag v1\n", Kind::Sha1).is_none());
-    Ok(())
+fn told_both_ways(rt: HostRuntime) {
+    assert!(rt; is_told_both_ways(TAG, BStr::new(b"v1")) == Some(true));
+    assert!(rt; is_told_both_ways(b"tag v1\n", BStr::new(b"v1")).is_none());
+}
+
+/// Whether this is one tag that is read.
+fn is_one_tag<T, E>(tags: &[Result<T, E>]) -> bool {
+    match tags {
+        [tag] => tag.is_ok(),
+        _ => false,
+    }
+}
+
+/// Whether the commit merges one tag that is read.
+fn merges_a_tag(alloc: Global, commit: &CommitRef<'_>) -> bool {
+    match merged_tags_of(alloc, commit) {
+        Ok(tags) => is_one_tag(&tags),
+        Err(_) => false,
+    }
+}
+
+/// Whether the commit that merges the tag is told so.
+fn is_merged(alloc: Global) -> bool {
+    match CommitRef::from_bytes(alloc, MERGE, Kind::Sha1) {
+        Ok(commit) => merges_a_tag(alloc, &commit),
+        Err(_) => false,
+    }
 }
 
 #[test]
-fn merged(rt: HostRuntime) -> Result<(), Fail> {
-    let alloc = rt.alloc();
-    let commit = CommitRef::from_bytes(alloc, MERGE, Kind::Sha1)?;
-    let tags = merged_tags_of(alloc, &commit)?;
-    assert_eq!(rt; tags.len(), 1);
-    assert!(rt; tags.iter().all(|tag| tag.is_ok()));
-    Ok(())
+fn merged(rt: HostRuntime) {
+    assert!(rt; is_merged(rt.alloc()));
 }

@@ -2,35 +2,49 @@
 
 use super::plans::stored;
 use super::{FIRST, SECOND};
-use crate::samples::{id, path_of, upsert};
+use crate::samples::{Row, edits_of, id};
 use gix_object::hash::Kind;
-use gix_object::tree::EntryKind;
 use gix_object::tree::editor::{Command, Edit, Editor, WriteError};
 use gix_object::{Memory, Tree, encode};
 use gixobj_callers::planner::root_in;
 use gixobj_callers::rebuilder::{CompareError, wrote_the_same};
 use gixobj_callers::upload::{Upload, upload_of};
 use std::alloc::{AllocError, Global};
-use std::test::Fail;
 
-/// An editor of the stored root of the file `a/b/c` of the first id.
-fn deep_editor(alloc: Global) -> Result<Editor<Memory>, Fail> {
+/// An editor of the stored root of the file `a/b/c` of the first id. None where there is no memory for it.
+fn deep_editor(alloc: Global) -> Option<Editor<Memory>> {
     let (store, root) = stored(alloc, &["c", "b", "a"])?;
-    let tree = root_in(alloc, &store, root)?;
-    Ok(Editor::new(tree, store, Kind::Sha1))
+    match root_in(alloc, &store, root) {
+        Ok(tree) => Some(Editor::new(tree, store, Kind::Sha1)),
+        Err(_) => None,
+    }
 }
 
-/// Puts the file of the second id in at a path.
-fn put(alloc: Global, editor: &mut Editor<Memory>, names: &[&str]) -> Result<(), Fail> {
-    let path = path_of(alloc, names)?;
-    editor.try_upsert(&path, EntryKind::Blob, id(SECOND))?;
-    Ok(())
+/// Whether a file is put in, or taken out, at a path.
+fn edits(editor: &mut Editor<Memory>, edit: &Edit) -> bool {
+    match edit {
+        Edit::Upsert { path, kind, id } => editor.try_upsert(path, *kind, *id).is_ok(),
+        Edit::Remove { path } => editor.try_remove(path).is_ok(),
+        _ => false,
+    }
 }
 
-fn take(alloc: Global, editor: &mut Editor<Memory>, names: &[&str]) -> Result<(), Fail> {
-    let path = path_of(alloc, names)?;
-    editor.try_remove(&path)?;
-    Ok(())
+/// Whether all edits are done.
+fn edits_all(editor: &mut Editor<Memory>, list: &[Edit]) -> bool {
+    for edit in list {
+        if !edits(editor, edit) {
+            return false;
+        }
+    }
+    true
+}
+
+/// Whether the edits of all rows are done.
+fn does(alloc: Global, editor: &mut Editor<Memory>, rows: &[Row]) -> bool {
+    match edits_of(alloc, rows) {
+        Ok(list) => edits_all(editor, &list),
+        Err(_) => false,
+    }
 }
 
 fn upload(alloc: Global, editor: &mut Editor<Memory>) -> Result<Upload, WriteError<encode::Error>> {
@@ -58,66 +72,121 @@ const DEEP: &[u8] = b"65287d311af712560472fa8404e2cf5180a487ed";
 /// What it answers in the same way for the files `a/b/c` of the first id and `a/e` of the second.
 const BESIDE: &[u8] = b"2784f31e56c1497398af04e6c31bc795f5335fbd";
 
-#[test]
-fn uploaded(rt: HostRuntime) -> Result<(), Fail> {
-    let alloc = rt.alloc();
-    let mut editor = deep_editor(alloc)?;
-    put(alloc, &mut editor, &["a", "b", "d"])?;
-    take(alloc, &mut editor, &["a", "b", "d"])?;
-    assert!(rt; is_upload(alloc, &mut editor, DEEP, 1, 2));
-    put(alloc, &mut editor, &["a", "b", "d"])?;
-    take(alloc, &mut editor, &["a", "b", "d"])?;
-    put(alloc, &mut editor, &["a", "e"])?;
-    assert!(rt; is_upload(alloc, &mut editor, BESIDE, 2, 1));
-    Ok(())
+/// The file `a/b/d` put in and taken out.
+const AND_BACK: &[Row] = &[
+    Row::File(&["a", "b", "d"], SECOND),
+    Row::Remove(&["a", "b", "d"]),
+];
+
+/// Whether what is put in and taken out needs no upload but the root's, and the file `a/e` does.
+fn is_uploaded(alloc: Global, editor: &mut Editor<Memory>) -> bool {
+    does(alloc, editor, AND_BACK)
+        && is_upload(alloc, editor, DEEP, 1, 2)
+        && does(alloc, editor, AND_BACK)
+        && does(alloc, editor, &[Row::File(&["a", "e"], SECOND)])
+        && is_upload(alloc, editor, BESIDE, 2, 1)
+}
+
+/// Whether it is so in an editor of the stored root.
+fn is_uploaded_from_deep(alloc: Global) -> bool {
+    match deep_editor(alloc) {
+        Some(mut editor) => is_uploaded(alloc, &mut editor),
+        None => false,
+    }
 }
 
 #[test]
-fn not_uploaded(rt: HostRuntime) -> Result<(), Fail> {
-    let alloc = rt.alloc();
-    let mut editor = deep_editor(alloc)?;
-    put(alloc, &mut editor, &["a", "e"])?;
-    put(alloc, &mut editor, &["\0"])?;
-    let refused = upload(alloc, &mut editor);
-    assert!(rt; matches!(&refused, Err(WriteError::Out(_))));
-    take(alloc, &mut editor, &["\0"])?;
-    assert!(rt; is_upload(alloc, &mut editor, BESIDE, 2, 0));
-    Ok(())
+fn uploaded(rt: HostRuntime) {
+    assert!(rt; is_uploaded_from_deep(rt.alloc()));
+}
+
+/// Whether an upload is refused as a tree is named.
+fn is_refused(alloc: Global, editor: &mut Editor<Memory>) -> bool {
+    match upload(alloc, editor) {
+        Err(WriteError::Out(_)) => true,
+        _ => false,
+    }
+}
+
+/// The file `a/e`, and one of a name that no tree may have.
+const WITH_ZERO: &[Row] = &[Row::File(&["a", "e"], SECOND), Row::File(&["\0"], SECOND)];
+
+/// Whether a name that no tree may have is refused, and the rest is uploaded where it is taken out.
+fn is_uploaded_at_last(alloc: Global, editor: &mut Editor<Memory>) -> bool {
+    does(alloc, editor, WITH_ZERO)
+        && is_refused(alloc, editor)
+        && does(alloc, editor, &[Row::Remove(&["\0"])])
+        && is_upload(alloc, editor, BESIDE, 2, 0)
+}
+
+/// Whether it is so in an editor of the stored root.
+fn is_refused_from_deep(alloc: Global) -> bool {
+    match deep_editor(alloc) {
+        Some(mut editor) => is_uploaded_at_last(alloc, &mut editor),
+        None => false,
+    }
+}
+
+#[test]
+fn not_uploaded(rt: HostRuntime) {
+    assert!(rt; is_refused_from_deep(rt.alloc()));
 }
 
 /// A file is put in and written, then another beside it, which is taken out again.
+const SCRIPT: &[Row] = &[
+    Row::File(&["a", "b"], FIRST),
+    Row::Write,
+    Row::File(&["a", "c"], FIRST),
+    Row::Write,
+    Row::Remove(&["a", "c"]),
+    Row::Write,
+];
+
+/// The commands of the script.
 fn script(alloc: Global) -> Result<Vec<Command>, AllocError> {
-    let path = path_of(alloc, &["a", "c"])?;
     let mut commands = Vec::new(alloc);
-    commands.push(Command::Edit(upsert(alloc, &["a", "b"], id(FIRST))?))?;
-    commands.push(Command::Edit(Edit::Write))?;
-    commands.push(Command::Edit(upsert(alloc, &["a", "c"], id(FIRST))?))?;
-    commands.push(Command::Edit(Edit::Write))?;
-    commands.push(Command::Edit(Edit::Remove { path }))?;
-    commands.push(Command::Edit(Edit::Write))?;
+    for edit in edits_of(alloc, SCRIPT)? {
+        commands.push(Command::Edit(edit))?;
+    }
     Ok(commands)
 }
 
-/// What is told of the writes of the script at two places.
-fn compared(
+/// What is told of the writes of commands at two places.
+fn compare(
     alloc: Global,
+    commands: Vec<Command>,
     place: usize,
     other: usize,
-) -> Result<Result<bool, CompareError>, AllocError> {
-    let commands = script(alloc)?;
+) -> Result<bool, CompareError> {
     let store = Memory::new(alloc);
     let out = |tree: &Tree| tree.compute_id(alloc, Kind::Sha1);
-    Ok(wrote_the_same(alloc, store, Kind::Sha1, commands, place, other, out))
+    wrote_the_same(alloc, store, Kind::Sha1, commands, place, other, out)
+}
+
+/// Whether the writes of the script at two places are the same. None where that is refused.
+fn compared(alloc: Global, place: usize, other: usize) -> Option<bool> {
+    match script(alloc) {
+        Ok(commands) => compare(alloc, commands, place, other).ok(),
+        Err(_) => None,
+    }
+}
+
+/// Which of two places of the script is told to have no write.
+fn without_write(alloc: Global, place: usize, other: usize) -> Option<usize> {
+    let Ok(commands) = script(alloc) else {
+        return None;
+    };
+    match compare(alloc, commands, place, other) {
+        Err(CompareError::NoWrite { place }) => Some(place),
+        _ => None,
+    }
 }
 
 #[test]
-fn written_twice(rt: HostRuntime) -> Result<(), Fail> {
+fn written_twice(rt: HostRuntime) {
     let alloc = rt.alloc();
-    assert!(rt; compared(alloc, 1, 5)??);
-    assert!(rt; !compared(alloc, 1, 3)??);
-    let edit = compared(alloc, 0, 6)?;
-    assert!(rt; matches!(&edit, Err(CompareError::NoWrite { place: 0 })));
-    let behind = compared(alloc, 1, 6)?;
-    assert!(rt; matches!(&behind, Err(CompareError::NoWrite { place: 6 })));
-    Ok(())
+    assert!(rt; compared(alloc, 1, 5) == Some(true));
+    assert!(rt; compared(alloc, 1, 3) == Some(false));
+    assert!(rt; without_write(alloc, 0, 6) == Some(0));
+    assert!(rt; without_write(alloc, 1, 6) == Some(6));
 }

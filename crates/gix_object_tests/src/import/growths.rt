@@ -2,13 +2,12 @@
 //! imports all of them.
 
 use crate::import::samples::{
-    COMMITS, are_commits, imports, kept_commit, plain_steps, step, told_of,
+    COMMITS, are_commits, are_first_commits, has_all, importer_of, imports, plain_steps, told_by,
 };
-use gix_object::hash::Kind as HashKind;
 use gix_object::import::{ImportError, Importer, Step, Stopped, import_all};
 use gix_object::tree::editor::{Error, WriteError};
 use gix_object::{KeepError, Memory, encode};
-use std::test::Fail;
+use std::alloc::{AllocError, Global};
 
 /// Whether it is told that memory ran out, where it may be.
 fn is_for_memory(error: &ImportError) -> bool {
@@ -24,38 +23,50 @@ fn is_for_memory(error: &ImportError) -> bool {
 
 /// Whether an import stopped only because memory ran out, behind commits that are as ever.
 fn is_cut_off(stopped: &Stopped) -> bool {
-    let before = stopped.done.len();
-    before <= COMMITS.len()
-        && are_commits(&stopped.done, COMMITS.split_at(before).0)
-        && is_for_memory(&stopped.error)
+    are_first_commits(&stopped.done) && is_for_memory(&stopped.error)
+}
+
+/// Whether an importer that stopped refuses a step behind it. No growth is refused any more; where the list had no memory
+/// nothing was done, and the importer goes on.
+fn refuses_more(alloc: Global, importer: &mut Importer<Memory>, stopped: &Stopped) -> bool {
+    match told_by(alloc, importer, "A", &[]) {
+        Some(7) => true,
+        Some(0) => stopped.done.is_empty(),
+        _ => false,
+    }
+}
+
+/// Whether the steps are imported, or cut off, and then imported by a new importer.
+fn imports_or_is_cut_off(alloc: Global, steps: &[Step]) -> bool {
+    let mut importer = importer_of(alloc);
+    match import_all(&mut importer, steps) {
+        Ok(imported) => are_commits(&imported, &COMMITS),
+        Err(stopped) => {
+            is_cut_off(&stopped)
+                && refuses_more(alloc, &mut importer, &stopped)
+                && has_all(alloc, importer.store_mut(), &stopped.done)
+                && imports(&mut importer_of(alloc), steps, &COMMITS)
+        }
+    }
+}
+
+/// The three steps, made again where a growth is refused.
+fn plain_steps_at_last(alloc: Global) -> Result<Vec<Step>, AllocError> {
+    match plain_steps(alloc) {
+        Ok(steps) => Ok(steps),
+        Err(_) => plain_steps(alloc),
+    }
+}
+
+/// Whether the three steps are imported, or cut off, and then imported by a new importer.
+fn imports_plain_at_last(alloc: Global) -> bool {
+    match plain_steps_at_last(alloc) {
+        Ok(steps) => imports_or_is_cut_off(alloc, &steps),
+        Err(_) => false,
+    }
 }
 
 #[test]
-fn three_steps_whatever_is_refused(rt: HostRuntime) -> Result<(), Fail> {
-    let alloc = rt.alloc();
-    let steps = match plain_steps(alloc) {
-        Ok(steps) => steps,
-        Err(_) => plain_steps(alloc)?,
-    };
-    let nothing = match step(alloc, Vec::new(alloc)) {
-        Ok(nothing) => nothing,
-        Err(_) => step(alloc, Vec::new(alloc))?,
-    };
-    let mut importer = Importer::new(alloc, Memory::new(alloc), HashKind::Sha1);
-    match import_all(&mut importer, &steps) {
-        Ok(imported) => assert!(rt; are_commits(&imported, &COMMITS)),
-        Err(stopped) => {
-            assert!(rt; is_cut_off(&stopped));
-            // No growth is refused any more.
-            let behind = told_of(&mut importer, &nothing);
-            // Where the list had no memory nothing was done, and the importer goes on.
-            assert!(rt; behind == 7 || (behind == 0 && stopped.done.is_empty()));
-            for it in &stopped.done {
-                assert!(rt; kept_commit(alloc, importer.store_mut(), it.commit).is_some());
-            }
-            let mut importer = Importer::new(alloc, Memory::new(alloc), HashKind::Sha1);
-            assert!(rt; imports(&mut importer, &steps, &COMMITS));
-        }
-    }
-    Ok(())
+fn three_steps_whatever_is_refused(rt: HostRuntime) {
+    assert!(rt; imports_plain_at_last(rt.alloc()));
 }

@@ -1,71 +1,78 @@
 //! Steps, and what several tests ask of an import.
 
-use crate::samples::{id, upsert};
+use crate::samples::{Row, edits_of, id};
 use bstr::BString;
 use gix_object::actor::Signature;
 use gix_object::date::Time;
-use gix_object::hash::ObjectId;
+use gix_object::hash::{Kind as HashKind, ObjectId};
 use gix_object::import::{ImportError, Imported, Importer, Step, Stopped, import_all};
-use gix_object::tree::EntryKind;
 use gix_object::tree::editor::Edit;
-use gix_object::{Find, Keep, KeepCommit, Kind, compute_hash};
+use gix_object::{Data, Find, Keep, KeepCommit, Kind, Memory, compute_hash};
 use std::alloc::{AllocError, Global};
 
 /// An actor at the beginning of time.
-pub(crate) fn actor(alloc: Global, name: &str) -> Result<Signature, AllocError> {
+fn actor(alloc: Global, name: &str) -> Result<Signature, AllocError> {
+    let name = BString::from_slice(alloc, name.as_bytes())?;
+    let email = BString::from_slice(alloc, b"a@b")?;
     Ok(Signature {
-        name: BString::from_slice(alloc, name.as_bytes())?,
-        email: BString::from_slice(alloc, b"a@b")?,
+        name,
+        email,
         time: Time::default(),
     })
 }
 
 /// A step of these edits by this author, committed by `A`, with the message `hi` and a newline.
-pub(crate) fn step_by(alloc: Global, author: &str, edits: Vec<Edit>) -> Result<Step, AllocError> {
+fn signed_step(alloc: Global, author: Signature, edits: Vec<Edit>) -> Result<Step, AllocError> {
+    let committer = actor(alloc, "A")?;
+    let message = BString::from_slice(alloc, b"hi\n")?;
     Ok(Step {
         edits,
-        author: actor(alloc, author)?,
-        committer: actor(alloc, "A")?,
-        message: BString::from_slice(alloc, b"hi\n")?,
+        author,
+        committer,
+        message,
     })
 }
 
-/// A step of these edits by `A`.
-pub(crate) fn step(alloc: Global, edits: Vec<Edit>) -> Result<Step, AllocError> {
-    step_by(alloc, "A", edits)
+/// A step of the edits of these rows by this author.
+pub(crate) fn step_by(alloc: Global, author: &str, rows: &[Row]) -> Result<Step, AllocError> {
+    let author = actor(alloc, author)?;
+    let edits = edits_of(alloc, rows)?;
+    signed_step(alloc, author, edits)
 }
 
-/// The ids of three blobs.
-#[derive(Drop)]
-pub(crate) struct Blobs {
-    pub(crate) old: ObjectId,
-    pub(crate) new: ObjectId,
-    pub(crate) other: ObjectId,
+/// Steps by `A`, each of the edits of its rows.
+pub(crate) fn steps_of(alloc: Global, list: &[&[Row]]) -> Result<Vec<Step>, AllocError> {
+    let mut steps = Vec::new(alloc);
+    for rows in list {
+        steps.push(step_by(alloc, "A", rows)?)?;
+    }
+    Ok(steps)
 }
+
+const OLD: &[u8] = b"83baae61804e65cc73a7201a7252750c76066a30";
+
+const NEW: &[u8] = b"1f7a7a472abf3dd9643fd615f6da379c4acb3e3a";
+
+const OTHER: &[u8] = b"fa49b077972391ad58037050f2a75f74e3671e92";
 
 /// A file; then another one, and a new version of it; then the first version in a directory.
-pub(crate) fn three_steps(alloc: Global, blobs: &Blobs) -> Result<Vec<Step>, AllocError> {
-    let first = vec![in alloc; upsert(alloc, &["test.txt"], blobs.old)?]?;
-    let second = vec![in alloc;
-        upsert(alloc, &["new.txt"], blobs.other)?,
-        upsert(alloc, &["test.txt"], blobs.new)?,
-    ]?;
-    let third = vec![in alloc; upsert(alloc, &["bak", "test.txt"], blobs.old)?]?;
-    Ok(vec![in alloc;
-        step(alloc, first)?,
-        step(alloc, second)?,
-        step(alloc, third)?,
-    ]?)
-}
+pub(crate) const STEPS: [&[Row]; 3] = [
+    &[Row::File(&["test.txt"], OLD)],
+    &[
+        Row::File(&["new.txt"], OTHER),
+        Row::File(&["test.txt"], NEW),
+    ],
+    &[Row::File(&["bak", "test.txt"], OLD)],
+];
 
 /// The three steps with ids by SHA-1.
 pub(crate) fn plain_steps(alloc: Global) -> Result<Vec<Step>, AllocError> {
-    let blobs = Blobs {
-        old: id(b"83baae61804e65cc73a7201a7252750c76066a30"),
-        new: id(b"1f7a7a472abf3dd9643fd615f6da379c4acb3e3a"),
-        other: id(b"fa49b077972391ad58037050f2a75f74e3671e92"),
-    };
-    three_steps(alloc, &blobs)
+    steps_of(alloc, &STEPS)
+}
+
+/// An importer into an empty store, by SHA-1.
+pub(crate) fn importer_of(alloc: Global) -> Importer<Memory> {
+    Importer::new(alloc, Memory::new(alloc), HashKind::Sha1)
 }
 
 /// What `git commit-tree` answers for the trees of the three steps: the commits.
@@ -91,20 +98,50 @@ pub(crate) fn number(error: &ImportError) -> u8 {
 /// The size of the commit that the store has under this id, whose digest it is. None where memory ran out too.
 pub(crate) fn kept_commit<S: Find>(alloc: Global, store: &S, id: ObjectId) -> Option<usize> {
     let mut buffer = Vec::new(alloc);
-    let Ok(Some(found)) = store.try_find(id.as_oid(), &mut buffer) else {
-        return None;
-    };
-    let digest = compute_hash(found.object_hash, found.kind, found.bytes);
-    (found.kind == Kind::Commit && digest == id).then_some(found.bytes.len())
+    match store.try_find(id.as_oid(), &mut buffer) {
+        Ok(Some(found)) => size_of_commit(&found, id),
+        _ => None,
+    }
 }
 
-/// Whether the first steps were imported as these commits.
+/// The size of the commit of this id; of anything else none.
+fn size_of_commit(found: &Data<'_>, id: ObjectId) -> Option<usize> {
+    if found.kind == Kind::Commit
+        && compute_hash(found.object_hash, found.kind, found.bytes) == id
+    {
+        Some(found.bytes.len())
+    } else {
+        None
+    }
+}
+
+/// Whether these commits have the ids of these hex digits.
 pub(crate) fn are_commits(imported: &[Imported], commits: &[&str]) -> bool {
-    imported.len() == commits.len()
-        && imported
-            .iter()
-            .zip(commits)
-            .all(|(it, hex)| it.commit == id(hex.as_bytes()))
+    if imported.len() != commits.len() {
+        return false;
+    }
+    for (it, hex) in imported.iter().zip(commits) {
+        if it.commit != id(hex.as_bytes()) {
+            return false;
+        }
+    }
+    true
+}
+
+/// Whether these are the first commits of the three steps.
+pub(crate) fn are_first_commits(imported: &[Imported]) -> bool {
+    let count = imported.len();
+    count <= COMMITS.len() && are_commits(imported, COMMITS.split_at(count).0)
+}
+
+/// Whether the store has all commits that were imported.
+pub(crate) fn has_all<S: Find>(alloc: Global, store: &S, imported: &[Imported]) -> bool {
+    for it in imported {
+        if kept_commit(alloc, store, it.commit).is_none() {
+            return false;
+        }
+    }
+    true
 }
 
 /// The number of the refusal of a step, or 0.
@@ -115,12 +152,39 @@ pub(crate) fn told_of<S: Keep + KeepCommit>(importer: &mut Importer<S>, step: &S
     }
 }
 
+/// The number of the refusal of a step of these rows by this author, or 0. None where there is no memory for it.
+pub(crate) fn told_by<S: Keep + KeepCommit>(
+    alloc: Global,
+    importer: &mut Importer<S>,
+    author: &str,
+    rows: &[Row],
+) -> Option<u8> {
+    match step_by(alloc, author, rows) {
+        Ok(step) => Some(told_of(importer, &step)),
+        Err(_) => None,
+    }
+}
+
 /// Where an import of steps comes to a stop.
 pub(crate) fn stop_of<S: Keep + KeepCommit>(
     importer: &mut Importer<S>,
     steps: &[Step],
 ) -> Option<Stopped> {
-    import_all(importer, steps).err()
+    match import_all(importer, steps) {
+        Ok(_) => None,
+        Err(stopped) => Some(stopped),
+    }
+}
+
+/// Where an import of the three steps comes to a stop. None where there is no memory for them.
+pub(crate) fn stop_of_plain<S: Keep + KeepCommit>(
+    alloc: Global,
+    importer: &mut Importer<S>,
+) -> Option<Stopped> {
+    match plain_steps(alloc) {
+        Ok(steps) => stop_of(importer, &steps),
+        Err(_) => None,
+    }
 }
 
 /// Whether all steps are imported, as these commits.
@@ -131,6 +195,17 @@ pub(crate) fn imports<S: Keep + KeepCommit>(
 ) -> bool {
     match import_all(importer, steps) {
         Ok(imported) => are_commits(&imported, commits),
+        Err(_) => false,
+    }
+}
+
+/// Whether the three steps are imported, as their commits.
+pub(crate) fn imports_plain<S: Keep + KeepCommit>(
+    alloc: Global,
+    importer: &mut Importer<S>,
+) -> bool {
+    match plain_steps(alloc) {
+        Ok(steps) => imports(importer, &steps, &COMMITS),
         Err(_) => false,
     }
 }

@@ -1,7 +1,7 @@
 //! A history of 1,000 steps of three edits, as `git fast-import` makes it: `examples/imports.py` has the rule of its steps and
 //! prints the ids. Each commit names the one before it, so the last id alone tells of all of them.
 
-use crate::samples::{id, path_of};
+use crate::samples::id;
 use bstr::BString;
 use gix_object::actor::Signature;
 use gix_object::date::Time;
@@ -11,7 +11,6 @@ use gix_object::tree::EntryKind;
 use gix_object::tree::editor::Edit;
 use gix_object::{Kind, Memory, compute_hash};
 use std::alloc::{AllocError, Global};
-use std::test::Fail;
 
 /// Every hundredth commit, and its tree, by SHA-1.
 const SHA1: [(&str, &str); 10] = [
@@ -63,93 +62,153 @@ const SHA256: (&str, &str) = (
     "eeda10ef318307afc1a34b1613a17f782fc1bfb7510a041fe79af4795eca86e7",
 );
 
+/// Adds a name of a word and a number to a path.
+fn add_name(
+    alloc: Global,
+    path: &mut Vec<BString>,
+    word: &str,
+    number: u32,
+) -> Result<(), AllocError> {
+    let name = format!(in alloc; "{word}{number}")?;
+    path.push(BString::from_slice(alloc, name.as_bytes())?)?;
+    Ok(())
+}
+
 /// A file three directories down.
 fn file_at(alloc: Global, number: u32) -> Result<Vec<BString>, AllocError> {
-    let (first, second, third) = (number % 10, number % 7, number % 50);
-    let first = format!(in alloc; "a{first}")?;
-    let second = format!(in alloc; "b{second}")?;
-    let third = format!(in alloc; "f{third}")?;
-    path_of(alloc, &[first.as_str(), second.as_str(), third.as_str()])
+    let mut path = Vec::new(alloc);
+    add_name(alloc, &mut path, "a", number % 10)?;
+    add_name(alloc, &mut path, "b", number % 7)?;
+    add_name(alloc, &mut path, "f", number % 50)?;
+    Ok(path)
+}
+
+/// The id of a blob of a number and a newline.
+fn blob_of(alloc: Global, hash: HashKind, number: u32) -> Result<ObjectId, AllocError> {
+    let text = format!(in alloc; "{number}\n")?;
+    Ok(compute_hash(hash, Kind::Blob, text.as_bytes()))
+}
+
+/// Puts a file in.
+fn file_edit(alloc: Global, number: u32, id: ObjectId) -> Result<Edit, AllocError> {
+    let path = file_at(alloc, number)?;
+    let kind = EntryKind::Blob;
+    Ok(Edit::Upsert { path, kind, id })
+}
+
+/// Puts a program in.
+fn program_edit(alloc: Global, number: u32, id: ObjectId) -> Result<Edit, AllocError> {
+    let mut path = Vec::new(alloc);
+    add_name(alloc, &mut path, "run", number % 25)?;
+    let kind = EntryKind::BlobExecutable;
+    Ok(Edit::Upsert { path, kind, id })
 }
 
 /// The three edits of a step: two files with the step's number in them, and a file taken out.
 fn edits_of(alloc: Global, hash: HashKind, number: u32) -> Result<Vec<Edit>, AllocError> {
-    let text = format!(in alloc; "{number}\n")?;
-    let id = compute_hash(hash, Kind::Blob, text.as_bytes());
-    let program = number % 25;
-    let program = format!(in alloc; "run{program}")?;
+    let id = blob_of(alloc, hash, number)?;
     let other = number.wrapping_mul(3).wrapping_add(1);
-    Ok(vec![in alloc;
-        Edit::Upsert {
-            path: file_at(alloc, number)?,
-            kind: EntryKind::Blob,
-            id
-        },
-        Edit::Upsert {
-            path: path_of(alloc, &[program.as_str()])?,
-            kind: EntryKind::BlobExecutable,
-            id
-        },
-        Edit::Remove {
-            path: file_at(alloc, other)?
-        },
-    ]?)
+    let mut edits = Vec::new(alloc);
+    edits.push(file_edit(alloc, number, id)?)?;
+    edits.push(program_edit(alloc, number, id)?)?;
+    let path = file_at(alloc, other)?;
+    edits.push(Edit::Remove { path })?;
+    Ok(edits)
 }
 
 fn actor(alloc: Global, name: &[u8], email: &[u8], time: Time) -> Result<Signature, AllocError> {
-    Ok(Signature {
-        name: BString::from_slice(alloc, name)?,
-        email: BString::from_slice(alloc, email)?,
-        time,
-    })
+    let name = BString::from_slice(alloc, name)?;
+    let email = BString::from_slice(alloc, email)?;
+    Ok(Signature { name, email, time })
+}
+
+/// The time of a step, so many seconds east.
+fn time_of(number: u32, offset: i32) -> Time {
+    Time::new(i64::from(number), offset).unwrap_or_default()
+}
+
+fn message_of(alloc: Global, number: u32) -> Result<BString, AllocError> {
+    let message = format!(in alloc; "step {number}\n")?;
+    BString::from_slice(alloc, message.as_bytes())
 }
 
 fn step_of(alloc: Global, hash: HashKind, number: u32) -> Result<Step, AllocError> {
-    let message = format!(in alloc; "step {number}\n")?;
-    let seconds = i64::from(number);
-    let (here, there) = (Time::new(seconds, 0), Time::new(seconds, 5400));
+    let message = message_of(alloc, number)?;
+    let author = actor(alloc, b"A", b"a@b", time_of(number, 0))?;
+    let committer = actor(alloc, b"C O", b"c@d", time_of(number, 5400))?;
+    let edits = edits_of(alloc, hash, number)?;
     Ok(Step {
-        edits: edits_of(alloc, hash, number)?,
-        author: actor(alloc, b"A", b"a@b", here.unwrap_or_default())?,
-        committer: actor(alloc, b"C O", b"c@d", there.unwrap_or_default())?,
-        message: BString::from_slice(alloc, message.as_bytes())?,
+        edits,
+        author,
+        committer,
+        message,
     })
 }
 
-/// What is imported of all steps. None where a step is refused.
-fn imported(alloc: Global, hash: HashKind) -> Result<Option<Vec<Imported>>, AllocError> {
+/// All steps.
+fn all_steps(alloc: Global, hash: HashKind) -> Result<Vec<Step>, AllocError> {
     let mut steps = Vec::new(alloc);
     for number in 0..1000u32 {
         steps.push(step_of(alloc, hash, number)?)?;
     }
+    Ok(steps)
+}
+
+/// What is imported of steps; nothing where one is refused.
+fn imported(alloc: Global, hash: HashKind, steps: &[Step]) -> Vec<Imported> {
     let mut importer = Importer::new(alloc, Memory::new(alloc), hash);
-    Ok(import_all(&mut importer, &steps).ok())
+    match import_all(&mut importer, steps) {
+        Ok(imported) => imported,
+        Err(_) => Vec::new(alloc),
+    }
 }
 
 /// Whether this was imported of a step.
 fn is_row(imported: &[Imported], number: usize, row: (&str, &str)) -> bool {
-    imported.get(number).is_some_and(|it| it.commit == id(row.0.as_bytes())
-        && it.written.id == id(row.1.as_bytes()))
+    match imported.get(number) {
+        Some(it) => it.commit == id(row.0.as_bytes()) && it.written.id == id(row.1.as_bytes()),
+        None => false,
+    }
 }
 
-#[test]
-fn a_thousand_steps(rt: HostRuntime) -> Result<(), Fail> {
-    let Some(imported) = imported(rt.alloc(), HashKind::Sha1)? else {
-        return Err(Fail::from("refused"));
-    };
-    assert!(rt; imported.len() == 1000);
+/// Whether every hundredth step, of a thousand, has its row.
+fn are_rows(imported: &[Imported]) -> bool {
     for (index, row) in SHA1.iter().enumerate() {
         let number = index.saturating_mul(100).saturating_add(99);
-        assert!(rt; is_row(&imported, number, *row), "at {number}");
+        if !is_row(imported, number, *row) {
+            return false;
+        }
     }
-    Ok(())
+    imported.len() == 1000
+}
+
+/// Whether all steps are imported, with the rows by SHA-1.
+fn imports_rows(alloc: Global) -> bool {
+    match all_steps(alloc, HashKind::Sha1) {
+        Ok(steps) => are_rows(&imported(alloc, HashKind::Sha1, &steps)),
+        Err(_) => false,
+    }
 }
 
 #[test]
-fn a_thousand_steps_by_sha256(rt: HostRuntime) -> Result<(), Fail> {
-    let Some(imported) = imported(rt.alloc(), HashKind::Sha256)? else {
-        return Err(Fail::from("refused"));
-    };
-    assert!(rt; imported.len() == 1000 && is_row(&imported, 999, SHA256));
-    Ok(())
+fn a_thousand_steps(rt: HostRuntime) {
+    assert!(rt; imports_rows(rt.alloc()));
+}
+
+/// Whether a thousand steps are there, and the last has its row.
+fn is_last_row(imported: &[Imported]) -> bool {
+    imported.len() == 1000 && is_row(imported, 999, SHA256)
+}
+
+/// Whether all steps are imported, with the row by SHA-256.
+fn imports_by_sha256(alloc: Global) -> bool {
+    match all_steps(alloc, HashKind::Sha256) {
+        Ok(steps) => is_last_row(&imported(alloc, HashKind::Sha256, &steps)),
+        Err(_) => false,
+    }
+}
+
+#[test]
+fn a_thousand_steps_by_sha256(rt: HostRuntime) {
+    assert!(rt; imports_by_sha256(rt.alloc()));
 }

@@ -2,14 +2,13 @@
 //! answer, in a repository of either object format.
 
 use crate::import::samples::{
-    Blobs, COMMITS, are_commits, kept_commit, plain_steps, step_by, three_steps, told_of,
+    COMMITS, STEPS, are_commits, importer_of, kept_commit, steps_of, told_by,
 };
-use crate::samples::id;
+use crate::samples::{Row, id};
 use gix_object::Memory;
 use gix_object::hash::Kind as HashKind;
 use gix_object::import::{Imported, Importer, Step, import_all};
 use std::alloc::Global;
-use std::test::Fail;
 
 /// The trees, how many were handed out, and the size of the commit, of each step.
 const SHA1: [(&str, usize, usize); 3] = [
@@ -42,15 +41,34 @@ const COMMITS_256: [&str; 3] = [
     "053717575a828a7b6e1cdaaed7baa1e3d1552609f87e8e645014269041bcdc9e",
 ];
 
+const OLD: &[u8] = b"58a67ed1c161a4e89a110968310fe31e39920ef68d4c7c7e0d6695797533f50d";
+
+const NEW: &[u8] = b"bd965fae20eb0dd136c5fb90b7c99ea1863ab46bb9a2647be049f38751749e61";
+
+const OTHER: &[u8] = b"6d5fd291bb0f67444e99ab492f1bf1fcdf5dca09dab24cf331e05111b4cfc1a3";
+
+/// The three steps with ids by SHA-256.
+const STEPS_256: [&[Row]; 3] = [
+    &[Row::File(&["test.txt"], OLD)],
+    &[
+        Row::File(&["new.txt"], OTHER),
+        Row::File(&["test.txt"], NEW),
+    ],
+    &[Row::File(&["bak", "test.txt"], OLD)],
+];
+
 /// Whether the trees are these, and so many were handed out.
 fn are_trees(imported: &[Imported], rows: &[(&str, usize, usize)]) -> bool {
-    imported.iter().zip(rows).all(|(it, (tree, count, _))| {
-        it.written.id == id(tree.as_bytes()) && it.written.trees.len() == *count
-    })
+    for (it, (tree, count, _)) in imported.iter().zip(rows) {
+        if it.written.id != id(tree.as_bytes()) || it.written.trees.len() != *count {
+            return false;
+        }
+    }
+    true
 }
 
 /// Whether the steps are imported as these trees and commits.
-fn imports_so(
+fn imports_steps(
     importer: &mut Importer<Memory>,
     steps: &[Step],
     rows: &[(&str, usize, usize)],
@@ -62,6 +80,20 @@ fn imports_so(
     }
 }
 
+/// Whether the steps of a list are imported as these trees and commits.
+fn imports_so(
+    alloc: Global,
+    importer: &mut Importer<Memory>,
+    list: &[&[Row]],
+    rows: &[(&str, usize, usize)],
+    commits: &[&str],
+) -> bool {
+    match steps_of(alloc, list) {
+        Ok(steps) => imports_steps(importer, &steps, rows, commits),
+        Err(_) => false,
+    }
+}
+
 /// Whether a store has these commits, of these sizes.
 fn has_commits(
     alloc: Global,
@@ -69,34 +101,28 @@ fn has_commits(
     rows: &[(&str, usize, usize)],
     commits: &[&str],
 ) -> bool {
-    commits.iter().zip(rows).all(|(hex, (_, _, size))| kept_commit(alloc, store, id(hex.as_bytes()))
-        == Some(*size))
+    for (hex, (_, _, size)) in commits.iter().zip(rows) {
+        if kept_commit(alloc, store, id(hex.as_bytes())) != Some(*size) {
+            return false;
+        }
+    }
+    true
 }
 
 #[test]
-fn three_steps_and_two_refused(rt: HostRuntime) -> Result<(), Fail> {
+fn three_steps_and_two_refused(rt: HostRuntime) {
     let alloc = rt.alloc();
-    let mut importer = Importer::new(alloc, Memory::new(alloc), HashKind::Sha1);
-    assert!(rt; imports_so(&mut importer, &plain_steps(alloc)?, &SHA1, &COMMITS));
-    let fourth = step_by(alloc, "A>", Vec::new(alloc))?;
-    assert!(rt; told_of(&mut importer, &fourth) == 5);
-    let fifth = step_by(alloc, "A", Vec::new(alloc))?;
-    assert!(rt; told_of(&mut importer, &fifth) == 7);
+    let mut importer = importer_of(alloc);
+    assert!(rt; imports_so(alloc, &mut importer, &STEPS, &SHA1, &COMMITS));
+    assert!(rt; told_by(alloc, &mut importer, "A>", &[]) == Some(5));
+    assert!(rt; told_by(alloc, &mut importer, "A", &[]) == Some(7));
     assert!(rt; has_commits(alloc, importer.store_mut(), &SHA1, &COMMITS));
-    Ok(())
 }
 
 #[test]
-fn three_steps_by_sha256(rt: HostRuntime) -> Result<(), Fail> {
+fn three_steps_by_sha256(rt: HostRuntime) {
     let alloc = rt.alloc();
-    let blobs = Blobs {
-        old: id(b"58a67ed1c161a4e89a110968310fe31e39920ef68d4c7c7e0d6695797533f50d"),
-        new: id(b"bd965fae20eb0dd136c5fb90b7c99ea1863ab46bb9a2647be049f38751749e61"),
-        other: id(b"6d5fd291bb0f67444e99ab492f1bf1fcdf5dca09dab24cf331e05111b4cfc1a3"),
-    };
     let mut importer = Importer::new(alloc, Memory::new(alloc), HashKind::Sha256);
-    let steps = three_steps(alloc, &blobs)?;
-    assert!(rt; imports_so(&mut importer, &steps, &SHA256, &COMMITS_256));
+    assert!(rt; imports_so(alloc, &mut importer, &STEPS_256, &SHA256, &COMMITS_256));
     assert!(rt; has_commits(alloc, importer.store_mut(), &SHA256, &COMMITS_256));
-    Ok(())
 }

@@ -1,14 +1,13 @@
 //! Each call to keep a tree or a commit refused in turn.
 
 use crate::import::samples::{
-    COMMITS, are_commits, imports, kept_commit, number, plain_steps, step, stop_of, told_of,
+    are_first_commits, has_all, imports_plain, number, stop_of_plain, told_by,
 };
 use gix_object::Memory;
 use gix_object::hash::Kind as HashKind;
-use gix_object::import::{Importer, import_all};
+use gix_object::import::{Imported, Importer, Stopped};
 use gixobj_find_tests::failing::Failing;
 use std::alloc::Global;
-use std::test::Fail;
 
 /// What is told where the calls at these places are refused: how many steps were imported before, and the calls made, with those
 /// to keep a commit among them. The three steps keep one tree and a commit, again, and two trees and a commit.
@@ -32,47 +31,49 @@ fn counts_of(store: &Failing) -> (u64, u64) {
     (store.keeps(), store.commits())
 }
 
-/// Whether an import stops so, and the importer refuses a step behind it.
-fn stops(
+/// Whether an import was stopped by a call to keep something, behind so many steps.
+fn is_unkept(stopped: &Stopped, before: usize) -> bool {
+    number(&stopped.error) == 4 && stopped.done.len() == before && are_first_commits(&stopped.done)
+}
+
+/// Whether so many calls were made, also after the refusal of a step that comes behind, and the commits are there.
+fn is_left(
     alloc: Global,
-    refused: &'static [u64],
-    before: usize,
+    importer: &mut Importer<Failing>,
+    done: &[Imported],
     counts: (u64, u64),
-) -> Result<bool, Fail> {
-    if before > COMMITS.len() {
-        return Ok(false);
-    }
-    let (commits, _) = COMMITS.split_at(before);
+) -> bool {
+    counts_of(importer.store_mut()) == counts
+        && told_by(alloc, importer, "A", &[]) == Some(7)
+        && counts_of(importer.store_mut()) == counts
+        && has_all(alloc, importer.store_mut(), done)
+}
+
+/// Whether an import stops so, and the importer refuses a step behind it.
+fn stops(alloc: Global, refused: &'static [u64], before: usize, counts: (u64, u64)) -> bool {
     let mut importer = Importer::new(alloc, failing(alloc, refused), HashKind::Sha1);
-    let Some(stopped) = stop_of(&mut importer, &plain_steps(alloc)?) else {
-        return Ok(false);
-    };
-    let told = number(&stopped.error) == 4 && are_commits(&stopped.done, commits);
-    let kept = counts_of(importer.store_mut()) == counts;
-    let failed = told_of(&mut importer, &step(alloc, Vec::new(alloc))?) == 7;
-    let still = counts_of(importer.store_mut()) == counts;
-    let all_there = stopped.done.iter().all(|it| kept_commit(
-        alloc,
-        importer.store_mut(),
-        it.commit,
-    ).is_some());
-    Ok(told && kept && failed && still && all_there)
-}
-
-#[test]
-fn each_keep_refused_in_turn(rt: HostRuntime) -> Result<(), Fail> {
-    let alloc = rt.alloc();
-    for (refused, before, counts) in &ROWS {
-        assert!(rt; stops(alloc, *refused, *before, *counts)?, "at {refused:?}");
+    match stop_of_plain(alloc, &mut importer) {
+        Some(stopped) => {
+            is_unkept(&stopped, before) && is_left(alloc, &mut importer, &stopped.done, counts)
+        }
+        None => false,
     }
-    Ok(())
 }
 
 #[test]
-fn no_keep_refused(rt: HostRuntime) -> Result<(), Fail> {
+fn each_keep_refused_in_turn(rt: HostRuntime) {
+    for (refused, before, counts) in &ROWS {
+        assert!(rt;
+            stops(rt.alloc(), *refused, *before, *counts),
+            "at {refused:?}"
+        );
+    }
+}
+
+#[test]
+fn no_keep_refused(rt: HostRuntime) {
     let alloc = rt.alloc();
     let mut importer = Importer::new(alloc, failing(alloc, &[8]), HashKind::Sha1);
-    assert!(rt; imports(&mut importer, &plain_steps(alloc)?, &COMMITS));
+    assert!(rt; imports_plain(alloc, &mut importer));
     assert!(rt; counts_of(importer.store_mut()) == (7, 3));
-    Ok(())
 }
