@@ -15,9 +15,10 @@ pub(crate) fn tree_token_answer(question: &[u8], answer: &mut Answer) {
     while let Some(entry) = told.next() {
         match entry {
             Ok(entry) => {
+                let end = told.offset_to_next_entry(text);
                 put_entry("token entry", entry, answer);
                 answer.add("at");
-                answer.add_shown(told.offset_to_next_entry(text));
+                answer.add_shown(end);
             }
             Err(error) => answer.put("token", fault(&error)),
         }
