@@ -1,4 +1,5 @@
 //! Answers about loose objects in readable words: read, written, copied, and read again by their kinds.
+ghost use Rattle.gixobj_codec.specs.BorrowedObjects.{HasObjectIds, IsReadyToWrite};
 
 use crate::git_commits::{put_written, text_and_ids};
 use crate::loose_objects::case_of;
@@ -17,7 +18,10 @@ pub(crate) fn loose_answer(question: &[u8], answer: &mut Answer) {
 }
 
 /// The columns of an object.
-fn put_object(object: ObjectRef<'_>, hash_kind: hash::Kind, answer: &mut Answer) {
+fn put_object(object: ObjectRef<'_>, hash_kind: hash::Kind, answer: &mut Answer)
+    requires ready { IsReadyToWrite object }
+    requires ids { HasObjectIds object }
+{
     answer.put_shown("ok", object.kind());
     put_written(&object, b"", "written", answer);
     let mut content = Vec::new(answer.alloc);

@@ -1,4 +1,6 @@
 //! Answers about tags in tables with named rows, many of them of tags of which git tells.
+ghost use Rattle.gixobj_codec.specs.Hash.{IsHexOfAnId};
+ghost use Rattle.gixobj_codec.specs.TagViews.{tag_lines};
 
 mod told;
 
@@ -146,7 +148,9 @@ const OF_OWNED: Words = Words {
 };
 
 /// The columns of what is written of a tag and of its owned form.
-fn put_both_written(tag: TagRef<'_>, hash_kind: hash::Kind, answer: &mut Answer) {
+fn put_both_written(tag: TagRef<'_>, hash_kind: hash::Kind, answer: &mut Answer)
+    requires { IsHexOfAnId (tag_lines tag).target }
+{
     put_written(&tag, hash_kind, OF_TAGS, answer);
     let signature = tag.signature();
     put_owned(tag.into_owned(answer.alloc), signature, hash_kind, answer);
