@@ -1,88 +1,96 @@
 //! Answers of the public calls, as the recorded ones are written.
 
-use crate::recorded::texts::{bytes_of, text_of};
+use crate::recorded::answers::Answer;
+use crate::recorded::texts::{bytes_of, cut};
 use bstr::ByteSlice;
 use gixobj_base::decode::{LooseHeaderDecodeError, ParseIntegerErrorKind, loose_header};
 use gixobj_base::tree::{EntryMode, name_order};
-use std::alloc::{AllocError, Global};
 use std::cmp::Ordering;
 
 /// What `EntryMode::from_bytes` reads.
-pub(crate) fn mode_answer(alloc: Global, question: &[u8]) -> Result<Vec<u8>, AllocError> {
-    let bytes = bytes_of(alloc, question);
+pub(crate) fn mode_answer(question: &[u8], answer: &mut Answer) {
+    let bytes = bytes_of(answer.alloc, question);
     match EntryMode::from_bytes(bytes.as_slice()) {
-        Some(mode) => text_of(alloc, mode_text(alloc, mode)?.as_str()),
-        None => text_of(alloc, "none"),
+        Some(mode) => put_mode(mode, answer),
+        None => answer.put_word("none"),
     }
 }
 
 /// What `EntryMode::try_from` makes of an octal number.
-pub(crate) fn number_answer(alloc: Global, question: &[u8]) -> Result<Vec<u8>, AllocError> {
-    let digits = str::from_utf8(question).unwrap_or("");
-    let number = u32::from_str_radix(digits, 8).unwrap_or(0);
-    match EntryMode::try_from(number) {
-        Ok(mode) => text_of(alloc, mode_text(alloc, mode)?.as_str()),
-        Err(number) => text_of(alloc, format!(in alloc; "err {number}")?.as_str()),
+pub(crate) fn number_answer(question: &[u8], answer: &mut Answer) {
+    match EntryMode::try_from(octal(question)) {
+        Ok(mode) => put_mode(mode, answer),
+        Err(number) => answer.put_shown("err", number),
     }
 }
 
-/// A mode: its text, value, word and tests.
-pub(crate) fn mode_text(alloc: Global, mode: EntryMode) -> Result<String, AllocError> {
+/// The number of octal digits, or 0.
+pub(crate) fn octal(digits: &[u8]) -> u32 {
+    let digits = str::from_utf8(digits).unwrap_or("");
+    u32::from_str_radix(digits, 8).unwrap_or(0)
+}
+
+/// The column of a mode: its text, value, word and tests.
+pub(crate) fn put_mode(mode: EntryMode, answer: &mut Answer) {
+    answer.put_word("ok");
+    add_mode(mode, answer);
+    answer.add_holding(&[
+        (mode.is_tree(), "is-tree"),
+        (mode.is_link(), "is-link"),
+        (mode.is_blob(), "is-blob"),
+        (mode.is_commit(), "is-commit"),
+        (mode.is_executable(), "is-executable"),
+        (mode.is_blob_or_symlink(), "is-blob-or-symlink"),
+        (mode.is_no_tree(), "is-no-tree"),
+    ]);
+}
+
+/// The text, the value and the word of a mode.
+pub(crate) fn add_mode(mode: EntryMode, answer: &mut Answer) {
     let mut buffer = [0; 6];
-    let text = mode.as_bytes(&mut buffer);
-    let text = str::from_utf8(text.as_bytes()).unwrap_or("");
+    answer.push(b" ");
+    answer.push(mode.as_bytes(&mut buffer).as_bytes());
     let value = mode.value();
-    let word = mode.as_str();
-    let mut answer = format!(in alloc; "ok {text} {value:06o} {word}")?;
-    let tests = [
-        (mode.is_tree(), " is-tree"),
-        (mode.is_link(), " is-link"),
-        (mode.is_blob(), " is-blob"),
-        (mode.is_commit(), " is-commit"),
-        (mode.is_executable(), " is-executable"),
-        (mode.is_blob_or_symlink(), " is-blob-or-symlink"),
-        (mode.is_no_tree(), " is-no-tree"),
-    ];
-    for (holds, word) in tests {
-        if holds {
-            answer.push_str(word)?;
-        }
-    }
-    Ok(answer)
+    answer.add_shown(format_args!("{value:06o}"));
+    answer.add(mode.as_str());
 }
 
 /// What `name_order` says of two names with their kinds.
-pub(crate) fn order_answer(alloc: Global, question: &[u8]) -> Result<Vec<u8>, AllocError> {
-    let mut fields = question.split(|byte| *byte == b'\t');
-    let left = bytes_of(alloc, fields.next().unwrap_or(b""));
-    let left_is_tree = fields.next().unwrap_or(b"") == b"tree".as_slice();
-    let right = bytes_of(alloc, fields.next().unwrap_or(b""));
-    let right_is_tree = fields.next().unwrap_or(b"") == b"tree".as_slice();
+pub(crate) fn order_answer(question: &[u8], answer: &mut Answer) {
+    let (left, rest) = cut(question, b'\t');
+    let (left_kind, rest) = cut(rest, b'\t');
+    let (right, right_kind) = cut(rest, b'\t');
+    let left = bytes_of(answer.alloc, left);
+    let right = bytes_of(answer.alloc, right);
     let order = name_order(
         left.as_slice(),
-        left_is_tree,
+        is_tree(left_kind),
         right.as_slice(),
-        right_is_tree,
+        is_tree(right_kind),
     );
-    text_of(
-        alloc,
-        match order {
-            Ordering::Less => "Less",
-            Ordering::Equal => "Equal",
-            Ordering::Greater => "Greater",
-        },
-    )
+    answer.put_word(order_word(order));
+}
+
+/// Whether a word is that of trees.
+fn is_tree(word: &[u8]) -> bool {
+    word == b"tree".as_slice()
+}
+
+/// The word of an order.
+fn order_word(order: Ordering) -> &'static str {
+    match order {
+        Ordering::Less => "Less",
+        Ordering::Equal => "Equal",
+        Ordering::Greater => "Greater",
+    }
 }
 
 /// What `decode::loose_header` reads.
-pub(crate) fn header_answer(alloc: Global, question: &[u8]) -> Result<Vec<u8>, AllocError> {
-    let bytes = bytes_of(alloc, question);
-    match loose_header(alloc, bytes.as_slice()) {
-        Ok((kind, size, used)) => text_of(
-            alloc,
-            format!(in alloc; "ok {kind} {size} {used}")?.as_str(),
-        ),
-        Err(refusal) => text_of(alloc, refusal_text(&refusal)),
+pub(crate) fn header_answer(question: &[u8], answer: &mut Answer) {
+    let bytes = bytes_of(answer.alloc, question);
+    match loose_header(answer.alloc, bytes.as_slice()) {
+        Ok((kind, size, used)) => answer.put_shown("ok", format_args!("{kind} {size} {used}")),
+        Err(refusal) => answer.put_word(refusal_text(&refusal)),
     }
 }
 

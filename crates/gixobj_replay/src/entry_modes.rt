@@ -1,34 +1,32 @@
 //! Answers about modes: those that texts say, that numbers are and that kinds have.
 
-use crate::answers::mode_text;
-use crate::recorded::spelling::{quoted, unspelled};
-use crate::recorded::texts::{Columns, text_of};
-use gixobj_base::parse::split_at_byte;
+use crate::answers::{octal, put_mode};
+use crate::recorded::answers::Answer;
+use crate::recorded::texts::cut;
 use gixobj_base::tree::{EntryKind, EntryMode};
-use std::alloc::{AllocError, Global};
 
 /// What the public calls say of a mode. The question is `text` and a text, `number` and an octal number, or
 /// `kind` and the word of a kind.
-pub(crate) fn entry_mode_answer(alloc: Global, question: &[u8]) -> Result<Vec<u8>, AllocError> {
-    let (form, what) = split_at_byte(question, b' ').unwrap_or((question, b""));
-    let mut columns = Columns::new(alloc);
+pub(crate) fn entry_mode_answer(question: &[u8], answer: &mut Answer) {
+    let (form, what) = cut(question, b' ');
     match form {
-        b"text" => put_text(alloc, unspelled(alloc, what)?.as_slice(), &mut columns)?,
-        b"number" => put_number(alloc, what, &mut columns)?,
-        _ => put_kind(alloc, what, &mut columns)?,
+        b"text" => put_text(what, answer),
+        b"number" => put_number(what, answer),
+        _ => put_kind(what, answer),
     }
-    text_of(alloc, columns.as_str())
 }
 
 /// The columns of the mode that a text says to each call that reads one, and of what follows it.
-fn put_text(alloc: Global, text: &[u8], columns: &mut Columns) -> Result<(), AllocError> {
+fn put_text(text: &[u8], answer: &mut Answer) {
+    let text = answer.unspelled(text);
+    let text = text.as_slice();
     match EntryMode::extract_from_bytes(text) {
         Some((mode, rest)) if reads_as(text, Some(mode)) => {
-            put_mode(alloc, mode, columns)?;
-            columns.put("rest", quoted(alloc, rest)?.as_str())
+            put_mode_of(mode, answer);
+            answer.put_quoted("rest", rest);
         }
-        None if reads_as(text, None) => columns.put_word("none"),
-        _ => columns.put_word("the calls differ"),
+        None if reads_as(text, None) => answer.put_word("none"),
+        _ => answer.put_word("the calls differ"),
     }
 }
 
@@ -38,23 +36,21 @@ fn reads_as(text: &[u8], mode: Option<EntryMode>) -> bool {
 }
 
 /// The columns of the mode that a number is, or the number that is handed back.
-fn put_number(alloc: Global, digits: &[u8], columns: &mut Columns) -> Result<(), AllocError> {
-    let digits = str::from_utf8(digits).unwrap_or("");
-    let number = u32::from_str_radix(digits, 8).unwrap_or(0);
-    match EntryMode::try_from(number) {
-        Ok(mode) => put_mode(alloc, mode, columns),
-        Err(number) => columns.put("err", format!(in alloc; "{number:o}")?.as_str()),
+fn put_number(digits: &[u8], answer: &mut Answer) {
+    match EntryMode::try_from(octal(digits)) {
+        Ok(mode) => put_mode_of(mode, answer),
+        Err(number) => answer.put_shown("err", format_args!("{number:o}")),
     }
 }
 
 /// The columns of the mode of a kind, and the kind's own digits.
-fn put_kind(alloc: Global, word: &[u8], columns: &mut Columns) -> Result<(), AllocError> {
+fn put_kind(word: &[u8], answer: &mut Answer) {
     let Some(kind) = kind_of(word) else {
-        return columns.put_word("no kind");
+        return answer.put_word("no kind");
     };
-    put_mode(alloc, EntryMode::from(kind), columns)?;
+    put_mode_of(EntryMode::from(kind), answer);
     let digits = kind.as_octal_str();
-    columns.put("digits", str::from_utf8(digits.as_bytes()).unwrap_or(""))
+    answer.put("digits", str::from_utf8(digits.as_bytes()).unwrap_or(""));
 }
 
 /// The kind of entries that a word names.
@@ -70,12 +66,12 @@ fn kind_of(word: &[u8]) -> Option<EntryKind> {
 }
 
 /// The columns of a mode, of its kind, and whether it is the kind's own mode.
-fn put_mode(alloc: Global, mode: EntryMode, columns: &mut Columns) -> Result<(), AllocError> {
+fn put_mode_of(mode: EntryMode, answer: &mut Answer) {
     let kind = mode.kind();
-    columns.put_word(mode_text(alloc, mode)?.as_str())?;
-    columns.put("kind", format!(in alloc; "{kind:?}")?.as_str())?;
-    columns.put_holding(&[
+    put_mode(mode, answer);
+    answer.put_shown("kind", format_args!("{kind:?}"));
+    answer.put_holding(&[
         (EntryKind::from(mode) == kind, "same-kind"),
         (EntryMode::from(kind) == mode, "own-mode"),
-    ])
+    ]);
 }

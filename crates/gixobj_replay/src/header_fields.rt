@@ -1,45 +1,43 @@
 //! Answers about header fields, and about what they hold.
 
-use crate::recorded::spelling::{quoted, unspelled};
-use crate::recorded::texts::{fault, kind_of_ids, text_of};
-use gixobj_base::parse::{any_header_field, header_field, hex_hash, signature, split_at_byte};
-use std::alloc::{AllocError, Global};
+use crate::recorded::answers::Answer;
+use crate::recorded::texts::{cut, fault, kind_of_ids};
+use gixobj_base::parse::{any_header_field, header_field, hex_hash, signature};
 
 /// What the public calls say of a text. The question is a call, and what it is given.
-pub(crate) fn header_field_answer(alloc: Global, question: &[u8]) -> Result<Vec<u8>, AllocError> {
-    let (call, what) = split_at_byte(question, b' ').unwrap_or((question, b""));
-    let what = unspelled(alloc, what)?;
+pub(crate) fn header_field_answer(question: &[u8], answer: &mut Answer) {
+    let (call, what) = cut(question, b' ');
+    let what = answer.unspelled(what);
     let text = what.as_slice();
-    let answer = match call {
-        b"any" => any_field(alloc, text)?,
-        b"encoding" => parts_if_some(alloc, header_field(text, b"encoding"))?,
-        b"actor" => parts_if_some(alloc, name_and_time(text))?,
-        _ => hex_text(alloc, call, text)?,
-    };
-    text_of(alloc, answer.as_str())
+    match call {
+        b"any" => put_any_field(text, answer),
+        b"encoding" => put_parts(header_field(text, b"encoding"), answer),
+        b"actor" => put_parts(name_and_time(text), answer),
+        _ => put_hex(call, text, answer),
+    }
 }
 
 /// The header with which a text begins, and what stands behind it.
-fn any_field(alloc: Global, text: &[u8]) -> Result<String, AllocError> {
-    match any_header_field(alloc, text) {
+fn put_any_field(text: &[u8], answer: &mut Answer) {
+    match any_header_field(answer.alloc, text) {
         Ok(((name, value), rest)) => {
-            let name = quoted(alloc, name.as_bytes())?;
-            let value = quoted(alloc, value.as_slice())?;
-            let rest = quoted(alloc, rest)?;
-            format!(in alloc; "{name} {value} {rest}")
+            answer.push_quoted(name.as_bytes());
+            answer.add_quoted(value.as_slice());
+            answer.add_quoted(rest);
         }
-        Err(error) => String::from_str(alloc, fault(&error)),
+        Err(error) => answer.put_word(fault(&error)),
     }
 }
 
 /// Two parts of a text, or `none`.
-fn parts_if_some(alloc: Global, parts: Option<(&[u8], &[u8])>) -> Result<String, AllocError> {
-    let Some((first, second)) = parts else {
-        return String::from_str(alloc, "none");
-    };
-    let first = quoted(alloc, first)?;
-    let second = quoted(alloc, second)?;
-    format!(in alloc; "{first} {second}")
+fn put_parts(parts: Option<(&[u8], &[u8])>, answer: &mut Answer) {
+    match parts {
+        Some((first, second)) => {
+            answer.push_quoted(first);
+            answer.add_quoted(second);
+        }
+        None => answer.put_word("none"),
+    }
 }
 
 /// The name and the time of the actor that fills a line.
@@ -49,9 +47,9 @@ fn name_and_time(line: &[u8]) -> Option<(&[u8], &[u8])> {
 }
 
 /// The text of an id of the kind that a word names, or `none`.
-fn hex_text(alloc: Global, word: &[u8], text: &[u8]) -> Result<String, AllocError> {
+fn put_hex(word: &[u8], text: &[u8], answer: &mut Answer) {
     match hex_hash(text, kind_of_ids(word)) {
-        Some(hex) => quoted(alloc, hex.as_bytes()),
-        None => String::from_str(alloc, "none"),
+        Some(hex) => answer.push_quoted(hex.as_bytes()),
+        None => answer.put_word("none"),
     }
 }

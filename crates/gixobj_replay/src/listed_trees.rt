@@ -1,8 +1,8 @@
 //! Answers about trees that are listed entry by entry. A question has a line for each: mode, id and name.
 
+use crate::recorded::answers::Answer;
 use crate::recorded::objects::put_sizes;
-use crate::recorded::spelling::unspelled;
-use crate::recorded::texts::{Columns, kind_of_ids, text_of, written_text};
+use crate::recorded::texts::{cut, kind_of_ids, outcome_word};
 use bstr::BString;
 use gixobj_base::hash::{self, ObjectId};
 use gixobj_base::parse::split_at_byte;
@@ -12,48 +12,49 @@ use std::alloc::{AllocError, Global};
 
 /// What the public calls write of a tree, its entries put in order, and its id. The question begins with the kind
 /// of ids.
-pub(crate) fn listed_tree_answer(alloc: Global, question: &[u8]) -> Result<Vec<u8>, AllocError> {
-    let (word, entries) = split_at_byte(question, b' ').unwrap_or((question, b""));
-    let mut columns = Columns::new(alloc);
-    match tree_of(alloc, entries)? {
-        Some(mut tree) => {
-            tree.entries.sort()?;
-            put_written(alloc, &tree, kind_of_ids(word), &mut columns)?;
-        }
-        None => columns.put_word("no entries")?,
+pub(crate) fn listed_tree_answer(question: &[u8], answer: &mut Answer) {
+    let (word, entries) = cut(question, b' ');
+    let entries = answer.unspelled(entries);
+    match tree_of(answer.alloc, entries.as_slice()) {
+        Ok(Some(tree)) => put_in_order(tree, kind_of_ids(word), answer),
+        Ok(None) => answer.put_word("no entries"),
+        Err(_) => answer.fail(),
     }
-    text_of(alloc, columns.as_str())
+}
+
+/// The columns of a tree, its entries put in order.
+fn put_in_order(mut tree: Tree, hash_kind: hash::Kind, answer: &mut Answer) {
+    if tree.entries.sort().is_err() {
+        answer.fail();
+    }
+    put_written(&tree, hash_kind, answer);
 }
 
 /// The columns of the id of a tree, of its size, and of what is written of it.
-fn put_written(
-    alloc: Global,
-    tree: &Tree,
-    hash_kind: hash::Kind,
-    columns: &mut Columns,
-) -> Result<(), AllocError> {
-    let mut out = Vec::new(alloc);
-    let outcome = tree.write_to(alloc, &mut out);
+fn put_written(tree: &Tree, hash_kind: hash::Kind, answer: &mut Answer) {
+    let mut out = Vec::new(answer.alloc);
+    let outcome = outcome_word(tree.write_to(answer.alloc, &mut out));
     let id = compute_hash(hash_kind, tree.kind(), out.as_slice());
-    columns.put("id", format!(in alloc; "{id}")?.as_str())?;
-    put_sizes(alloc, tree, "size", "loose", columns)?;
-    let written = written_text(alloc, outcome, out.as_slice())?;
-    columns.put("written", written.as_str())
+    answer.put_shown("id", id);
+    put_sizes(tree, "size", "loose", answer);
+    answer.put("written", outcome);
+    answer.add_hex(out.as_slice());
 }
 
 /// Whether a tree is well-formed, its entries as they stand.
-pub(crate) fn well_formed_answer(alloc: Global, question: &[u8]) -> Result<Vec<u8>, AllocError> {
-    let Some(tree) = tree_of(alloc, question)? else {
-        return text_of(alloc, "no entries");
-    };
-    text_of(alloc, if tree.is_well_formed() { "yes" } else { "no" })
+pub(crate) fn well_formed_answer(question: &[u8], answer: &mut Answer) {
+    let entries = answer.unspelled(question);
+    match tree_of(answer.alloc, entries.as_slice()) {
+        Ok(Some(tree)) => answer.put_word(if tree.is_well_formed() { "yes" } else { "no" }),
+        Ok(None) => answer.put_word("no entries"),
+        Err(_) => answer.fail(),
+    }
 }
 
 /// The tree of these entries, or none where one is no entry.
-fn tree_of(alloc: Global, question: &[u8]) -> Result<Option<Tree>, AllocError> {
-    let text = unspelled(alloc, question)?;
+fn tree_of(alloc: Global, entries: &[u8]) -> Result<Option<Tree>, AllocError> {
     let mut tree = Tree::empty(alloc);
-    for line in text.split(|byte| *byte == b'\n') {
+    for line in entries.split(|byte| *byte == b'\n') {
         match parts_of(line) {
             Some((mode, oid, name)) => tree.entries.push(Entry {
                 mode,

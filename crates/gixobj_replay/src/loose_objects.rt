@@ -1,24 +1,22 @@
 //! Answers about loose objects of any kind, as the recorded ones are written.
 
-use crate::recorded::objects::{put_sizes, written_of};
-use crate::recorded::texts::{Columns, text_and_kind, text_of};
+use crate::recorded::answers::Answer;
+use crate::recorded::objects::{put_sizes, put_written};
+use crate::recorded::texts::text_and_kind;
 use gixobj_base::Kind;
 use gixobj_codec::{LooseDecodeError, ObjectRef};
-use std::alloc::{AllocError, Global};
 
 /// What the public calls say of a loose object that is read and written.
-pub(crate) fn object_answer(alloc: Global, question: &[u8]) -> Result<Vec<u8>, AllocError> {
-    let (bytes, hash_kind) = text_and_kind(alloc, question);
-    let mut columns = Columns::new(alloc);
-    match ObjectRef::from_loose(alloc, bytes.as_slice(), hash_kind) {
+pub(crate) fn object_answer(question: &[u8], answer: &mut Answer) {
+    let (bytes, hash_kind) = text_and_kind(answer.alloc, question);
+    match ObjectRef::from_loose(answer.alloc, bytes.as_slice(), hash_kind) {
         Ok(object) => {
-            columns.put("ok", word_of(object.kind()))?;
-            columns.put("written", written_of(alloc, &object)?.as_str())?;
-            put_sizes(alloc, &object, "size", "loose", &mut columns)?;
+            answer.put("ok", word_of(object.kind()));
+            put_written("written", &object, answer);
+            put_sizes(&object, "size", "loose", answer);
         }
-        Err(error) => columns.put("err", case_of(&error))?,
+        Err(error) => answer.put("err", case_of(&error)),
     }
-    text_of(alloc, columns.as_str())
 }
 
 /// The word of a kind.

@@ -18,7 +18,6 @@ mod kinds;
 mod listed_trees;
 mod loose_objects;
 mod messages;
-mod objects;
 mod programs;
 mod recorded;
 mod reports;

@@ -3,8 +3,8 @@
 mod played;
 mod verified;
 
-use crate::recorded::spelling::spelled;
-use crate::recorded::texts::{fault, kind_of_ids, outcome_word, text_of};
+use crate::recorded::answers::Answer;
+use crate::recorded::texts::{cut, fault, kind_of_ids, outcome_word};
 use crate::reports::format_of;
 use bstr::BString;
 use gixobj_base::parse::split_at_byte;
@@ -14,7 +14,7 @@ use gixobj_signature::signature::sign::{Error, Options};
 use gixobj_text::signature::Format;
 use played::Row;
 use std::alloc::{AllocError, Global};
-use verified::verified_text;
+use verified::put_verified;
 
 /// The kind of an object, that of its ids, the format of the program, and the least trust.
 #[derive(Clone, Copy)]
@@ -34,33 +34,28 @@ struct Program {
 }
 
 /// What comes of signing an object, or of verifying its signature, by the programs' answers in the row.
-pub(crate) fn program_answer(alloc: Global, question: &[u8]) -> Result<Vec<u8>, AllocError> {
+pub(crate) fn program_answer(question: &[u8], answer: &mut Answer) {
     let mut row = Row {
-        alloc,
+        alloc: answer.alloc,
         rest: question,
     };
     let (call, head) = head_of(row.next());
-    let text = row.next_bytes()?;
-    let program = program_of(alloc, &mut row)?;
-    let answer = match call {
-        b"sign" => signed_text(alloc, head, text.as_slice(), program, &mut row)?,
-        _ => verified_text(alloc, head, text.as_slice(), program, &mut row)?,
-    };
-    if row.rest.is_empty() {
-        return text_of(alloc, answer.as_str());
+    let text = answer.unspelled(row.next());
+    match program_of(answer.alloc, &mut row) {
+        Ok(program) => put_call(call, head, text.as_slice(), program, &mut row, answer),
+        Err(_) => answer.fail(),
     }
-    text_of(
-        alloc,
-        format!(in alloc; "{answer}, not all calls")?.as_str(),
-    )
+    if !row.rest.is_empty() {
+        answer.push(b", not all calls");
+    }
 }
 
 /// Whether is signed or verified, and what.
 fn head_of(column: &[u8]) -> (&[u8], Head<'_>) {
-    let (call, rest) = split_at_byte(column, b' ').unwrap_or((column, b""));
-    let (object, rest) = split_at_byte(rest, b' ').unwrap_or((rest, b""));
-    let (ids, rest) = split_at_byte(rest, b' ').unwrap_or((rest, b""));
-    let (format, minimum) = split_at_byte(rest, b' ').unwrap_or((rest, b""));
+    let (call, rest) = cut(column, b' ');
+    let (object, rest) = cut(rest, b' ');
+    let (ids, rest) = cut(rest, b' ');
+    let (format, minimum) = cut(rest, b' ');
     let head = Head {
         object,
         ids: kind_of_ids(ids),
@@ -72,22 +67,21 @@ fn head_of(column: &[u8]) -> (&[u8], Head<'_>) {
 
 /// The program of the next two columns.
 fn program_of(alloc: Global, row: &mut Row<'_>) -> Result<Program, AllocError> {
-    let environment = environment_of(alloc, row.next())?;
-    let words = row.next();
-    let (program, arguments) = match split_at_byte(words, b' ') {
-        Some((program, rest)) => (program, words_of(alloc, rest)?),
-        None => (words, Vec::new(alloc)),
-    };
+    let environment = row.next();
+    let (program, arguments) = cut(row.next(), b' ');
     Ok(Program {
         program: BString::from_slice(alloc, program)?,
-        arguments,
-        environment,
+        arguments: words_of(alloc, arguments)?,
+        environment: environment_of(alloc, environment)?,
     })
 }
 
 /// Words, apart by spaces.
 fn words_of(alloc: Global, column: &[u8]) -> Result<Vec<BString>, AllocError> {
     let mut words = Vec::new(alloc);
+    if column.is_empty() {
+        return Ok(words);
+    }
     for word in column.split(|byte| *byte == b' ') {
         words.push(BString::from_slice(alloc, word)?)?;
     }
@@ -99,22 +93,41 @@ fn environment_of(alloc: Global, column: &[u8]) -> Result<Vec<(BString, BString)
     let mut pairs = Vec::new(alloc);
     for pair in column.split(|byte| *byte == b' ') {
         if let Some((name, value)) = split_at_byte(pair, b'=') {
-            let name = BString::from_slice(alloc, name)?;
-            let value = BString::from_slice(alloc, value)?;
-            pairs.push((name, value))?;
+            pairs.push(pair_of(alloc, name, value)?)?;
         }
     }
     Ok(pairs)
 }
 
-/// What comes of signing an object: what is written of the signed one, or the refusal.
-fn signed_text(
-    alloc: Global,
+/// A name and a value.
+fn pair_of(alloc: Global, name: &[u8], value: &[u8]) -> Result<(BString, BString), AllocError> {
+    let name = BString::from_slice(alloc, name)?;
+    Ok((name, BString::from_slice(alloc, value)?))
+}
+
+/// What comes of a call.
+fn put_call(
+    call: &[u8],
     head: Head<'_>,
     text: &[u8],
     program: Program,
     row: &mut Row<'_>,
-) -> Result<String, AllocError> {
+    answer: &mut Answer,
+) {
+    match call {
+        b"sign" => put_signed(head, text, program, row, answer),
+        _ => put_verified(head, text, program, row, answer),
+    }
+}
+
+/// What comes of signing an object: what is written of the signed one, or the refusal.
+fn put_signed(
+    head: Head<'_>,
+    text: &[u8],
+    program: Program,
+    row: &mut Row<'_>,
+    answer: &mut Answer,
+) {
     let Program {
         program,
         arguments,
@@ -124,69 +137,67 @@ fn signed_text(
         format: head.format,
         program,
         program_arguments: arguments,
-        signing_key: BString::new(row.next_bytes()?),
+        signing_key: BString::new(answer.unspelled(row.next())),
         environment,
     };
     let _revoked = row.next();
     let _time = row.next();
     match head.object {
-        b"tag" => signed_tag(alloc, text, head.ids, options, row),
-        _ => signed_commit(alloc, text, head.ids, options, row),
+        b"tag" => put_signed_tag(text, head.ids, options, row, answer),
+        _ => put_signed_commit(text, head.ids, options, row, answer),
     }
 }
 
 /// The same of a commit.
-fn signed_commit(
-    alloc: Global,
+fn put_signed_commit(
     text: &[u8],
     ids: hash::Kind,
     options: Options,
     row: &mut Row<'_>,
-) -> Result<String, AllocError> {
-    match CommitRef::from_bytes(alloc, text, ids) {
-        Ok(commit) => match commit.sign(alloc, options, row) {
-            Ok(signed) => written_text(alloc, &signed),
-            Err(error) => refusal_text(alloc, &error),
+    answer: &mut Answer,
+) {
+    match CommitRef::from_bytes(answer.alloc, text, ids) {
+        Ok(commit) => match commit.sign(answer.alloc, options, row) {
+            Ok(signed) => put_written(&signed, answer),
+            Err(error) => put_refusal(&error, answer),
         },
-        Err(error) => String::from_str(alloc, fault(&error)),
+        Err(error) => answer.put_word(fault(&error)),
     }
 }
 
 /// The same of a tag.
-fn signed_tag(
-    alloc: Global,
+fn put_signed_tag(
     text: &[u8],
     ids: hash::Kind,
     options: Options,
     row: &mut Row<'_>,
-) -> Result<String, AllocError> {
+    answer: &mut Answer,
+) {
     match TagRef::from_bytes(text, ids) {
-        Ok(tag) => match tag.sign(alloc, options, row) {
-            Ok(signed) => written_text(alloc, &signed),
-            Err(error) => refusal_text(alloc, &error),
+        Ok(tag) => match tag.sign(answer.alloc, options, row) {
+            Ok(signed) => put_written(&signed, answer),
+            Err(error) => put_refusal(&error, answer),
         },
-        Err(error) => String::from_str(alloc, fault(&error)),
+        Err(error) => answer.put_word(fault(&error)),
     }
 }
 
 /// What is written of an object.
-fn written_text<T: WriteTo>(alloc: Global, object: &T) -> Result<String, AllocError>
+fn put_written<T: WriteTo>(object: &T, answer: &mut Answer)
     requires { T.can_write object.now }
 {
-    let mut out = Vec::new(alloc);
-    let word = outcome_word(object.write_to(alloc, &mut out));
-    let text = spelled(alloc, out.as_slice())?;
-    format!(in alloc; "{word} {text}")
+    let mut out = Vec::new(answer.alloc);
+    let outcome = outcome_word(object.write_to(answer.alloc, &mut out));
+    answer.put_spelled(outcome, out.as_slice());
 }
 
 /// Why nothing is signed.
-fn refusal_text(alloc: Global, error: &Error) -> Result<String, AllocError> {
+fn put_refusal(error: &Error, answer: &mut Answer) {
     match error {
         Error::Failed { program, output } => {
-            let program = spelled(alloc, program.as_bytes())?;
-            let output = spelled(alloc, output.as_bytes())?;
-            format!(in alloc; "err Failed {program} {output}")
+            answer.put_spelled("err Failed", program.as_bytes());
+            answer.add_spelled(output.as_bytes());
         }
-        error => format!(in alloc; "err {error}"),
+        error => answer.put_shown("err", error),
     }
 }

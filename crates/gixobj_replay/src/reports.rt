@@ -1,40 +1,51 @@
 //! Answers about what verifiers report, and about markers of signatures, as the recorded ones are written.
 
-use crate::recorded::texts::{Columns, bytes_of, hex_of, text_of};
+use crate::recorded::answers::Answer;
+use crate::recorded::texts::{bytes_of, cut};
 use crate::tags::format_word;
 use bstr::BString;
 use gixobj_base::OutOfMemory;
-use gixobj_base::parse::split_at_byte;
 use gixobj_signature::signature::verify::{
     Outcome, TrustLevel, parse_gpg_output, parse_ssh_output,
 };
 use gixobj_text::signature::{Format, find};
-use std::alloc::{AllocError, Global};
+use std::alloc::Global;
 
 /// What people are told in each report of OpenPGP and of X.509.
 const TOLD: &[u8] = b"told";
 
 /// What the public calls say of a report of OpenPGP or of X.509.
-pub(crate) fn gpg_report_answer(alloc: Global, question: &[u8]) -> Result<Vec<u8>, AllocError> {
-    let (format, raw) = split_at_byte(question, b' ').unwrap_or((question, b""));
-    let raw = bytes_of(alloc, raw);
-    let mut columns = Columns::new(alloc);
-    match gpg_outcome(alloc, format_of(format), raw.as_slice()) {
-        Ok(outcome) => {
-            put_status(alloc, &outcome, &mut columns)?;
-            columns.put_word(level_word(outcome.trust_level))?;
-            put_if_some(alloc, &outcome.key, &mut columns)?;
-            put_if_some(alloc, &outcome.signer, &mut columns)?;
-            put_if_some(alloc, &outcome.fingerprint, &mut columns)?;
-            put_if_some(alloc, &outcome.primary_key_fingerprint, &mut columns)?;
-            let is_whole = outcome.format == format_of(format)
-                && outcome.output.as_bytes() == TOLD
-                && outcome.raw_output.as_bytes() == raw.as_slice();
-            columns.put_holding(&[(!is_whole, "another"), (outcome.is_valid(), "valid")])?;
-        }
-        Err(OutOfMemory) => columns.put_word("out of memory")?,
+pub(crate) fn gpg_report_answer(question: &[u8], answer: &mut Answer) {
+    let (format, raw) = cut(question, b' ');
+    let format = format_of(format);
+    let raw = bytes_of(answer.alloc, raw);
+    match gpg_outcome(answer.alloc, format, raw.as_slice()) {
+        Ok(outcome) => put_gpg_outcome(&outcome, format, raw.as_slice(), answer),
+        Err(OutOfMemory) => answer.fail(),
     }
-    text_of(alloc, columns.as_str())
+}
+
+/// The columns of an outcome of OpenPGP or of X.509.
+fn put_gpg_outcome(outcome: &Outcome, format: Format, raw: &[u8], answer: &mut Answer) {
+    put_status(outcome, answer);
+    answer.put_word(level_word(outcome.trust_level));
+    put_if_some(&outcome.key, answer);
+    put_if_some(&outcome.signer, answer);
+    put_if_some(&outcome.fingerprint, answer);
+    put_if_some(&outcome.primary_key_fingerprint, answer);
+    put_validity(outcome, is_of_gpg(outcome, format, raw), answer);
+}
+
+/// Whether an outcome has this format, what people are told, and the raw report.
+fn is_of_gpg(outcome: &Outcome, format: Format, raw: &[u8]) -> bool {
+    outcome.format == format
+        && outcome.output.as_bytes() == TOLD
+        && outcome.raw_output.as_bytes() == raw
+}
+
+/// The columns of whether an outcome is another than the report's, and of whether it is valid.
+fn put_validity(outcome: &Outcome, is_whole: bool, answer: &mut Answer) {
+    answer.put_holding(&[(!is_whole, "another"), (outcome.is_valid(), "valid")]);
 }
 
 /// The outcome of a report of OpenPGP or of X.509.
@@ -45,32 +56,35 @@ fn gpg_outcome(alloc: Global, format: Format, raw: &[u8]) -> Result<Outcome, Out
 }
 
 /// What the public calls say of a report of SSH.
-pub(crate) fn ssh_report_answer(alloc: Global, question: &[u8]) -> Result<Vec<u8>, AllocError> {
-    let (trust, rest) = split_at_byte(question, b' ').unwrap_or((question, b""));
-    let (signer, output) = split_at_byte(rest, b' ').unwrap_or((rest, b""));
+pub(crate) fn ssh_report_answer(question: &[u8], answer: &mut Answer) {
+    let (trust, rest) = cut(question, b' ');
+    let (signer, output) = cut(rest, b' ');
     let trust = level_of(trust);
     let signer = SignerColumn {
         is_there: signer != b"-".as_slice(),
-        bytes: bytes_of(alloc, signer),
+        bytes: bytes_of(answer.alloc, signer),
     };
-    let output = bytes_of(alloc, output);
-    let mut columns = Columns::new(alloc);
-    match ssh_outcome(alloc, trust, &signer, output.as_slice()) {
+    let output = bytes_of(answer.alloc, output);
+    match ssh_outcome(answer.alloc, trust, &signer, output.as_slice()) {
         Ok(outcome) => {
-            put_status(alloc, &outcome, &mut columns)?;
-            put_if_some(alloc, &outcome.key, &mut columns)?;
-            let is_whole = outcome.format == Format::Ssh
-                && outcome.trust_level == trust
-                && outcome.key == outcome.fingerprint
-                && outcome.primary_key_fingerprint.is_none()
+            put_status(&outcome, answer);
+            put_if_some(&outcome.key, answer);
+            let is_whole = outcome.trust_level == trust
                 && signer.is(&outcome.signer)
-                && outcome.output.as_bytes() == output.as_slice()
-                && outcome.raw_output.as_bytes() == output.as_slice();
-            columns.put_holding(&[(!is_whole, "another"), (outcome.is_valid(), "valid")])?;
+                && is_of_ssh(&outcome, output.as_slice());
+            put_validity(&outcome, is_whole, answer);
         }
-        Err(OutOfMemory) => columns.put_word("out of memory")?,
+        Err(OutOfMemory) => answer.fail(),
     }
-    text_of(alloc, columns.as_str())
+}
+
+/// Whether an outcome has the format of SSH, this output, and no other key.
+fn is_of_ssh(outcome: &Outcome, output: &[u8]) -> bool {
+    outcome.format == Format::Ssh
+        && outcome.key == outcome.fingerprint
+        && outcome.primary_key_fingerprint.is_none()
+        && outcome.output.as_bytes() == output
+        && outcome.raw_output.as_bytes() == output
 }
 
 /// The signer of a question.
@@ -111,30 +125,28 @@ fn ssh_outcome(
 }
 
 /// The column of a status.
-fn put_status(alloc: Global, outcome: &Outcome, columns: &mut Columns) -> Result<(), AllocError> {
-    columns.put_word(format!(in alloc; "{:?}", outcome.status)?.as_str())
+fn put_status(outcome: &Outcome, answer: &mut Answer) {
+    let status = outcome.status;
+    answer.put_column();
+    answer.push_shown(format_args!("{status:?}"));
 }
 
 /// The column of a text that may be missing.
-fn put_if_some(
-    alloc: Global,
-    text: &Option<BString>,
-    columns: &mut Columns,
-) -> Result<(), AllocError> {
+fn put_if_some(text: &Option<BString>, answer: &mut Answer) {
+    answer.put_column();
     match text {
-        Some(text) => columns.put_word(hex_of(alloc, text.as_bytes())?.as_str()),
-        None => columns.put_word("-"),
+        Some(text) => answer.push_hex(text.as_bytes()),
+        None => answer.push(b"-"),
     }
 }
 
 /// What the public calls say of the name of a level of trust.
-pub(crate) fn trust_answer(alloc: Global, question: &[u8]) -> Result<Vec<u8>, AllocError> {
-    let name = bytes_of(alloc, question);
-    let word = match TrustLevel::from_bytes(name.as_slice()) {
-        Some(level) => level_word(level),
-        None => "none",
-    };
-    text_of(alloc, word)
+pub(crate) fn trust_answer(question: &[u8], answer: &mut Answer) {
+    let name = bytes_of(answer.alloc, question);
+    match TrustLevel::from_bytes(name.as_slice()) {
+        Some(level) => answer.put_word(level_word(level)),
+        None => answer.put_word("none"),
+    }
 }
 
 /// The name of a level.
@@ -169,14 +181,13 @@ pub(crate) fn format_of(word: &[u8]) -> Format {
 }
 
 /// What the public calls say of a text: the place of its last marker, and the format.
-pub(crate) fn marker_answer(alloc: Global, question: &[u8]) -> Result<Vec<u8>, AllocError> {
-    let text = bytes_of(alloc, question);
-    let answer = match find(text.as_slice()) {
+pub(crate) fn marker_answer(question: &[u8], answer: &mut Answer) {
+    let text = bytes_of(answer.alloc, question);
+    match find(text.as_slice()) {
         Some((place, format)) => {
-            let word = format_word(format);
-            format!(in alloc; "{place} {word}")?
+            answer.push_shown(place);
+            answer.add(format_word(format));
         }
-        None => String::from_str(alloc, "none")?,
-    };
-    text_of(alloc, answer.as_str())
+        None => answer.put_word("none"),
+    }
 }

@@ -1,57 +1,52 @@
 //! Answers about signatures found in the texts of commits and tags, and what they sign, as the recorded ones are
 //! written.
 
-use crate::recorded::texts::{bytes_of, fault, hex_of, kind_of_ids, text_of};
+use crate::recorded::answers::Answer;
+use crate::recorded::texts::{bytes_of, cut, fault, kind_of_ids};
 use crate::tags::format_word;
-use bstr::BString;
 use gixobj_base::hash::Kind;
-use gixobj_base::parse::split_at_byte;
 use gixobj_codec::{CommitRefIter, TagRefIter};
 use gixobj_signature::signature::SignedData;
-use std::alloc::{AllocError, Global};
 
 /// What the public calls say of a text: the signature and what it signs, none, or why it isn't read.
-pub(crate) fn signed_data_answer(alloc: Global, question: &[u8]) -> Result<Vec<u8>, AllocError> {
-    let (word, rest) = split_at_byte(question, b' ').unwrap_or((question, b""));
-    let (text, kind) = split_at_byte(rest, b' ').unwrap_or((rest, b""));
-    let bytes = bytes_of(alloc, text);
-    let answer = match word {
-        b"tag" => tag_text(alloc, bytes.as_slice())?,
-        _ => commit_text(alloc, bytes.as_slice(), kind_of_ids(kind))?,
-    };
-    text_of(alloc, answer.as_str())
+pub(crate) fn signed_data_answer(question: &[u8], answer: &mut Answer) {
+    let (word, rest) = cut(question, b' ');
+    let (text, kind) = cut(rest, b' ');
+    let bytes = bytes_of(answer.alloc, text);
+    match word {
+        b"tag" => put_tag(bytes.as_slice(), answer),
+        _ => put_commit(bytes.as_slice(), kind_of_ids(kind), answer),
+    }
 }
 
 /// The same of a commit.
-fn commit_text(alloc: Global, bytes: &[u8], kind: Kind) -> Result<String, AllocError> {
-    match CommitRefIter::signature(alloc, bytes, kind) {
+fn put_commit(bytes: &[u8], kind: Kind, answer: &mut Answer) {
+    match CommitRefIter::signature(answer.alloc, bytes, kind) {
         Ok(Some((signature, signed))) => {
-            let signature = hex_of(alloc, signature.as_slice())?;
-            let signed = signed_text(alloc, signed)?;
-            format!(in alloc; "ok {signature} {signed}")
+            answer.put_hex("ok", signature.as_slice());
+            add_signed(signed, answer);
         }
-        Ok(None) => String::from_str(alloc, "none"),
-        Err(error) => String::from_str(alloc, fault(&error)),
+        Ok(None) => answer.put_word("none"),
+        Err(error) => answer.put_word(fault(&error)),
     }
 }
 
 /// The same of a tag, with the format of its signature.
-fn tag_text(alloc: Global, bytes: &[u8]) -> Result<String, AllocError> {
+fn put_tag(bytes: &[u8], answer: &mut Answer) {
     match TagRefIter::signature(bytes) {
         Some((signature, signed)) => {
-            let word = format_word(signature.format);
-            let signature = hex_of(alloc, signature.bytes.as_bytes())?;
-            let signed = signed_text(alloc, signed)?;
-            format!(in alloc; "ok {word} {signature} {signed}")
+            answer.put("ok", format_word(signature.format));
+            answer.add_hex(signature.bytes.as_bytes());
+            add_signed(signed, answer);
         }
-        None => String::from_str(alloc, "none"),
+        None => answer.put_word("none"),
     }
 }
 
 /// What is signed.
-fn signed_text(alloc: Global, signed: SignedData<'_>) -> Result<String, AllocError> {
-    let bytes = signed
-        .to_bstring(alloc)
-        .unwrap_or(BString::new(Vec::new(alloc)));
-    hex_of(alloc, bytes.as_bytes())
+fn add_signed(signed: SignedData<'_>, answer: &mut Answer) {
+    match signed.to_bstring(answer.alloc) {
+        Ok(bytes) => answer.add_hex(bytes.as_bytes()),
+        Err(_) => answer.fail(),
+    }
 }

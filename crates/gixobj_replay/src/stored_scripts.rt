@@ -1,26 +1,29 @@
 //! Answers about scripts of edits that are run over a store of objects: what is told of one, and why directories weren't
 //! found.
 
-use crate::recorded::spelling::{spelled, unspelled};
-use crate::recorded::texts::{bytes_of, kind_of_ids, text_of};
-use gixobj_base::parse::split_at_byte;
+use crate::recorded::answers::Answer;
+use crate::recorded::texts::{bytes_of, cut, kind_of_ids};
 use gixobj_base::{Kind, OutOfMemory, Tree, encode, hash};
 use gixobj_editor::editor::{Editor, Error};
-use gixobj_editor::{EditReply, Reply, run};
+use gixobj_editor::{Command, EditReply, Reply, run};
 use gixobj_find::Memory;
 use gixobj_find::find::existing_object;
 use gixobj_script::{read_script, told_lines};
-use std::alloc::{AllocError, Global};
+use std::alloc::Global;
 
 /// What is told of a script, run on the empty root over a store of these objects, and the cause of each directory that
 /// wasn't found. The question is the kind of the ids, the objects, and the script.
-pub(crate) fn stored_script_answer(alloc: Global, question: &[u8]) -> Result<Vec<u8>, AllocError> {
-    let (word, rest) = split_at_byte(question, b'\t').unwrap_or((question, b""));
-    let (objects, script) = split_at_byte(rest, b'\t').unwrap_or((rest, b""));
-    let script = unspelled(alloc, script)?;
-    match told_of(alloc, objects, script.as_slice(), kind_of_ids(word)) {
-        Ok(told) => text_of(alloc, spelled(alloc, told.as_slice())?.as_str()),
-        Err(_) => Err(AllocError),
+pub(crate) fn stored_script_answer(question: &[u8], answer: &mut Answer) {
+    let (word, rest) = cut(question, b'\t');
+    let (objects, script) = cut(rest, b'\t');
+    let hash_kind = kind_of_ids(word);
+    let script = answer.unspelled(script);
+    let Ok(commands) = read_script(answer.alloc, script.as_slice(), hash_kind) else {
+        return answer.put_word("no script");
+    };
+    match store_of(answer.alloc, objects, hash_kind) {
+        Ok(store) => put_run(store, commands, hash_kind, answer),
+        Err(OutOfMemory) => answer.fail(),
     }
 }
 
@@ -40,37 +43,35 @@ fn store_of(alloc: Global, objects: &[u8], hash_kind: hash::Kind) -> Result<Memo
     Ok(store)
 }
 
-/// What is told of a script that is run over these objects, and the line of the causes.
-fn told_of(
-    alloc: Global,
-    objects: &[u8],
-    script: &[u8],
-    hash_kind: hash::Kind,
-) -> Result<Vec<u8>, OutOfMemory> {
-    let store = store_of(alloc, objects, hash_kind)?;
+/// What is told of commands that are run over a store.
+fn put_run(store: Memory, commands: Vec<Command>, hash_kind: hash::Kind, answer: &mut Answer) {
+    let alloc = answer.alloc;
     let mut editor = Editor::new(Tree::empty(alloc), store, hash_kind);
-    let Ok(commands) = read_script(alloc, script, hash_kind) else {
-        return Ok(Vec::from_slice(alloc, b"no script")?);
-    };
     let out = |tree: &Tree| tree.compute_id(alloc, hash_kind);
-    let replies = run(alloc, &mut editor, commands, out)?;
-    let causes = causes_of(alloc, &replies)?;
-    let mut told = told_lines(alloc, &replies, editor.lookups())?;
-    told.extend_from_slice(causes.as_bytes())?;
-    Ok(told)
+    match run(alloc, &mut editor, commands, out) {
+        Ok(replies) => put_told(&replies, editor.lookups(), answer),
+        Err(OutOfMemory) => answer.fail(),
+    }
+}
+
+/// What is told of replies, and the line of the causes.
+fn put_told(replies: &[Reply<encode::Error>], lookups: u64, answer: &mut Answer) {
+    match told_lines(answer.alloc, replies, lookups) {
+        Ok(told) => answer.push_spelled(told.as_slice()),
+        Err(OutOfMemory) => answer.fail(),
+    }
+    push_causes(replies, answer);
 }
 
 /// A line of the word `causes`, and the cause of each directory that wasn't found.
-fn causes_of(alloc: Global, replies: &[Reply<encode::Error>]) -> Result<String, AllocError> {
-    let mut text = String::from_str(alloc, "causes")?;
+fn push_causes(replies: &[Reply<encode::Error>], answer: &mut Answer) {
+    answer.push(b"causes");
     for reply in replies {
         if let Some(word) = cause_in(reply) {
-            text.push_str(" ")?;
-            text.push_str(word)?;
+            answer.add(word);
         }
     }
-    text.push_str("\n")?;
-    Ok(text)
+    answer.push(b"\\n");
 }
 
 /// The cause in a reply, if there is one.

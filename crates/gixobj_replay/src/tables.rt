@@ -7,13 +7,13 @@ mod scripts;
 mod signatures;
 mod tags;
 
+use crate::recorded::answers::Answer;
 use crate::recorded::tables::Recorded;
 use commits::CommitTable;
 use fields::FieldTable;
 use objects::ObjectTable;
 use scripts::ScriptTable;
 use signatures::SignatureTable;
-use std::alloc::{AllocError, Global};
 use tags::TagTable;
 
 /// A file of recorded answers.
@@ -100,14 +100,14 @@ impl Recorded for Table {
         }
     }
 
-    fn answer(self, alloc: Global, question: &[u8]) -> Result<Vec<u8>, AllocError> {
+    fn put_answer(self, question: &[u8], answer: &mut Answer) {
         match self {
-            Table::Field(table) => table.answer(alloc, question),
-            Table::Commit(table) => table.answer(alloc, question),
-            Table::Tag(table) => table.answer(alloc, question),
-            Table::Signature(table) => table.answer(alloc, question),
-            Table::Object(table) => table.answer(alloc, question),
-            Table::Script(table) => table.answer(alloc, question),
+            Table::Field(table) => table.put_answer(question, answer),
+            Table::Commit(table) => table.put_answer(question, answer),
+            Table::Tag(table) => table.put_answer(question, answer),
+            Table::Signature(table) => table.put_answer(question, answer),
+            Table::Object(table) => table.put_answer(question, answer),
+            Table::Script(table) => table.put_answer(question, answer),
         }
     }
 

@@ -2,13 +2,10 @@
 
 mod told;
 
-use crate::actors::{actor_after, owned_text};
-use crate::objects::id_text;
-use crate::recorded::objects::{put_sizes, written_of};
-use crate::recorded::texts::{
-    Columns, bytes_of, fault, hex_of, name_fault, outcome_word, text_and_kind, text_of,
-};
-use crate::texts::{hex_after, hex_if_some};
+use crate::actors::{add_actor, add_owned};
+use crate::recorded::answers::Answer;
+use crate::recorded::objects::{put_sizes, put_written};
+use crate::recorded::texts::{bytes_of, fault, name_fault, outcome_word, text_and_kind};
 use bstr::BStr;
 use gixobj_base::actor::{Signature, SignatureRef};
 use gixobj_base::{decode, encode};
@@ -16,63 +13,62 @@ use gixobj_codec::tag::write;
 use gixobj_codec::{Tag, TagRef};
 use gixobj_text::signature;
 use gixobj_text::signature::Format;
-use std::alloc::{AllocError, Global};
 pub(crate) use told::tag_token_answer;
 
 /// What the public calls say of a tag that is read whole, written and copied.
-pub(crate) fn tag_answer(alloc: Global, question: &[u8]) -> Result<Vec<u8>, AllocError> {
-    let (bytes, hash_kind) = text_and_kind(alloc, question);
-    let mut columns = Columns::new(alloc);
+pub(crate) fn tag_answer(question: &[u8], answer: &mut Answer) {
+    let (bytes, hash_kind) = text_and_kind(answer.alloc, question);
     match TagRef::from_bytes(bytes.as_slice(), hash_kind) {
         Ok(tag) => {
-            columns.put("whole", "ok")?;
-            let target = id_text(alloc, tag.target, tag.target())?;
-            columns.put("target", target.as_str())?;
-            put_fields(alloc, &tag, &mut columns)?;
-            columns.put("written", written_of(alloc, &tag)?.as_str())?;
-            put_sizes(alloc, &tag, "size", "loose", &mut columns)?;
-            put_owned(alloc, tag.into_owned(alloc), &mut columns)?;
+            answer.put("whole", "ok");
+            answer.put_hex("target", tag.target.as_bytes());
+            answer.add_shown(tag.target());
+            put_fields(&tag, answer);
+            put_written("written", &tag, answer);
+            put_sizes(&tag, "size", "loose", answer);
+            put_owned(tag.into_owned(answer.alloc), answer);
         }
-        Err(error) => columns.put("whole", fault(&error))?,
+        Err(error) => answer.put("whole", fault(&error)),
     }
-    text_of(alloc, columns.as_str())
 }
 
 /// The columns of the fields but the target.
-fn put_fields(alloc: Global, tag: &TagRef<'_>, columns: &mut Columns) -> Result<(), AllocError> {
-    let kind = tag.target_kind;
-    columns.put("target-kind", format!(in alloc; "{kind}")?.as_str())?;
-    columns.put("name", hex_of(alloc, tag.name.as_bytes())?.as_str())?;
-    columns.put("tagger", hex_if_some(alloc, tag.tagger)?.as_str())?;
-    columns.put("tagger-trim", tagger_text(alloc, tag.tagger())?.as_str())?;
-    columns.put("message", hex_of(alloc, tag.message.as_bytes())?.as_str())?;
-    columns.put("signature", hex_if_some(alloc, tag.signature)?.as_str())?;
-    let signature = signature_text(alloc, tag.signature())?;
-    columns.put("signature-format", signature.as_str())
+fn put_fields(tag: &TagRef<'_>, answer: &mut Answer) {
+    answer.put_shown("target-kind", tag.target_kind);
+    answer.put_hex("name", tag.name.as_bytes());
+    answer.put_hex_if_some("tagger", tag.tagger);
+    put_tagger("tagger-trim", tag.tagger(), answer);
+    answer.put_hex("message", tag.message.as_bytes());
+    answer.put_hex_if_some("signature", tag.signature);
+    put_signature(tag.signature(), answer);
 }
 
-/// A tagger, or that there is none, or the fault of its line.
-pub(crate) fn tagger_text(
-    alloc: Global,
+/// The column of a tagger, that there is none, or the fault of its line.
+pub(crate) fn put_tagger(
+    word: &str,
     tagger: Result<Option<SignatureRef<'_>>, decode::Error>,
-) -> Result<String, AllocError> {
+    answer: &mut Answer,
+) {
+    answer.put_word(word);
     match tagger {
-        Ok(Some(actor)) => actor_after(alloc, "ok", actor),
-        Ok(None) => String::from_str(alloc, "none"),
-        Err(error) => String::from_str(alloc, fault(&error)),
+        Ok(Some(actor)) => {
+            answer.add("ok");
+            add_actor(actor, answer);
+        }
+        Ok(None) => answer.add("none"),
+        Err(error) => answer.add(fault(&error)),
     }
 }
 
-/// The format of a signature and its bytes, or that there is none.
-fn signature_text(
-    alloc: Global,
-    signature: Option<signature::SignatureRef<'_>>,
-) -> Result<String, AllocError> {
-    let Some(signature) = signature else {
-        return String::from_str(alloc, "none");
-    };
-    let word = format_word(signature.format);
-    hex_after(alloc, word, signature.bytes.as_bytes())
+/// The column of the format of a signature and its bytes, or that there is none.
+fn put_signature(signature: Option<signature::SignatureRef<'_>>, answer: &mut Answer) {
+    match signature {
+        Some(signature) => {
+            answer.put("signature-format", format_word(signature.format));
+            answer.add_hex(signature.bytes.as_bytes());
+        }
+        None => answer.put("signature-format", "none"),
+    }
 }
 
 /// The format of a signature.
@@ -85,45 +81,38 @@ pub(crate) fn format_word(format: Format) -> &'static str {
 }
 
 /// The columns of an owned tag, or why there is none.
-fn put_owned(
-    alloc: Global,
-    owned: Result<Tag, decode::Error>,
-    columns: &mut Columns,
-) -> Result<(), AllocError> {
+fn put_owned(owned: Result<Tag, decode::Error>, answer: &mut Answer) {
     match owned {
-        Ok(tag) => put_owned_parts(alloc, &tag, columns),
-        Err(error) => columns.put("owned", fault(&error)),
+        Ok(tag) => put_owned_parts(&tag, answer),
+        Err(error) => answer.put("owned", fault(&error)),
     }
 }
 
 /// The columns of an owned tag: its tagger, and what is written of it.
-fn put_owned_parts(alloc: Global, tag: &Tag, columns: &mut Columns) -> Result<(), AllocError> {
-    columns.put("owned", "ok")?;
-    columns.put("owned-tagger", owned_if_some(alloc, &tag.tagger)?.as_str())?;
-    columns.put("owned-written", written_of(alloc, tag)?.as_str())?;
-    put_sizes(alloc, tag, "owned-size", "owned-loose", columns)
+fn put_owned_parts(tag: &Tag, answer: &mut Answer) {
+    answer.put("owned", "ok");
+    put_owned_tagger(&tag.tagger, answer);
+    put_written("owned-written", tag, answer);
+    put_sizes(tag, "owned-size", "owned-loose", answer);
 }
 
-/// An owned actor, or `-`.
-fn owned_if_some(alloc: Global, actor: &Option<Signature>) -> Result<String, AllocError> {
+/// The column of an owned tagger, or `-`.
+fn put_owned_tagger(actor: &Option<Signature>, answer: &mut Answer) {
+    answer.put_word("owned-tagger");
     match actor {
-        Some(actor) => owned_text(alloc, actor),
-        None => String::from_str(alloc, "-"),
+        Some(actor) => add_owned(actor, answer),
+        None => answer.add("-"),
     }
 }
 
 /// What `validated_name` says of a name.
-pub(crate) fn name_answer(alloc: Global, question: &[u8]) -> Result<Vec<u8>, AllocError> {
-    let bytes = bytes_of(alloc, question);
-    let answer = match write::validated_name(BStr::new(bytes.as_slice())) {
-        Ok(name) => if name.as_bytes() == bytes.as_slice() {
-            "ok"
-        } else {
-            "ok another"
-        },
-        Err(refusal) => refused_name(refusal),
-    };
-    text_of(alloc, answer)
+pub(crate) fn name_answer(question: &[u8], answer: &mut Answer) {
+    let bytes = bytes_of(answer.alloc, question);
+    match write::validated_name(BStr::new(bytes.as_slice())) {
+        Ok(name) if name.as_bytes() == bytes.as_slice() => answer.put_word("ok"),
+        Ok(_) => answer.put_word("ok another"),
+        Err(refusal) => answer.put_word(refused_name(refusal)),
+    }
 }
 
 /// Why a name is refused, and a writer that is refused for it says the same.

@@ -1,28 +1,35 @@
-//! How parts of commits and tags are spelled in the files of recorded answers.
+//! How ids and times are spelled in the files of recorded answers.
 
-use crate::recorded::texts::hex_of;
-use bstr::BStr;
+use crate::recorded::answers::Answer;
+use crate::recorded::texts::fault;
 use gixobj_base::date::Time;
-use std::alloc::{AllocError, Global};
+use gixobj_base::decode;
+use gixobj_base::hash::ObjectId;
 
-/// The bytes in hex digits, or `-`.
-pub(crate) fn hex_if_some(alloc: Global, bytes: Option<BStr<'_>>) -> Result<String, AllocError> {
-    match bytes {
-        Some(bytes) => hex_of(alloc, bytes.as_bytes()),
-        None => String::from_str(alloc, "-"),
+/// The column of an id, or of why there is none.
+pub(crate) fn put_id(word: &str, id: Result<ObjectId, decode::Error>, answer: &mut Answer) {
+    match id {
+        Ok(id) => answer.put_shown(word, id),
+        Err(error) => answer.put(word, fault(&error)),
     }
 }
 
-/// A word, and bytes in hex digits.
-pub(crate) fn hex_after(alloc: Global, word: &str, bytes: &[u8]) -> Result<String, AllocError> {
-    let hex = hex_of(alloc, bytes)?;
-    format!(in alloc; "{word} {hex}")
+/// The column of a time, or of why there is none.
+pub(crate) fn put_time(word: &str, time: Result<Time, decode::Error>, answer: &mut Answer) {
+    answer.put_word(word);
+    match time {
+        Ok(time) => add_time(Some(time), answer),
+        Err(error) => answer.add(fault(&error)),
+    }
 }
 
-/// Seconds and offset.
-pub(crate) fn time_text(alloc: Global, time: Option<Time>) -> Result<String, AllocError> {
+/// Seconds and offset, or `-`.
+pub(crate) fn add_time(time: Option<Time>, answer: &mut Answer) {
     match time {
-        Some(time) => format!(in alloc; "{} {}", time.seconds, time.offset),
-        None => String::from_str(alloc, "-"),
+        Some(time) => {
+            answer.add_shown(time.seconds);
+            answer.add_shown(time.offset);
+        }
+        None => answer.add("-"),
     }
 }

@@ -1,87 +1,84 @@
 //! Answers about commits that are read token by token, as the recorded ones are written.
 
-use crate::actors::{actor_after, actor_text, borrowed_text};
-use crate::objects::told_id;
-use crate::recorded::texts::{Columns, bytes_of, fault, hex_of, text_of};
-use crate::texts::hex_after;
+use crate::actors::{put_actor, put_actor_or_fault};
+use crate::recorded::answers::Answer;
+use crate::recorded::texts::{bytes_of, fault};
+use crate::texts::put_id;
+use bstr::BStr;
+use gixobj_base::decode;
 use gixobj_base::hash::Kind::Sha1;
 use gixobj_codec::CommitRefIter;
 use gixobj_codec::commit::ref_iter::Token;
-use std::alloc::{AllocError, Global};
 
 /// What the public calls tell of a commit token by token.
-pub(crate) fn token_answer(alloc: Global, question: &[u8]) -> Result<Vec<u8>, AllocError> {
-    let bytes = bytes_of(alloc, question);
-    let tokens = CommitRefIter::from_bytes(alloc, bytes.as_slice(), Sha1);
-    let mut columns = Columns::new(alloc);
-    put_tokens(alloc, tokens, &mut columns)?;
-    let mut first = tokens;
-    columns.put("iter-tree-id", told_id(alloc, first.tree_id())?.as_str())?;
-    columns.put("iter-tree-id", told_id(alloc, first.tree_id())?.as_str())?;
-    put_parents_and_actors(alloc, tokens, &mut columns)?;
-    put_found(alloc, tokens, &mut columns)?;
-    text_of(alloc, columns.as_str())
+pub(crate) fn token_answer(question: &[u8], answer: &mut Answer) {
+    let bytes = bytes_of(answer.alloc, question);
+    let tokens = CommitRefIter::from_bytes(answer.alloc, bytes.as_slice(), Sha1);
+    put_tokens(tokens, answer);
+    put_tree_twice("iter-tree-id", tokens, answer);
+    put_told_parents("iter-parent", tokens, answer);
+    put_actors(tokens, answer);
+    put_found(tokens, answer);
 }
 
-/// The columns of the parents, and of the actors.
-fn put_parents_and_actors(
-    alloc: Global,
-    tokens: CommitRefIter<'_>,
-    columns: &mut Columns,
-) -> Result<(), AllocError> {
+/// The columns of the tree, of which a reader is asked twice.
+pub(crate) fn put_tree_twice(word: &str, mut tokens: CommitRefIter<'_>, answer: &mut Answer) {
+    put_id(word, tokens.tree_id(), answer);
+    put_id(word, tokens.tree_id(), answer);
+}
+
+/// The columns of the parents that a reader tells.
+pub(crate) fn put_told_parents(word: &str, tokens: CommitRefIter<'_>, answer: &mut Answer) {
     for id in tokens.parent_ids() {
-        columns.put("iter-parent", format!(in alloc; "{id}")?.as_str())?;
+        answer.put_shown(word, id);
     }
+}
+
+/// The columns of the actors.
+fn put_actors(tokens: CommitRefIter<'_>, answer: &mut Answer) {
     for actor in tokens.signatures() {
-        columns.put("iter-signature", borrowed_text(alloc, actor)?.as_str())?;
+        put_actor("iter-signature", actor, answer);
     }
-    Ok(())
 }
 
 /// The columns of the author, the committer and the message.
-fn put_found(
-    alloc: Global,
-    tokens: CommitRefIter<'_>,
-    columns: &mut Columns,
-) -> Result<(), AllocError> {
-    columns.put("iter-author", actor_text(alloc, tokens.author())?.as_str())?;
-    columns.put(
-        "iter-committer",
-        actor_text(alloc, tokens.committer())?.as_str(),
-    )?;
-    match tokens.message() {
-        Ok(message) => columns.put("iter-message", hex_of(alloc, message.as_bytes())?.as_str()),
-        Err(error) => columns.put("iter-message", fault(&error)),
+fn put_found(tokens: CommitRefIter<'_>, answer: &mut Answer) {
+    put_actor_or_fault("iter-author", tokens.author(), answer);
+    put_actor_or_fault("iter-committer", tokens.committer(), answer);
+    put_message(tokens.message(), answer);
+}
+
+/// The column of the message, or of why there is none.
+fn put_message(message: Result<BStr<'_>, decode::Error>, answer: &mut Answer) {
+    match message {
+        Ok(message) => answer.put_hex("iter-message", message.as_bytes()),
+        Err(error) => answer.put("iter-message", fault(&error)),
     }
 }
 
 /// The columns of the tokens, and of their end.
-fn put_tokens(
-    alloc: Global,
-    tokens: CommitRefIter<'_>,
-    columns: &mut Columns,
-) -> Result<(), AllocError> {
+fn put_tokens(tokens: CommitRefIter<'_>, answer: &mut Answer) {
     for token in tokens {
         match token {
-            Ok(token) => columns.put("token", token_text(alloc, token)?.as_str())?,
-            Err(error) => columns.put("token", fault(&error))?,
+            Ok(token) => put_token(token, answer),
+            Err(error) => answer.put("token", fault(&error)),
         }
     }
-    columns.put_word("end")
+    answer.put_word("end");
 }
 
-/// A token's word, and what it holds.
-fn token_text(alloc: Global, token: Token<'_>) -> Result<String, AllocError> {
+/// The column of a token: its word, and what it holds.
+fn put_token(token: Token<'_>, answer: &mut Answer) {
     match token {
-        Token::Tree { id } => format!(in alloc; "tree {id}"),
-        Token::Parent { id } => format!(in alloc; "parent {id}"),
-        Token::Author { signature } => actor_after(alloc, "author", signature),
-        Token::Committer { signature } => actor_after(alloc, "committer", signature),
-        Token::Encoding(encoding) => hex_after(alloc, "encoding", encoding.as_bytes()),
+        Token::Tree { id } => answer.put_shown("token tree", id),
+        Token::Parent { id } => answer.put_shown("token parent", id),
+        Token::Author { signature } => put_actor("token author", signature, answer),
+        Token::Committer { signature } => put_actor("token committer", signature, answer),
+        Token::Encoding(encoding) => answer.put_hex("token encoding", encoding.as_bytes()),
         Token::ExtraHeader((name, value)) => {
-            let name = hex_after(alloc, "header", name.as_bytes())?;
-            hex_after(alloc, name.as_str(), value.as_slice())
+            answer.put_hex("token header", name.as_bytes());
+            answer.add_hex(value.as_slice());
         }
-        Token::Message(message) => hex_after(alloc, "message", message.as_bytes()),
+        Token::Message(message) => answer.put_hex("token message", message.as_bytes()),
     }
 }

@@ -2,109 +2,81 @@
 ghost use Rattle.gixobj_codec.specs.CommitViews.{commit_lines};
 ghost use Rattle.gixobj_codec.specs.CommitWriting.{HasIds};
 
-use super::{same_or, text_and_ids};
-use crate::recorded::spelling::spelled;
-use crate::recorded::texts::{Columns, fault, text_of};
+use super::text_and_ids;
+use crate::recorded::answers::Answer;
+use crate::recorded::texts::{cut, fault};
 use bstr::BStr;
 use gixobj_base::decode;
-use gixobj_base::parse::split_at_byte;
 use gixobj_codec::{Commit, CommitRef};
-use std::alloc::{AllocError, Global};
 
 /// What is found of a name in a commit, borrowed and owned.
-pub(crate) fn search_answer(alloc: Global, question: &[u8]) -> Result<Vec<u8>, AllocError> {
-    let (name, text) = split_at_byte(question, b' ').unwrap_or((question, b""));
+pub(crate) fn search_answer(question: &[u8], answer: &mut Answer) {
+    let (name, text) = cut(question, b' ');
     let name = str::from_utf8(name).unwrap_or("");
-    let (bytes, hash_kind) = text_and_ids(alloc, text)?;
-    let mut columns = Columns::new(alloc);
-    match CommitRef::from_bytes(alloc, bytes.as_slice(), hash_kind) {
-        Ok(commit) => {
-            let found = found_in(alloc, &commit, name)?;
-            columns.put_word(found.as_str())?;
-            let owned = found_owned(alloc, commit.into_owned(alloc), name)?;
-            columns.put("owned", same_or(owned.as_str(), found.as_str()))?;
-        }
-        Err(error) => columns.put("whole", fault(&error))?,
+    let (bytes, hash_kind) = text_and_ids(text, answer);
+    match CommitRef::from_bytes(answer.alloc, bytes.as_slice(), hash_kind) {
+        Ok(commit) => put_both(commit, name, answer),
+        Err(error) => answer.put("whole", fault(&error)),
     }
-    text_of(alloc, columns.as_str())
+}
+
+/// The columns of a borrowed commit and of its owned form.
+fn put_both(commit: CommitRef<'_>, name: &str, answer: &mut Answer)
+    requires { HasIds (commit_lines commit) }
+{
+    let mut found = Answer::new(answer.alloc);
+    put_found(&commit, name, &mut found);
+    let mut owned = Answer::new(answer.alloc);
+    put_owned(commit.into_owned(answer.alloc), name, &mut owned);
+    answer.put_columns(&found);
+    answer.put_same_or("owned", &owned, &found);
 }
 
 /// The columns of the headers of this name in a borrowed commit, and of its signature.
-fn found_in(alloc: Global, commit: &CommitRef<'_>, name: &str) -> Result<Columns, AllocError>
+fn put_found(commit: &CommitRef<'_>, name: &str, answer: &mut Answer)
     requires { HasIds (commit_lines commit.now) }
 {
-    let mut columns = Columns::new(alloc);
-    put_value(
-        alloc,
-        "found",
-        commit.extra_headers().find(name),
-        &mut columns,
-    )?;
-    put_place(alloc, commit.extra_headers().find_pos(name), &mut columns)?;
-    let values: Vec<BStr<'_>> = commit.extra_headers().find_all(name).collect(alloc)?;
-    put_values(alloc, values.as_slice(), &mut columns)?;
-    let signature = commit.extra_headers().pgp_signature();
-    put_value(alloc, "signature", signature, &mut columns)?;
-    Ok(columns)
+    put_value("found", commit.extra_headers().find(name), answer);
+    put_place(commit.extra_headers().find_pos(name), answer);
+    for value in commit.extra_headers().find_all(name) {
+        answer.put_spelled("value", value.as_bytes());
+    }
+    put_value("signature", commit.extra_headers().pgp_signature(), answer);
 }
 
-/// The same columns of an owned commit.
-fn found_owned(
-    alloc: Global,
-    owned: Result<Commit, decode::Error>,
-    name: &str,
-) -> Result<Columns, AllocError> {
-    let mut columns = Columns::new(alloc);
+/// The columns of an owned commit, or why there is none.
+fn put_owned(owned: Result<Commit, decode::Error>, name: &str, answer: &mut Answer) {
     match owned {
-        Ok(commit) => put_found(alloc, &commit, name, &mut columns)?,
-        Err(error) => columns.put_word(fault(&error))?,
+        Ok(commit) => put_owned_found(&commit, name, answer),
+        Err(error) => answer.put_word(fault(&error)),
     }
-    Ok(columns)
 }
 
 /// The columns of the headers of this name in an owned commit, and of its signature.
-fn put_found(
-    alloc: Global,
-    commit: &Commit,
-    name: &str,
-    columns: &mut Columns,
-) -> Result<(), AllocError> {
-    put_value(alloc, "found", commit.extra_headers().find(name), columns)?;
-    put_place(alloc, commit.extra_headers().find_pos(name), columns)?;
-    let values: Vec<BStr<'_>> = commit.extra_headers().find_all(name).collect(alloc)?;
-    put_values(alloc, values.as_slice(), columns)?;
-    let signature = commit.extra_headers().pgp_signature();
-    put_value(alloc, "signature", signature, columns)
+fn put_owned_found(commit: &Commit, name: &str, answer: &mut Answer) {
+    put_value("found", commit.extra_headers().find(name), answer);
+    put_place(commit.extra_headers().find_pos(name), answer);
+    for value in commit.extra_headers().find_all(name) {
+        answer.put_spelled("value", value.as_bytes());
+    }
+    put_value("signature", commit.extra_headers().pgp_signature(), answer);
 }
 
 /// The column of a value behind a word, or of none.
-fn put_value(
-    alloc: Global,
-    word: &str,
-    value: Option<BStr<'_>>,
-    columns: &mut Columns,
-) -> Result<(), AllocError> {
+fn put_value(word: &str, value: Option<BStr<'_>>, answer: &mut Answer) {
     match value {
         Some(value) => {
-            let value = spelled(alloc, value.as_bytes())?;
-            columns.put(word, format!(in alloc; "= {value}")?.as_str())
+            answer.put(word, "=");
+            answer.add_spelled(value.as_bytes());
         }
-        None => columns.put(word, "-"),
+        None => answer.put(word, "-"),
     }
 }
 
 /// The column of a place, or of none.
-fn put_place(alloc: Global, place: Option<usize>, columns: &mut Columns) -> Result<(), AllocError> {
+fn put_place(place: Option<usize>, answer: &mut Answer) {
     match place {
-        Some(place) => columns.put("place", format!(in alloc; "{place}")?.as_str()),
-        None => columns.put("place", "-"),
+        Some(place) => answer.put_shown("place", place),
+        None => answer.put("place", "-"),
     }
-}
-
-/// A column of each value.
-fn put_values(alloc: Global, values: &[BStr<'_>], columns: &mut Columns) -> Result<(), AllocError> {
-    for value in values {
-        columns.put("value", spelled(alloc, value.as_bytes())?.as_str())?;
-    }
-    Ok(())
 }

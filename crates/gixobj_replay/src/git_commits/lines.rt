@@ -2,60 +2,58 @@
 ghost use Rattle.gixobj_codec.specs.CommitViews.{commit_lines};
 ghost use Rattle.gixobj_codec.specs.CommitWriting.{HasIds};
 
-use crate::recorded::spelling::spelled;
-use crate::recorded::texts::{Columns, fault};
+use crate::recorded::answers::Answer;
+use crate::recorded::texts::fault;
 use bstr::BStr;
 use gixobj_base::actor::SignatureRef;
 use gixobj_base::decode;
 use gixobj_codec::commit::ref_iter::Token;
 use gixobj_codec::{CommitRef, CommitRefIter};
-use std::alloc::{AllocError, Global};
 
 /// The columns of a commit that is read whole, its actors without white space at their ends.
-pub(super) fn whole_lines(alloc: Global, commit: &CommitRef<'_>) -> Result<Columns, AllocError>
+pub(super) fn put_whole(commit: &CommitRef<'_>, answer: &mut Answer)
     requires { HasIds (commit_lines commit.now) }
 {
-    let mut columns = Columns::new(alloc);
-    let tree = commit.tree();
-    columns.put("tree", format!(in alloc; "{tree}")?.as_str())?;
-    for id in commit.parents() {
-        columns.put("parent", format!(in alloc; "{id}")?.as_str())?;
-    }
-    let author = actor_or_fault(alloc, commit.author())?;
-    columns.put("author", author.as_str())?;
-    let committer = actor_or_fault(alloc, commit.committer())?;
-    columns.put("committer", committer.as_str())?;
-    put_rest(alloc, commit, &mut columns)?;
-    Ok(columns)
+    answer.put_shown("tree", commit.tree());
+    put_parents(commit, answer);
+    put_actor_or_fault("author", commit.author(), answer);
+    put_actor_or_fault("committer", commit.committer(), answer);
+    put_encoding(commit.encoding, answer);
+    put_headers(commit, answer);
+    answer.put_spelled("message", commit.message.as_bytes());
 }
 
-/// The columns of the encoding, the headers and the message.
-fn put_rest(
-    alloc: Global,
-    commit: &CommitRef<'_>,
-    columns: &mut Columns,
-) -> Result<(), AllocError> {
-    if let Some(encoding) = commit.encoding {
-        columns.put("encoding", spelled(alloc, encoding.as_bytes())?.as_str())?;
+/// The columns of the parents.
+fn put_parents(commit: &CommitRef<'_>, answer: &mut Answer)
+    requires { HasIds (commit_lines commit.now) }
+{
+    for id in commit.parents() {
+        answer.put_shown("parent", id);
     }
+}
+
+/// The column of the encoding, if there is one.
+fn put_encoding(encoding: Option<BStr<'_>>, answer: &mut Answer) {
+    if let Some(encoding) = encoding {
+        answer.put_spelled("encoding", encoding.as_bytes());
+    }
+}
+
+/// The columns of the headers.
+fn put_headers(commit: &CommitRef<'_>, answer: &mut Answer) {
     for (name, value) in &commit.extra_headers {
-        let header = header_text(alloc, *name, value.as_slice())?;
-        columns.put("header", header.as_str())?;
+        put_header(*name, value.as_slice(), answer);
     }
-    let message = spelled(alloc, commit.message.as_bytes())?;
-    columns.put("message", message.as_str())
 }
 
 /// The columns of the tokens of a commit, its actors without white space at their ends.
-pub(super) fn told_lines(alloc: Global, tokens: CommitRefIter<'_>) -> Result<Columns, AllocError> {
-    let mut columns = Columns::new(alloc);
+pub(super) fn put_told(tokens: CommitRefIter<'_>, answer: &mut Answer) {
     for token in tokens {
         match token {
-            Ok(token) => put_token(alloc, trimmed(token), &mut columns)?,
-            Err(error) => columns.put_word(fault(&error))?,
+            Ok(token) => put_token(trimmed(token), answer),
+            Err(error) => answer.put_word(fault(&error)),
         }
     }
-    Ok(columns)
 }
 
 /// The token, an actor without white space at its ends.
@@ -72,55 +70,41 @@ fn trimmed(token: Token<'_>) -> Token<'_> {
 }
 
 /// The column of a token.
-pub(super) fn put_token(
-    alloc: Global,
-    token: Token<'_>,
-    columns: &mut Columns,
-) -> Result<(), AllocError> {
+pub(super) fn put_token(token: Token<'_>, answer: &mut Answer) {
     match token {
-        Token::Tree { id } => columns.put("tree", format!(in alloc; "{id}")?.as_str()),
-        Token::Parent { id } => columns.put("parent", format!(in alloc; "{id}")?.as_str()),
-        Token::Author { signature } => {
-            columns.put("author", actor_spelled(alloc, signature)?.as_str())
-        }
-        Token::Committer { signature } => {
-            columns.put("committer", actor_spelled(alloc, signature)?.as_str())
-        }
-        Token::Encoding(encoding) => {
-            columns.put("encoding", spelled(alloc, encoding.as_bytes())?.as_str())
-        }
-        Token::ExtraHeader((name, value)) => {
-            let header = header_text(alloc, name, value.as_slice())?;
-            columns.put("header", header.as_str())
-        }
-        Token::Message(message) => {
-            columns.put("message", spelled(alloc, message.as_bytes())?.as_str())
-        }
+        Token::Tree { id } => answer.put_shown("tree", id),
+        Token::Parent { id } => answer.put_shown("parent", id),
+        Token::Author { signature } => put_actor("author", signature, answer),
+        Token::Committer { signature } => put_actor("committer", signature, answer),
+        Token::Encoding(encoding) => answer.put_spelled("encoding", encoding.as_bytes()),
+        Token::ExtraHeader((name, value)) => put_header(name, value.as_slice(), answer),
+        Token::Message(message) => answer.put_spelled("message", message.as_bytes()),
     }
 }
 
-/// The name of a header and its value.
-fn header_text(alloc: Global, name: BStr<'_>, value: &[u8]) -> Result<String, AllocError> {
-    let name = spelled(alloc, name.as_bytes())?;
-    let value = spelled(alloc, value)?;
-    format!(in alloc; "{name} {value}")
+/// The column of a header: its name and its value.
+fn put_header(name: BStr<'_>, value: &[u8], answer: &mut Answer) {
+    answer.put_spelled("header", name.as_bytes());
+    answer.add_spelled(value);
 }
 
-/// Name, email and the text of the time.
-pub(super) fn actor_spelled(alloc: Global, actor: SignatureRef<'_>) -> Result<String, AllocError> {
-    let name = spelled(alloc, actor.name.as_bytes())?;
-    let email = spelled(alloc, actor.email.as_bytes())?;
-    let time = spelled(alloc, actor.time.as_bytes())?;
-    format!(in alloc; "{name} <{email}> {time}")
+/// The column of an actor: name, email and the text of the time.
+pub(super) fn put_actor(word: &str, actor: SignatureRef<'_>, answer: &mut Answer) {
+    answer.put_spelled(word, actor.name.as_bytes());
+    answer.push(b" <");
+    answer.push_spelled(actor.email.as_bytes());
+    answer.push(b">");
+    answer.add_spelled(actor.time.as_bytes());
 }
 
 /// The same, or the fault of its line.
-pub(super) fn actor_or_fault(
-    alloc: Global,
+pub(super) fn put_actor_or_fault(
+    word: &str,
     actor: Result<SignatureRef<'_>, decode::Error>,
-) -> Result<String, AllocError> {
+    answer: &mut Answer,
+) {
     match actor {
-        Ok(actor) => actor_spelled(alloc, actor),
-        Err(error) => String::from_str(alloc, fault(&error)),
+        Ok(actor) => put_actor(word, actor, answer),
+        Err(error) => answer.put(word, fault(&error)),
     }
 }

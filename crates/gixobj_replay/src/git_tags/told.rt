@@ -1,15 +1,15 @@
 //! What is told of a tag, beside what is read of it.
 
-use crate::objects::told_id;
-use crate::recorded::texts::{Columns, fault};
-use crate::tags::tagger_text;
+use crate::recorded::answers::Answer;
+use crate::recorded::texts::fault;
+use crate::tags::put_tagger;
+use crate::texts::put_id;
 use bstr::BStr;
 use gixobj_base::actor::SignatureRef;
 use gixobj_base::hash::ObjectId;
 use gixobj_base::{Kind, decode};
 use gixobj_codec::tag::ref_iter::Token;
 use gixobj_codec::{TagRef, TagRefIter};
-use std::alloc::{AllocError, Global};
 
 /// What a reader tells of a tag.
 #[derive(Clone, Copy)]
@@ -74,29 +74,21 @@ impl<'a> Told<'a> {
 }
 
 /// The columns of what is told: the words of the tokens, and the calls on the reader of tokens.
-pub(crate) fn put_told(
-    alloc: Global,
-    tokens: TagRefIter<'_>,
-    columns: &mut Columns,
-) -> Result<(), AllocError> {
-    columns.put_word(told_words(alloc, tokens)?.as_str())?;
-    let target = told_id(alloc, tokens.target_id())?;
-    columns.put("iter-target-id", target.as_str())?;
-    let tagger = tagger_text(alloc, tokens.tagger())?;
-    columns.put("iter-tagger", tagger.as_str())
+pub(crate) fn put_told(tokens: TagRefIter<'_>, answer: &mut Answer) {
+    put_words(tokens, answer);
+    put_id("iter-target-id", tokens.target_id(), answer);
+    put_tagger("iter-tagger", tokens.tagger(), answer);
 }
 
-/// A word for each token, and one more where something is told behind the end.
-fn told_words(alloc: Global, mut tokens: TagRefIter<'_>) -> Result<String, AllocError> {
-    let mut words = String::from_str(alloc, "told")?;
+/// The column of a word for each token, and one more where something is told behind the end.
+fn put_words(mut tokens: TagRefIter<'_>, answer: &mut Answer) {
+    answer.put_word("told");
     while let Some(token) = tokens.next() {
-        words.push_str(" ")?;
-        words.push_str(word_of(&token))?;
+        answer.add(word_of(&token));
     }
     if tokens.next().is_some() {
-        words.push_str(" more")?;
+        answer.add("more");
     }
-    Ok(words)
 }
 
 /// The word of a token.

@@ -1,10 +1,11 @@
 //! Trees read entry by entry, and the beginnings of their texts.
 
-use crate::recorded::texts::{Columns, fault};
+use crate::recorded::answers::Answer;
+use crate::recorded::texts::fault;
 use gixobj_base::hash;
 use gixobj_codec::tree::EntryRef;
 use gixobj_codec::{TreeRef, TreeRefIter};
-use std::alloc::{AllocError, Global};
+use std::alloc::Global;
 
 /// Whether a reader tells these entries, gathers what is left at each, and then ends.
 pub(super) fn tells(alloc: Global, mut told: TreeRefIter<'_>, entries: &[EntryRef<'_>]) -> bool {
@@ -29,17 +30,13 @@ fn gathers(alloc: Global, told: TreeRefIter<'_>, entries: Option<&[EntryRef<'_>]
 }
 
 /// The columns of a text that is refused: how many entries are told before the fault, and that none are gathered.
-pub(super) fn put_refused(
-    alloc: Global,
-    told: TreeRefIter<'_>,
-    columns: &mut Columns,
-) -> Result<(), AllocError> {
+pub(super) fn put_refused(told: TreeRefIter<'_>, answer: &mut Answer) {
     let (count, fault_behind) = told_of(told);
-    let word = fault_behind.unwrap_or("end");
-    columns.put("told", format!(in alloc; "{count} {word}")?.as_str())?;
-    match told.entries(alloc) {
-        Ok(_) => columns.put("gathered", "ok"),
-        Err(error) => columns.put("gathered", fault(&error)),
+    answer.put_shown("told", count);
+    answer.add(fault_behind.unwrap_or("end"));
+    match told.entries(answer.alloc) {
+        Ok(_) => answer.put("gathered", "ok"),
+        Err(error) => answer.put("gathered", fault(&error)),
     }
 }
 
@@ -60,26 +57,20 @@ fn told_of(mut told: TreeRefIter<'_>) -> (usize, Option<&'static str>) {
 const LONGEST: usize = 300;
 
 /// The column of the lengths at which a beginning is a tree. Of each other one the entries before the cut are told.
-pub(super) fn put_beginnings(
-    alloc: Global,
-    text: &[u8],
-    hash_kind: hash::Kind,
-    columns: &mut Columns,
-) -> Result<(), AllocError> {
-    let mut lengths = String::from_str(alloc, "at")?;
+pub(super) fn put_beginnings(text: &[u8], hash_kind: hash::Kind, answer: &mut Answer) {
+    answer.put("beginnings", "at");
     let mut entries = 0usize;
     for len in 0..=text.len().min(LONGEST) {
         let beginning = text.get(..len).unwrap_or(b"");
-        let whole = whole_of(alloc, beginning, hash_kind);
+        let whole = whole_of(answer.alloc, beginning, hash_kind);
         if let Ok(count) = whole {
             entries = count;
-            lengths.push_str(format!(in alloc; " {len}")?.as_str())?;
+            answer.add_shown(len);
         }
         if told_of(TreeRefIter::from_bytes(beginning, hash_kind)) != (entries, whole.err()) {
-            lengths.push_str(" otherwise")?;
+            answer.add("otherwise");
         }
     }
-    columns.put("beginnings", lengths.as_str())
 }
 
 /// How many entries a text has that is read as a tree, or why it is refused.

@@ -1,8 +1,9 @@
 //! A runner that answers as programs did, by the columns of a row.
 
-use crate::recorded::spelling::{quoted, spelled, unspelled};
+use crate::recorded::answers::Answer;
+use crate::recorded::spelling::unspelled;
+use crate::recorded::texts::cut;
 use bstr::BString;
-use gixobj_base::parse::split_at_byte;
 use gixobj_signature::signature::{Call, Output, RunError, Runner, Word};
 use std::alloc::{AllocError, Global};
 
@@ -17,37 +18,32 @@ pub(crate) struct Row<'a> {
 impl<'a> Row<'a> {
     /// The next column.
     pub(crate) fn next(&mut self) -> &'a [u8] {
-        let (column, rest) = split_at_byte(self.rest, b'\t').unwrap_or((self.rest, b""));
+        let (column, rest) = cut(self.rest, b'\t');
         self.rest = rest;
         column
     }
 
     /// The bytes that the next column spells.
-    pub(crate) fn next_bytes(&mut self) -> Result<Vec<u8>, AllocError> {
+    fn next_bytes(&mut self) -> Result<Vec<u8>, AllocError> {
         unspelled(self.alloc, self.next())
     }
 
-    /// What was answered to this call, or its text where another one was asked.
-    fn answer(&mut self, call: &Call) -> Result<Result<Output, String>, AllocError> {
-        let text = call_text(self.alloc, call)?;
-        if self.next() != text.as_bytes() {
-            return Ok(Err(text));
+    /// What was answered to a call.
+    fn output(&mut self) -> Result<Output, AllocError> {
+        Ok(Output {
+            success: self.next() == b"ok".as_slice(),
+            stdout: self.next_bytes()?,
+            stderr: self.next_bytes()?,
+            result: self.next_result()?,
+        })
+    }
+
+    /// The bytes that the next column spells, or none where it is `-`.
+    fn next_result(&mut self) -> Result<Option<Vec<u8>>, AllocError> {
+        match self.next() {
+            b"-" => Ok(None),
+            column => Ok(Some(unspelled(self.alloc, column)?)),
         }
-        let success = self.next() == b"ok".as_slice();
-        let stdout = self.next_bytes()?;
-        let stderr = self.next_bytes()?;
-        let left = self.next_bytes()?;
-        let result = if left.as_slice() == b"-".as_slice() {
-            None
-        } else {
-            Some(left)
-        };
-        Ok(Ok(Output {
-            success,
-            stdout,
-            stderr,
-            result,
-        }))
     }
 }
 
@@ -57,9 +53,16 @@ impl Runner for Row<'_> {
     ghost runs = { λ _ _ _ _. ⊤ };
 
     fn run(&mut self, call: &Call) -> Result<Output, RunError> {
-        match self.answer(call) {
-            Ok(Ok(output)) => Ok(output),
-            Ok(Err(text)) => Err(RunError::Spawn(BString::new(text.into_bytes()))),
+        let mut asked = Answer::new(self.alloc);
+        push_call(call, &mut asked);
+        let Ok(asked) = asked.finish() else {
+            return Err(RunError::OutOfMemory);
+        };
+        if self.next() != asked.as_slice() {
+            return Err(RunError::Spawn(BString::new(asked)));
+        }
+        match self.output() {
+            Ok(output) => Ok(output),
             Err(_) => Err(RunError::OutOfMemory),
         }
     }
@@ -67,60 +70,62 @@ impl Runner for Row<'_> {
 
 /// A call as the rows spell it: what is set, the program and its words, what stands in the files, the input, and the
 /// file whose neighbour is asked for.
-fn call_text(alloc: Global, call: &Call) -> Result<String, AllocError> {
-    let mut text = String::new(alloc);
-    push_environment(alloc, &call.environment, &mut text)?;
-    text.push_str(spelled(alloc, call.program.as_bytes())?.as_str())?;
-    push_words(alloc, &call.words, &mut text)?;
-    push_files(alloc, &call.files, &mut text)?;
-    if let Some(input) = &call.input {
-        text.push_str(" <")?;
-        text.push_str(quoted(alloc, input.as_bytes())?.as_str())?;
-    }
-    if let Some(number) = call.result {
-        text.push_str(format!(in alloc; " >@{number}")?.as_str())?;
-    }
-    Ok(text)
+fn push_call(call: &Call, asked: &mut Answer) {
+    push_environment(&call.environment, asked);
+    asked.push_spelled(call.program.as_bytes());
+    push_words(&call.words, asked);
+    push_files(&call.files, asked);
+    push_input(&call.input, asked);
+    push_result(call.result, asked);
 }
 
-/// What is set for the program, behind a text.
-fn push_environment(
-    alloc: Global,
-    environment: &Vec<(BString, BString)>,
-    text: &mut String,
-) -> Result<(), AllocError> {
+/// What is set for the program.
+fn push_environment(environment: &Vec<(BString, BString)>, asked: &mut Answer) {
     for (name, value) in environment {
-        text.push_str(spelled(alloc, name.as_bytes())?.as_str())?;
-        text.push_str("=")?;
-        text.push_str(spelled(alloc, value.as_bytes())?.as_str())?;
-        text.push_str(" ")?;
+        asked.push_spelled(name.as_bytes());
+        asked.push(b"=");
+        asked.push_spelled(value.as_bytes());
+        asked.push(b" ");
     }
-    Ok(())
 }
 
-/// Words, behind a text.
-fn push_words(alloc: Global, words: &Vec<Word>, text: &mut String) -> Result<(), AllocError> {
+/// Words.
+fn push_words(words: &Vec<Word>, asked: &mut Answer) {
     for word in words {
-        text.push_str(" ")?;
-        text.push_str(word_text(alloc, word)?.as_str())?;
+        push_word(word, asked);
     }
-    Ok(())
 }
 
 /// A word.
-fn word_text(alloc: Global, word: &Word) -> Result<String, AllocError> {
+fn push_word(word: &Word, asked: &mut Answer) {
     match word {
-        Word::Text(bytes) => spelled(alloc, bytes.as_bytes()),
-        Word::File(number) => format!(in alloc; "@{number}"),
-        Word::VerifyTime(time) => format!(in alloc; "@time={},{}", time.seconds, time.offset),
+        Word::Text(bytes) => asked.add_spelled(bytes.as_bytes()),
+        Word::File(number) => asked.add_shown(format_args!("@{number}")),
+        Word::VerifyTime(time) => {
+            asked.add_shown(format_args!("@time={},{}", time.seconds, time.offset))
+        }
     }
 }
 
-/// What stands in the files, behind a text.
-fn push_files(alloc: Global, files: &Vec<BString>, text: &mut String) -> Result<(), AllocError> {
+/// What stands in the files.
+fn push_files(files: &Vec<BString>, asked: &mut Answer) {
     for (number, content) in files.iter().enumerate() {
-        text.push_str(format!(in alloc; " @{number}=")?.as_str())?;
-        text.push_str(quoted(alloc, content.as_bytes())?.as_str())?;
+        asked.add_shown(format_args!("@{number}="));
+        asked.push_quoted(content.as_bytes());
     }
-    Ok(())
+}
+
+/// The input, if there is one.
+fn push_input(input: &Option<BString>, asked: &mut Answer) {
+    if let Some(input) = input {
+        asked.push(b" <");
+        asked.push_quoted(input.as_bytes());
+    }
+}
+
+/// The file whose neighbour is asked for, if one is.
+fn push_result(file: Option<usize>, asked: &mut Answer) {
+    if let Some(number) = file {
+        asked.add_shown(format_args!(">@{number}"));
+    }
 }

@@ -2,7 +2,7 @@
 
 use super::played::Row;
 use super::{Head, Program};
-use crate::recorded::spelling::spelled;
+use crate::recorded::answers::Answer;
 use crate::recorded::texts::fault;
 use crate::reports::level_of;
 use bstr::{BStr, BString};
@@ -11,51 +11,61 @@ use gixobj_codec::{CommitRefIter, TagRefIter};
 use gixobj_signature::signature::SignedData;
 use gixobj_signature::signature::verify::{Error, Options, Outcome};
 use gixobj_text::signature::Format;
-use std::alloc::{AllocError, Global};
 
 /// What comes of verifying the signature of an object.
-pub(super) fn verified_text(
-    alloc: Global,
+pub(super) fn put_verified(
     head: Head<'_>,
     text: &[u8],
     program: Program,
     row: &mut Row<'_>,
-) -> Result<String, AllocError> {
-    let options = options_of(alloc, head, program, row)?;
+    answer: &mut Answer,
+) {
+    let options = options_of(head, program, row, answer);
     match head.object {
-        b"tag" => match TagRefIter::signature(text) {
-            Some((signature, signed)) => {
-                outcome_text(alloc, signed, signature.bytes.as_bytes(), options, row)
-            }
-            None => String::from_str(alloc, "none"),
-        },
-        _ => match CommitRefIter::signature(alloc, text, head.ids) {
-            Ok(Some((signature, signed))) => {
-                outcome_text(alloc, signed, signature.as_slice(), options, row)
-            }
-            Ok(None) => String::from_str(alloc, "none"),
-            Err(error) => String::from_str(alloc, fault(&error)),
-        },
+        b"tag" => put_tag(text, options, row, answer),
+        _ => put_commit(head, text, options, row, answer),
+    }
+}
+
+/// The same of a tag.
+fn put_tag(text: &[u8], options: Options, row: &mut Row<'_>, answer: &mut Answer) {
+    match TagRefIter::signature(text) {
+        Some((signature, signed)) => {
+            put_outcome(signed, signature.bytes.as_bytes(), options, row, answer);
+        }
+        None => answer.put_word("none"),
+    }
+}
+
+/// The same of a commit.
+fn put_commit(
+    head: Head<'_>,
+    text: &[u8],
+    options: Options,
+    row: &mut Row<'_>,
+    answer: &mut Answer,
+) {
+    match CommitRefIter::signature(answer.alloc, text, head.ids) {
+        Ok(Some((signature, signed))) => {
+            put_outcome(signed, signature.as_slice(), options, row, answer);
+        }
+        Ok(None) => answer.put_word("none"),
+        Err(error) => answer.put_word(fault(&error)),
     }
 }
 
 /// Who verifies, and how, by the next three columns.
-fn options_of(
-    alloc: Global,
-    head: Head<'_>,
-    program: Program,
-    row: &mut Row<'_>,
-) -> Result<Options, AllocError> {
+fn options_of(head: Head<'_>, program: Program, row: &mut Row<'_>, answer: &mut Answer) -> Options {
     let minimum_trust = level_of(head.minimum);
-    let allowed_signers = BString::new(row.next_bytes()?);
-    let revocation_file = file_of(row.next_bytes()?);
+    let allowed_signers = BString::new(answer.unspelled(row.next()));
+    let revocation_file = file_of(answer.unspelled(row.next()));
     let verify_time = parse_header(row.next()).unwrap_or_default();
     let Program {
         program,
         arguments: program_arguments,
         environment,
     } = program;
-    Ok(match head.format {
+    match head.format {
         Format::OpenPgp => Options::OpenPgp {
             program,
             program_arguments,
@@ -77,7 +87,7 @@ fn options_of(
             verify_time,
             minimum_trust,
         },
-    })
+    }
 }
 
 /// A file, or none where it is `-`.
@@ -90,48 +100,40 @@ fn file_of(path: Vec<u8>) -> Option<BString> {
 }
 
 /// What comes of verifying a signature of these bytes.
-fn outcome_text(
-    alloc: Global,
+fn put_outcome(
     signed: SignedData<'_>,
     signature: &[u8],
     options: Options,
     row: &mut Row<'_>,
-) -> Result<String, AllocError> {
-    match signed.verify(alloc, BStr::new(signature), options, row) {
-        Ok(outcome) => told_text(alloc, &outcome),
-        Err(Error::Spawn(asked)) => {
-            let asked = spelled(alloc, asked.as_bytes())?;
-            format!(in alloc; "asked {asked}")
-        }
-        Err(error) => format!(in alloc; "err {error}"),
+    answer: &mut Answer,
+) {
+    match signed.verify(answer.alloc, BStr::new(signature), options, row) {
+        Ok(outcome) => put_told(&outcome, answer),
+        Err(Error::Spawn(asked)) => answer.put_spelled("asked", asked.as_bytes()),
+        Err(error) => answer.put_shown("err", &error),
     }
 }
 
 /// An outcome.
-fn told_text(alloc: Global, outcome: &Outcome) -> Result<String, AllocError> {
-    let Outcome {
-        status,
-        trust_level,
-        ..
-    } = outcome;
-    let signer = spelled_if_some(alloc, &outcome.signer)?;
-    let key = spelled_if_some(alloc, &outcome.key)?;
-    let fingerprint = spelled_if_some(alloc, &outcome.fingerprint)?;
-    let primary = spelled_if_some(alloc, &outcome.primary_key_fingerprint)?;
-    let valid = if outcome.is_valid() {
-        "valid"
+fn put_told(outcome: &Outcome, answer: &mut Answer) {
+    let (status, trust) = (outcome.status, outcome.trust_level);
+    answer.push_shown(format_args!("{status:?} | {trust:?}"));
+    add_if_some(&outcome.signer, answer);
+    add_if_some(&outcome.key, answer);
+    add_if_some(&outcome.fingerprint, answer);
+    add_if_some(&outcome.primary_key_fingerprint, answer);
+    answer.add(if outcome.is_valid() {
+        "| valid"
     } else {
-        "not valid"
-    };
-    format!(in alloc;
-        "{status:?} | {trust_level:?} | {signer} | {key} | {fingerprint} | {primary} | {valid}"
-    )
+        "| not valid"
+    });
 }
 
 /// A text, or `-`.
-fn spelled_if_some(alloc: Global, text: &Option<BString>) -> Result<String, AllocError> {
+fn add_if_some(text: &Option<BString>, answer: &mut Answer) {
+    answer.add("|");
     match text {
-        Some(text) => spelled(alloc, text.as_bytes()),
-        None => String::from_str(alloc, "-"),
+        Some(text) => answer.add_spelled(text.as_bytes()),
+        None => answer.add("-"),
     }
 }

@@ -1,38 +1,26 @@
 //! Answers about objects of any kind, as the recorded ones are written.
 
-use crate::recorded::texts::{Columns, hex_of, size_text, written_text};
+use crate::recorded::answers::Answer;
+use crate::recorded::texts::outcome_word;
 use gixobj_base::WriteTo;
-use std::alloc::{AllocError, Global};
 
-/// What is written of an object, borrowed or owned.
-pub(crate) fn written_of<T: WriteTo>(alloc: Global, object: &T) -> Result<String, AllocError>
+/// The column of what is written of an object, borrowed or owned, under this word.
+pub(crate) fn put_written<T: WriteTo>(word: &str, object: &T, answer: &mut Answer)
     requires { T.can_write object.now }
 {
-    let mut out = Vec::new(alloc);
-    let outcome = object.write_to(alloc, &mut out);
-    written_text(alloc, outcome, out.as_slice())
+    let mut out = Vec::new(answer.alloc);
+    let outcome = object.write_to(answer.alloc, &mut out);
+    answer.put(word, outcome_word(outcome));
+    answer.add_hex(out.as_slice());
 }
 
 /// The columns of an object's size and of its loose header, under these words.
-pub(crate) fn put_sizes<T: WriteTo>(
-    alloc: Global,
-    object: &T,
-    size: &str,
-    loose: &str,
-    columns: &mut Columns,
-) -> Result<(), AllocError>
+pub(crate) fn put_sizes<T: WriteTo>(object: &T, size: &str, loose: &str, answer: &mut Answer)
     requires { T.can_write object.now }
 {
-    columns.put(size, size_text(alloc, object.size())?.as_str())?;
-    columns.put(loose, loose_of(alloc, object)?.as_str())
-}
-
-/// The loose header of an object, borrowed or owned.
-fn loose_of<T: WriteTo>(alloc: Global, object: &T) -> Result<String, AllocError>
-    requires { T.can_write object.now }
-{
-    match object.loose_header(alloc) {
-        Some(header) => hex_of(alloc, header.as_slice()),
-        None => String::from_str(alloc, "-"),
+    answer.put_size(size, object.size());
+    match object.loose_header(answer.alloc) {
+        Some(header) => answer.put_hex(loose, header.as_slice()),
+        None => answer.put(loose, "-"),
     }
 }

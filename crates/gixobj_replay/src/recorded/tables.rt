@@ -1,5 +1,6 @@
 //! Tables of recorded answers: a row is a question, a tab, and the answer.
 
+use crate::recorded::answers::Answer;
 use gixobj_base::parse::split_at_byte;
 use std::alloc::{AllocError, Global};
 use std::io::{ErrorKind, Write};
@@ -12,7 +13,7 @@ pub(crate) trait Recorded: Copy {
     fn names(self) -> (&'static str, &'static str);
 
     /// What the public calls answer, as the file would have it.
-    fn answer(self, alloc: Global, question: &[u8]) -> Result<Vec<u8>, AllocError>;
+    fn put_answer(self, question: &[u8], answer: &mut Answer);
 
     /// The question of a row and its answer, or none where the line is no row of this table.
     fn parts<'a>(self, line: &'a [u8]) -> Option<(&'a [u8], &'a [u8])>;
@@ -79,7 +80,9 @@ fn replay<T: Recorded, W: Write>(
         let Some((question, recorded)) = table.parts(line) else {
             continue;
         };
-        let answer = table.answer(alloc, question)?;
+        let mut answer = Answer::new(alloc);
+        table.put_answer(question, &mut answer);
+        let answer = answer.finish()?;
         count.all = count.all.saturating_add(1);
         if answer.as_slice() == recorded {
             count.same = count.same.saturating_add(1);

@@ -3,9 +3,9 @@
 use crate::commits::{commit_answer, size_answer, token_answer};
 use crate::git_commits::{beginning_answer, call_answer, search_answer, shape_answer};
 use crate::messages::{body_answer, message_answer, named_answer};
+use crate::recorded::answers::Answer;
 use crate::recorded::tables::{Recorded, named_parts};
 use gixobj_base::parse::split_at_byte;
-use std::alloc::{AllocError, Global};
 
 /// A file of recorded answers about commits and their messages.
 #[derive(Clone, Copy)]
@@ -54,18 +54,18 @@ impl Recorded for CommitTable {
         }
     }
 
-    fn answer(self, alloc: Global, question: &[u8]) -> Result<Vec<u8>, AllocError> {
+    fn put_answer(self, question: &[u8], answer: &mut Answer) {
         match self {
-            CommitTable::Commits => commit_answer(alloc, question),
-            CommitTable::CommitSizes => size_answer(alloc, question),
-            CommitTable::CommitTokens => token_answer(alloc, question),
-            CommitTable::Messages => message_answer(alloc, question),
-            CommitTable::Bodies => body_answer(alloc, question),
-            CommitTable::MessageTexts | CommitTable::GitTrailers => named_answer(alloc, question),
-            CommitTable::GitCommits | CommitTable::OddCommits => shape_answer(alloc, question),
-            CommitTable::CommitHeaders => search_answer(alloc, question),
-            CommitTable::CommitBeginnings => beginning_answer(alloc, question),
-            CommitTable::CommitCalls => call_answer(alloc, question),
+            CommitTable::Commits => commit_answer(question, answer),
+            CommitTable::CommitSizes => size_answer(question, answer),
+            CommitTable::CommitTokens => token_answer(question, answer),
+            CommitTable::Messages => message_answer(question, answer),
+            CommitTable::Bodies => body_answer(question, answer),
+            CommitTable::MessageTexts | CommitTable::GitTrailers => named_answer(question, answer),
+            CommitTable::GitCommits | CommitTable::OddCommits => shape_answer(question, answer),
+            CommitTable::CommitHeaders => search_answer(question, answer),
+            CommitTable::CommitBeginnings => beginning_answer(question, answer),
+            CommitTable::CommitCalls => call_answer(question, answer),
         }
     }
 

@@ -8,10 +8,10 @@ use crate::header_fields::header_field_answer;
 use crate::header_texts::header_text_answer;
 use crate::ids::{id_answer, object_id_answer};
 use crate::kinds::kind_answer;
+use crate::recorded::answers::Answer;
 use crate::recorded::tables::{Recorded, behind_source, named_parts};
 use crate::times::time_answer;
 use gixobj_base::parse::{split_at_byte, split_at_last_byte};
-use std::alloc::{AllocError, Global};
 
 /// A file of recorded answers about ids, kinds, modes, names, headers, times and actors.
 #[derive(Clone, Copy)]
@@ -66,21 +66,21 @@ impl Recorded for FieldTable {
         }
     }
 
-    fn answer(self, alloc: Global, question: &[u8]) -> Result<Vec<u8>, AllocError> {
+    fn put_answer(self, question: &[u8], answer: &mut Answer) {
         match self {
-            FieldTable::Modes => mode_answer(alloc, question),
-            FieldTable::ModeNumbers => number_answer(alloc, question),
-            FieldTable::NameOrder | FieldTable::NearNames => order_answer(alloc, question),
-            FieldTable::LooseHeaders => header_answer(alloc, question),
-            FieldTable::Actors => actor_answer(alloc, question),
-            FieldTable::Kinds => kind_answer(alloc, question),
-            FieldTable::EntryModes => entry_mode_answer(alloc, question),
-            FieldTable::Ids => id_answer(alloc, question),
-            FieldTable::ObjectIds => object_id_answer(alloc, question),
-            FieldTable::HeaderTexts => header_text_answer(alloc, question),
-            FieldTable::Times => time_answer(alloc, question),
-            FieldTable::ActorLines => actor_line_answer(alloc, question),
-            FieldTable::HeaderFields => header_field_answer(alloc, question),
+            FieldTable::Modes => mode_answer(question, answer),
+            FieldTable::ModeNumbers => number_answer(question, answer),
+            FieldTable::NameOrder | FieldTable::NearNames => order_answer(question, answer),
+            FieldTable::LooseHeaders => header_answer(question, answer),
+            FieldTable::Actors => actor_answer(question, answer),
+            FieldTable::Kinds => kind_answer(question, answer),
+            FieldTable::EntryModes => entry_mode_answer(question, answer),
+            FieldTable::Ids => id_answer(question, answer),
+            FieldTable::ObjectIds => object_id_answer(question, answer),
+            FieldTable::HeaderTexts => header_text_answer(question, answer),
+            FieldTable::Times => time_answer(question, answer),
+            FieldTable::ActorLines => actor_line_answer(question, answer),
+            FieldTable::HeaderFields => header_field_answer(question, answer),
         }
     }
 

@@ -4,10 +4,10 @@ use crate::git_objects::loose_answer;
 use crate::git_trees::git_tree_answer;
 use crate::listed_trees::{listed_tree_answer, well_formed_answer};
 use crate::loose_objects::object_answer;
+use crate::recorded::answers::Answer;
 use crate::recorded::tables::{Recorded, named_parts};
 use crate::trees::{tree_answer, tree_token_answer};
 use gixobj_base::parse::split_at_byte;
-use std::alloc::{AllocError, Global};
 
 /// A file of recorded answers about trees and loose objects.
 #[derive(Clone, Copy)]
@@ -44,15 +44,15 @@ impl Recorded for ObjectTable {
         }
     }
 
-    fn answer(self, alloc: Global, question: &[u8]) -> Result<Vec<u8>, AllocError> {
+    fn put_answer(self, question: &[u8], answer: &mut Answer) {
         match self {
-            ObjectTable::Trees => tree_answer(alloc, question),
-            ObjectTable::TreeTokens => tree_token_answer(alloc, question),
-            ObjectTable::Objects => object_answer(alloc, question),
-            ObjectTable::ListedTrees => listed_tree_answer(alloc, question),
-            ObjectTable::WellFormedTrees => well_formed_answer(alloc, question),
-            ObjectTable::GitTrees | ObjectTable::OddTrees => git_tree_answer(alloc, question),
-            ObjectTable::GitObjects => loose_answer(alloc, question),
+            ObjectTable::Trees => tree_answer(question, answer),
+            ObjectTable::TreeTokens => tree_token_answer(question, answer),
+            ObjectTable::Objects => object_answer(question, answer),
+            ObjectTable::ListedTrees => listed_tree_answer(question, answer),
+            ObjectTable::WellFormedTrees => well_formed_answer(question, answer),
+            ObjectTable::GitTrees | ObjectTable::OddTrees => git_tree_answer(question, answer),
+            ObjectTable::GitObjects => loose_answer(question, answer),
         }
     }
 

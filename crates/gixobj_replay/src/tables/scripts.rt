@@ -1,10 +1,10 @@
 //! The tables of scripts of edits.
 
+use crate::recorded::answers::Answer;
 use crate::recorded::tables::{Recorded, behind_source};
 use crate::scripts::{command_answer, script_answer};
 use crate::stored_scripts::stored_script_answer;
 use gixobj_base::parse::split_at_last_byte;
-use std::alloc::{AllocError, Global};
 
 /// A file of recorded answers about scripts of edits.
 #[derive(Clone, Copy)]
@@ -29,11 +29,11 @@ impl Recorded for ScriptTable {
         }
     }
 
-    fn answer(self, alloc: Global, question: &[u8]) -> Result<Vec<u8>, AllocError> {
+    fn put_answer(self, question: &[u8], answer: &mut Answer) {
         match self {
-            ScriptTable::Commands => command_answer(alloc, question),
-            ScriptTable::Scripts | ScriptTable::RandomScripts => script_answer(alloc, question),
-            ScriptTable::StoredScripts => stored_script_answer(alloc, question),
+            ScriptTable::Commands => command_answer(question, answer),
+            ScriptTable::Scripts | ScriptTable::RandomScripts => script_answer(question, answer),
+            ScriptTable::StoredScripts => stored_script_answer(question, answer),
         }
     }
 

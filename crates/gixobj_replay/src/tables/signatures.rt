@@ -1,11 +1,11 @@
 //! The tables of signatures.
 
 use crate::programs::program_answer;
+use crate::recorded::answers::Answer;
 use crate::recorded::tables::{Recorded, behind_source};
 use crate::reports::{gpg_report_answer, marker_answer, ssh_report_answer, trust_answer};
 use crate::signed_data::signed_data_answer;
 use gixobj_base::parse::{split_at_byte, split_at_last_byte};
-use std::alloc::{AllocError, Global};
 
 /// A file of recorded answers about signatures.
 #[derive(Clone, Copy)]
@@ -36,14 +36,14 @@ impl Recorded for SignatureTable {
         }
     }
 
-    fn answer(self, alloc: Global, question: &[u8]) -> Result<Vec<u8>, AllocError> {
+    fn put_answer(self, question: &[u8], answer: &mut Answer) {
         match self {
-            SignatureTable::GpgReports => gpg_report_answer(alloc, question),
-            SignatureTable::SshReports => ssh_report_answer(alloc, question),
-            SignatureTable::TrustLevels => trust_answer(alloc, question),
-            SignatureTable::Markers => marker_answer(alloc, question),
-            SignatureTable::SignedData => signed_data_answer(alloc, question),
-            SignatureTable::Programs => program_answer(alloc, question),
+            SignatureTable::GpgReports => gpg_report_answer(question, answer),
+            SignatureTable::SshReports => ssh_report_answer(question, answer),
+            SignatureTable::TrustLevels => trust_answer(question, answer),
+            SignatureTable::Markers => marker_answer(question, answer),
+            SignatureTable::SignedData => signed_data_answer(question, answer),
+            SignatureTable::Programs => program_answer(question, answer),
         }
     }
 

@@ -1,10 +1,10 @@
 //! The tables of tags and their names.
 
 use crate::git_tags::{git_name_answer, git_tag_answer, tag_parts_answer};
+use crate::recorded::answers::Answer;
 use crate::recorded::tables::{Recorded, named_parts};
 use crate::tags::{name_answer, tag_answer, tag_token_answer};
 use gixobj_base::parse::split_at_byte;
-use std::alloc::{AllocError, Global};
 
 /// A file of recorded answers about tags and their names.
 #[derive(Clone, Copy)]
@@ -38,14 +38,14 @@ impl Recorded for TagTable {
         }
     }
 
-    fn answer(self, alloc: Global, question: &[u8]) -> Result<Vec<u8>, AllocError> {
+    fn put_answer(self, question: &[u8], answer: &mut Answer) {
         match self {
-            TagTable::Tags => tag_answer(alloc, question),
-            TagTable::TagTokens => tag_token_answer(alloc, question),
-            TagTable::TagNames => name_answer(alloc, question),
-            TagTable::GitTagNames => git_name_answer(alloc, question),
-            TagTable::GitTags | TagTable::TagTexts => git_tag_answer(alloc, question),
-            TagTable::TagParts => tag_parts_answer(alloc, question),
+            TagTable::Tags => tag_answer(question, answer),
+            TagTable::TagTokens => tag_token_answer(question, answer),
+            TagTable::TagNames => name_answer(question, answer),
+            TagTable::GitTagNames => git_name_answer(question, answer),
+            TagTable::GitTags | TagTable::TagTexts => git_tag_answer(question, answer),
+            TagTable::TagParts => tag_parts_answer(question, answer),
         }
     }
 

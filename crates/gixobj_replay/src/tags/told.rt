@@ -1,45 +1,44 @@
 //! Answers about tags that are read token by token, as the recorded ones are written.
 
-use super::tagger_text;
-use crate::actors::actor_after;
-use crate::objects::told_id;
-use crate::recorded::texts::{Columns, fault, text_and_kind, text_of};
-use crate::texts::{hex_after, hex_if_some};
+use super::put_tagger;
+use crate::actors::put_actor;
+use crate::recorded::answers::Answer;
+use crate::recorded::texts::{fault, text_and_kind};
+use crate::texts::put_id;
 use gixobj_codec::TagRefIter;
 use gixobj_codec::tag::ref_iter::Token;
-use std::alloc::{AllocError, Global};
 
 /// What the public calls tell of a tag token by token.
-pub(crate) fn tag_token_answer(alloc: Global, question: &[u8]) -> Result<Vec<u8>, AllocError> {
-    let (bytes, hash_kind) = text_and_kind(alloc, question);
+pub(crate) fn tag_token_answer(question: &[u8], answer: &mut Answer) {
+    let (bytes, hash_kind) = text_and_kind(answer.alloc, question);
     let tokens = TagRefIter::from_bytes(bytes.as_slice(), hash_kind);
-    let mut columns = Columns::new(alloc);
-    for token in tokens {
-        match token {
-            Ok(token) => columns.put("token", token_text(alloc, token)?.as_str())?,
-            Err(error) => columns.put("token", fault(&error))?,
-        }
-    }
-    columns.put_word("end")?;
-    let target = told_id(alloc, tokens.target_id())?;
-    columns.put("iter-target-id", target.as_str())?;
-    let tagger = tagger_text(alloc, tokens.tagger())?;
-    columns.put("iter-tagger", tagger.as_str())?;
-    text_of(alloc, columns.as_str())
+    put_tokens(tokens, answer);
+    put_id("iter-target-id", tokens.target_id(), answer);
+    put_tagger("iter-tagger", tokens.tagger(), answer);
 }
 
-/// A token's word, and what it holds.
-fn token_text(alloc: Global, token: Token<'_>) -> Result<String, AllocError> {
+/// The columns of the tokens, and of their end.
+fn put_tokens(tokens: TagRefIter<'_>, answer: &mut Answer) {
+    for token in tokens {
+        match token {
+            Ok(token) => put_token(token, answer),
+            Err(error) => answer.put("token", fault(&error)),
+        }
+    }
+    answer.put_word("end");
+}
+
+/// The column of a token: its word, and what it holds.
+fn put_token(token: Token<'_>, answer: &mut Answer) {
     match token {
-        Token::Target { id } => format!(in alloc; "target {id}"),
-        Token::TargetKind(kind) => format!(in alloc; "kind {kind}"),
-        Token::Name(name) => hex_after(alloc, "name", name.as_bytes()),
-        Token::Tagger(Some(actor)) => actor_after(alloc, "tagger", actor),
-        Token::Tagger(None) => String::from_str(alloc, "tagger none"),
+        Token::Target { id } => answer.put_shown("token target", id),
+        Token::TargetKind(kind) => answer.put_shown("token kind", kind),
+        Token::Name(name) => answer.put_hex("token name", name.as_bytes()),
+        Token::Tagger(Some(actor)) => put_actor("token tagger", actor, answer),
+        Token::Tagger(None) => answer.put("token tagger", "none"),
         Token::Body { message, signature } => {
-            let message = hex_after(alloc, "body", message.as_bytes())?;
-            let signature = hex_if_some(alloc, signature)?;
-            format!(in alloc; "{message} {signature}")
+            answer.put_hex("token body", message.as_bytes());
+            answer.add_hex_if_some(signature);
         }
     }
 }
