@@ -1,4 +1,7 @@
 //! The proved callers, each once with ample memory.
+ghost use Rattle.gix_object.specs.CommitViews.{commit_lines};
+ghost use Rattle.gix_object.specs.CommitWriting.{HasIds};
+ghost use Rattle.gix_object.specs.Hash.{IsHexOfAnId};
 
 mod checkouts;
 mod copies;
@@ -111,7 +114,9 @@ fn copied(rt: HostRuntime) {
 }
 
 /// How many values a header of the commit has; none where there is no memory.
-fn count_of(alloc: Global, commit: &CommitRef<'_>, name: &str) -> Option<usize> {
+fn count_of(alloc: Global, commit: &CommitRef<'_>, name: &str) -> Option<usize>
+    requires { IsHexOfAnId (commit_lines commit.now).tree }
+{
     match values_of(alloc, commit, name) {
         Ok(values) => Some(values.len()),
         Err(_) => None,
@@ -119,13 +124,17 @@ fn count_of(alloc: Global, commit: &CommitRef<'_>, name: &str) -> Option<usize> 
 }
 
 /// Whether the commit has its signature, and one header `x`.
-fn has_headers(alloc: Global, commit: &CommitRef<'_>) -> bool {
+fn has_headers(alloc: Global, commit: &CommitRef<'_>) -> bool
+    requires { IsHexOfAnId (commit_lines commit.now).tree }
+{
     value_of(commit, "gpgsig") == Some(BStr::new(b"A\nB\n"))
         && count_of(alloc, commit, "x") == Some(1)
 }
 
 /// Whether the signature is the second header of the owned commit.
-fn is_signed_second(alloc: Global, commit: CommitRef<'_>) -> bool {
+fn is_signed_second(alloc: Global, commit: CommitRef<'_>) -> bool
+    requires { HasIds (commit_lines commit) }
+{
     match commit.into_owned(alloc) {
         Ok(owned) => place_of(&owned, "gpgsig") == Some(1),
         Err(_) => false,

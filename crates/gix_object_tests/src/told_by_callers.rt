@@ -1,4 +1,6 @@
 //! What callers tell of one header of a commit, and of one object on a shelf.
+ghost use Rattle.gix_object.specs.CommitViews.{commit_lines};
+ghost use Rattle.gix_object.specs.Hash.{IsHexOfAnId};
 
 use crate::samples::id;
 use bstr::BStr;
@@ -16,7 +18,9 @@ const SIGNED: &[u8] = b"tree 4b825dc642cb6eb9a060e54bf8d69288fbee4904\n\
     gpgsig A\n B\n\nhi\n";
 
 /// Whether the commit has a header `x` of the value 1, and no header `y`.
-fn has_headers(commit: &CommitRef<'_>) -> bool {
+fn has_headers(commit: &CommitRef<'_>) -> bool
+    requires { IsHexOfAnId (commit_lines commit.now).tree }
+{
     value_of(commit, "x") == Some(BStr::new(b"1")) && value_of(commit, "y").is_none()
 }
 

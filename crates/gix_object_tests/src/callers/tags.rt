@@ -1,4 +1,6 @@
 //! Tags copied, told and found in commits.
+ghost use Rattle.gix_object.specs.CommitViews.{commit_lines};
+ghost use Rattle.gix_object.specs.Hash.{IsHexOfAnId};
 
 use super::TREE as TARGET;
 use crate::samples::id;
@@ -63,7 +65,9 @@ fn is_one_tag<T, E>(tags: &[Result<T, E>]) -> bool {
 }
 
 /// Whether the commit merges one tag that is read.
-fn merges_a_tag(alloc: Global, commit: &CommitRef<'_>) -> bool {
+fn merges_a_tag(alloc: Global, commit: &CommitRef<'_>) -> bool
+    requires { IsHexOfAnId (commit_lines commit.now).tree }
+{
     match merged_tags_of(alloc, commit) {
         Ok(tags) => is_one_tag(&tags),
         Err(_) => false,
