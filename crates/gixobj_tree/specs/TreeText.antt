@@ -17,7 +17,7 @@ use Rattle.gixobj_hash.specs.Bytes.{space}
 abbrev pub before_name : EntryView → List ℕ
 before_name e = mode_text e.mode ++ space ∷ []
 
--- the mode and the name, which are as long as they are
+-- the mode and the name: an entry without its space, its zero byte and its id
 abbrev pub front_text : EntryView → List ℕ
 front_text e = mode_text e.mode ++ e.name
 
