@@ -6,7 +6,7 @@ use Rattle.std.proofs.lemmas.List.Elements.{All-contains, All-push, Contains-app
 use Rattle.std.proofs.lemmas.List.Concat.{flat_map-append}
 use Rattle.gixobj_tree.specs.Entries.{EntryView, entry_of}
 use Rattle.gixobj_hash.specs.Texts.{IsFree}
-use Rattle.gixobj_tree.specs.TreeText.{RefusesEntry, RefusesTree, before_name, entry_text, front_text, tree_text}
+use Rattle.gixobj_tree.specs.TreeText.{RefusesEntry, RefusesTree, before_name, entry_text, front_text, tree_text, with_ids}
 use Rattle.gixobj_fields.specs.Streams.{Puts, PutsFront, SinkView}
 use Rattle.gixobj_fields.specs.Writing.{Refused, RefusesWriting}
 use Rattle.gixobj_fields.specs.declared.encode.Error.{Error}
@@ -69,13 +69,13 @@ too_long items all i e n same h is len over short =
 entry_len : (e : EntryView) → length (entry_text e) ≡ length (front_text e) + 2 + length (id_bytes e.id)
 entry_len e = omega (arith, length-append (before_name e ++ e.name) (0 ∷ id_bytes e.id), length-append (before_name e) e.name, length-append (mode_text e.mode) (32 ∷ []), length-append (mode_text e.mode) e.name)
 
-pub size_step : (items : List EntryView) (i : ℕ) (e : EntryView) (size more longer one : ℕ) → i < length items → e ≡ get_or items i e → size + 22 * i + 12 * longer ≡ length (tree_text (take i items))
-    → more ≡ size + length (front_text e) → length (id_bytes e.id) ≡ 20 + 12 * one → more + 22 * (i + 1) + 12 * (longer + one) ≡ length (tree_text (take (i + 1) items))
+pub size_step : (items : List EntryView) (i : ℕ) (e : EntryView) (size more longer one : ℕ) → i < length items → e ≡ get_or items i e → with_ids size i longer ≡ length (tree_text (take i items))
+    → more ≡ size + length (front_text e) → length (id_bytes e.id) ≡ 20 + 12 * one → with_ids more (i + 1) (longer + one) ≡ length (tree_text (take (i + 1) items))
 size_step items i e size more longer one h is so_far put len =
     omega (arith, so_far, put, entry_len e, len, ap length (text_more items i e h is), length-append (tree_text (take i items)) (entry_text e))
 
 -- a tree is as long as a front of it at least
-pub size_past : (items all : List EntryView) (i : ℕ) (e : EntryView) (size longer : ℕ) → items ≡ all → i < length items → e ≡ get_or items i e → size + 22 * i + 12 * longer ≡ length (tree_text (take i items))
+pub size_past : (items all : List EntryView) (i : ℕ) (e : EntryView) (size longer : ℕ) → items ≡ all → i < length items → e ≡ get_or items i e → with_ids size i longer ≡ length (tree_text (take i items))
     → (size + length (front_text e) < 2 ^ 64 → ⊥) → length (tree_text all) < 2 ^ 64 → ⊥
 size_past items all i e size longer same h is so_far over short =
     over (omega (arith, short, so_far, entry_len e, ap length (ap tree_text same), ap length (text_more items i e h is), length-append (tree_text (take i items)) (entry_text e), front_shorter items (i + 1)))

@@ -1,5 +1,5 @@
 -- Trees as they are written (gitdatamodel, "trees"; git-mktree reads the same entries as lines).
-use Rattle.std.specs.Prelude.{◌≡◌, ℕ, List, [], ◌∷◌, ◌++◌, All, Contains, Err, Ok, Result, ⊤}
+use Rattle.std.specs.Prelude.{◌≡◌, ◌+◌, ◌*◌, ℕ, List, [], ◌∷◌, ◌++◌, All, Contains, Err, Ok, Result, ⊤}
 use Rattle.std.specs.List.{flat_map}
 use Rattle.gixobj_tree.specs.Entries.{EntryView}
 use Rattle.gixobj_hash.specs.Hash.{id_bytes, id_of}
@@ -20,6 +20,10 @@ before_name e = mode_text e.mode ++ space ∷ []
 -- the mode and the name: an entry without its space, its zero byte and its id
 abbrev pub front_text : EntryView → List ℕ
 front_text e = mode_text e.mode ++ e.name
+
+-- a size, and that of the space, the zero byte and the id of so many entries: 22 bytes each, and 12 more for each longer id, which has 32 bytes in place of 20
+abbrev pub with_ids : ℕ → ℕ → ℕ → ℕ
+with_ids size entries longer = size + 22 * entries + 12 * longer
 
 -- an entry: mode, space, name, zero byte, id
 abbrev pub entry_text : EntryView → List ℕ

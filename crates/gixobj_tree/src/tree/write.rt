@@ -8,7 +8,7 @@ ghost use Rattle.gixobj_hash.specs.Texts.{IsFree};
 ghost use Rattle.gixobj_tree.specs.Entries.{entry_of};
 ghost use Rattle.gixobj_mode.specs.Mode.{mode_bits, mode_text};
 ghost use Rattle.gixobj_tree.specs.TreeViews.{entry_view};
-ghost use Rattle.gixobj_tree.specs.TreeText.{IsAnsweredDigest, RefusesEntry, entry_text, front_text};
+ghost use Rattle.gixobj_tree.specs.TreeText.{IsAnsweredDigest, RefusesEntry, entry_text, front_text, with_ids};
 ghost use Rattle.gixobj_fields.specs.Streams.{Puts, PutsOrFails};
 ghost use Rattle.gixobj_fields.specs.Writing.{AddsSize, RefusesWriting};
 
@@ -80,13 +80,19 @@ fn longer_one(id: &ObjectId) -> u64
     }
 }
 
+/// How long a space, a zero byte and an id of 20 bytes are.
+const ID_LEN: u128 = 22;
+
+/// How many bytes more an id of 32 bytes has than one of 20.
+const LONGER_BY: u128 = 12;
+
 /// The size and that of the space, the zero byte and the id of so many entries, or none past 64 bits. So
 /// many of the ids are `longer`: they have 32 bytes, and else 20.
 fn size_with_ids(size: u64, entries: u64, longer: u64) -> Option<u64>
-    ensures { SomeIff result (size + 22 * entries + 12 * longer < 2 ^ 64)
-        (size + 22 * entries + 12 * longer) }
+    ensures { SomeIff result (with_ids size entries longer < 2 ^ 64)
+        (with_ids size entries longer) }
 {
-    let ids = 22 * u128::from(entries) + 12 * u128::from(longer);
+    let ids = ID_LEN * u128::from(entries) + LONGER_BY * u128::from(longer);
     u64::try_from(u128::from(size) + ids).ok()
 }
 
