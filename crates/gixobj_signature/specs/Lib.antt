@@ -1,4 +1,5 @@
 pub mod Calls
+pub mod Pieces
 pub mod Plans
 pub mod SignedBytes
 pub mod Signing

@@ -55,27 +55,25 @@ abbrev pub signing_words : List (List ℕ) → List WordView
 signing_words arguments =
     map text arguments ++ text (codes "-Y") ∷ text (codes "sign") ∷ text (codes "-n") ∷ text (codes "git") ∷ text (codes "-f") ∷ []
 
+-- SSH: a call of these words and files, with no input, which leaves the signature beside the file of this number
+abbrev pub leaving_call : OptionsView → List WordView → List (List ℕ) → ℕ → CallView
+leaving_call it words files result = record {
+  program = it.program;
+  words = words;
+  environment = it.environment;
+  files = files;
+  input = None;
+  result = Some result;
+}
+
 -- SSH: the key in a file of the caller's, and what is signed in file 0
 abbrev pub path_call : OptionsView → List ℕ → CallView
-path_call it payload = record {
-  program = it.program;
-  words = signing_words it.arguments ++ text it.key ∷ file 0 ∷ [];
-  environment = it.environment;
-  files = payload ∷ [];
-  input = None;
-  result = Some 0;
-}
+path_call it payload = leaving_call it (signing_words it.arguments ++ text it.key ∷ file 0 ∷ []) (payload ∷ []) 0
 
 -- SSH: the key in file 0, and what is signed in file 1
 abbrev pub literal_call : OptionsView → List ℕ → List ℕ → CallView
-literal_call it key payload = record {
-  program = it.program;
-  words = signing_words it.arguments ++ file 0 ∷ text (codes "-U") ∷ file 1 ∷ [];
-  environment = it.environment;
-  files = key ∷ payload ∷ [];
-  input = None;
-  result = Some 1;
-}
+literal_call it key payload =
+    leaving_call it (signing_words it.arguments ++ file 0 ∷ text (codes "-U") ∷ file 1 ∷ []) (key ∷ payload ∷ []) 1
 
 abbrev pub ssh_call_by : Option (List ℕ) → OptionsView → List ℕ → CallView
 ssh_call_by None it payload = path_call it payload

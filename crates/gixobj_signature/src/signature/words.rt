@@ -1,12 +1,25 @@
 //! The words of calls and what is set for them, copied.
-ghost use Rattle.std.specs.Prelude.{◌≡◌, ◌≢◌, [], IfOk, OnErr, map};
+ghost use Rattle.std.specs.Prelude.{◌≡◌, ◌≢◌, ◌++◌, [], IfOk, OnErr, OnOk, map};
 ghost use Rattle.bstr.specs.Owned.{bstring_bytes};
 ghost use Rattle.gixobj_signature.specs.Calls.{pair_view, text, word_view};
+ghost use Rattle.gixobj_signature.specs.Pieces.{piece_view};
 
 use crate::signature::Word;
 use bstr::{BString, ByteSlice};
+use gixobj_actor::date::Time;
 use gixobj_hash::OutOfMemory;
 use std::alloc::Global;
+
+/// A word that is fixed, or that is copied from what is given.
+#[derive(Clone, Copy)]
+pub(crate) enum Piece<'a> {
+    /// As [`Word::Text`].
+    Text(&'a [u8]),
+    /// As [`Word::File`].
+    File(usize),
+    /// As [`Word::VerifyTime`].
+    VerifyTime(Time),
+}
 
 /// The word of these bytes. `OutOfMemory` where a copy of them finds no memory.
 pub fn text(alloc: Global, bytes: &[u8]) -> Result<Word, OutOfMemory>
@@ -26,6 +39,46 @@ pub fn words_of(alloc: Global, texts: &[BString]) -> Result<Vec<Word>, OutOfMemo
         words.push(text(alloc, one.as_bytes())?)?;
     }
     Ok(words)
+}
+
+/// The same, and behind these a word for each piece.
+pub(crate) fn words_with(
+    alloc: Global,
+    texts: &[BString],
+    pieces: &[Piece<'_>],
+) -> Result<Vec<Word>, OutOfMemory>
+    ensures { IfOk result (λ it. map word_view it.items
+        ≡ map text (map bstring_bytes texts.now) ++ map piece_view pieces.now) }
+{
+    let mut words = words_of(alloc, texts)?;
+    push_words(alloc, &mut words, pieces)?;
+    Ok(words)
+}
+
+/// Puts a word for each piece behind the words.
+pub(crate) fn push_words(
+    alloc: Global,
+    words: &mut Vec<Word>,
+    pieces: &[Piece<'_>],
+) -> Result<(), OutOfMemory>
+    ensures { OnOk result (map word_view words.new.items
+        ≡ map word_view words.old.items ++ map piece_view pieces.now) }
+{
+    for piece in pieces {
+        words.push(word_of(alloc, piece)?)?;
+    }
+    Ok(())
+}
+
+/// The word of a piece.
+fn word_of(alloc: Global, piece: &Piece<'_>) -> Result<Word, OutOfMemory>
+    ensures { IfOk result (λ it. word_view it ≡ piece_view piece.now) }
+{
+    match piece {
+        Piece::Text(bytes) => text(alloc, bytes),
+        Piece::File(number) => Ok(Word::File(*number)),
+        Piece::VerifyTime(time) => Ok(Word::VerifyTime(*time)),
+    }
 }
 
 /// Copies of these names and values. `OutOfMemory` where they find no memory, only where there is a name.

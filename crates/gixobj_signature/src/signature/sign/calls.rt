@@ -1,11 +1,13 @@
 //! The calls by which programs are asked to sign (gpg(1), `--detach-sign`; ssh-keygen(1), `-Y sign`).
-ghost use Rattle.std.specs.Prelude.{◌≡◌, IfOk, map};
+ghost use Rattle.std.specs.Prelude.{◌≡◌, ◌++◌, IfOk, map};
 ghost use Rattle.bstr.specs.Owned.{bstring_bytes};
 ghost use Rattle.gixobj_signature.specs.Calls.{call_view, word_view};
-ghost use Rattle.gixobj_signature.specs.Signing.{gpg_call, literal_call, options_view, path_call, signing_words, ssh_call};
+ghost use Rattle.gixobj_signature.specs.Pieces.{piece_view};
+ghost use Rattle.gixobj_signature.specs.Signing.{gpg_call, leaving_call, literal_call, options_view, path_call, signing_words, ssh_call};
 
 use super::{Options, is_literal_ssh_key};
-use crate::signature::words::{environment_of, text, words_of};
+use crate::signature::words::Piece::{File, Text};
+use crate::signature::words::{Piece, environment_of, push_words, words_with};
 use crate::signature::{Call, Word};
 use bstr::{BString, ByteSlice};
 use gixobj_hash::OutOfMemory;
@@ -15,10 +17,9 @@ use std::alloc::Global;
 pub fn gpg_call_of(alloc: Global, payload: &[u8], options: &Options) -> Result<Call, OutOfMemory>
     ensures { IfOk result (λ it. call_view it ≡ gpg_call (options_view options.now) payload.now) }
 {
-    let mut words = words_of(alloc, &options.program_arguments)?;
-    words.push(text(alloc, b"--status-fd=2")?)?;
-    words.push(text(alloc, b"-bsau")?)?;
-    words.push(text(alloc, options.signing_key.as_bytes())?)?;
+    let key = options.signing_key.as_bytes();
+    let pieces = [Text(b"--status-fd=2"), Text(b"-bsau"), Text(key)];
+    let words = words_with(alloc, &options.program_arguments, &pieces)?;
     Ok(Call {
         program: BString::from_slice(alloc, options.program.as_bytes())?,
         words,
@@ -43,17 +44,10 @@ pub fn ssh_call_of(alloc: Global, payload: &[u8], options: &Options) -> Result<C
 fn path_call_of(alloc: Global, payload: &[u8], options: &Options) -> Result<Call, OutOfMemory>
     ensures { IfOk result (λ it. call_view it ≡ path_call (options_view options.now) payload.now) }
 {
-    let mut words = signing_words_of(alloc, &options.program_arguments)?;
-    words.push(text(alloc, options.signing_key.as_bytes())?)?;
-    words.push(Word::File(0))?;
-    Ok(Call {
-        program: BString::from_slice(alloc, options.program.as_bytes())?,
-        words,
-        environment: environment_of(alloc, &options.environment)?,
-        files: vec![in alloc; BString::from_slice(alloc, payload)?]?,
-        input: None,
-        result: Some(0),
-    })
+    let pieces = [Text(options.signing_key.as_bytes()), File(0)];
+    let words = signing_words_of(alloc, options, &pieces)?;
+    let files = vec![in alloc; BString::from_slice(alloc, payload)?]?;
+    call_of(alloc, options, words, files, 0)
 }
 
 /// The call where the key is given by its bytes, which get a file too.
@@ -66,33 +60,55 @@ fn literal_call_of(
     ensures { IfOk result (λ it. call_view it
         ≡ literal_call (options_view options.now) key.now payload.now) }
 {
-    let mut words = signing_words_of(alloc, &options.program_arguments)?;
-    words.push(Word::File(0))?;
-    words.push(text(alloc, b"-U")?)?;
-    words.push(Word::File(1))?;
-    Ok(Call {
-        program: BString::from_slice(alloc, options.program.as_bytes())?,
-        words,
-        environment: environment_of(alloc, &options.environment)?,
-        files: vec![in alloc;
-            BString::from_slice(alloc, key)?,
-            BString::from_slice(alloc, payload)?,
-        ]?,
-        input: None,
-        result: Some(1),
-    })
+    let words = signing_words_of(alloc, options, &[File(0), Text(b"-U"), File(1)])?;
+    let files = vec![in alloc;
+        BString::from_slice(alloc, key)?,
+        BString::from_slice(alloc, payload)?,
+    ]?;
+    call_of(alloc, options, words, files, 1)
 }
 
-/// The words of a program of SSH up to the key.
-fn signing_words_of(alloc: Global, arguments: &[BString]) -> Result<Vec<Word>, OutOfMemory>
+/// The words of a program of SSH up to the key, and those of the pieces behind them.
+fn signing_words_of(
+    alloc: Global,
+    options: &Options,
+    pieces: &[Piece<'_>],
+) -> Result<Vec<Word>, OutOfMemory>
     ensures { IfOk result (λ it. map word_view it.items
-        ≡ signing_words (map bstring_bytes arguments.now)) }
+        ≡ signing_words (options_view options.now).arguments ++ map piece_view pieces.now) }
 {
-    let mut words = words_of(alloc, arguments)?;
-    words.push(text(alloc, b"-Y")?)?;
-    words.push(text(alloc, b"sign")?)?;
-    words.push(text(alloc, b"-n")?)?;
-    words.push(text(alloc, b"git")?)?;
-    words.push(text(alloc, b"-f")?)?;
+    let fixed = [
+        Text(b"-Y"),
+        Text(b"sign"),
+        Text(b"-n"),
+        Text(b"git"),
+        Text(b"-f"),
+    ];
+    let mut words = words_with(alloc, &options.program_arguments, &fixed)?;
+    push_words(alloc, &mut words, pieces)?;
     Ok(words)
+}
+
+/// A call of these words and files, which may leave a signature beside the file of this number.
+fn call_of(
+    alloc: Global,
+    options: &Options,
+    words: Vec<Word>,
+    files: Vec<BString>,
+    number: usize,
+) -> Result<Call, OutOfMemory>
+    ensures { IfOk result (λ it. call_view it
+        ≡ leaving_call (options_view options.now) (map word_view words.items)
+        (map bstring_bytes files.items) number) }
+{
+    let environment = environment_of(alloc, &options.environment)?;
+    let program = BString::from_slice(alloc, options.program.as_bytes())?;
+    Ok(Call {
+        program,
+        words,
+        environment,
+        files,
+        input: None,
+        result: Some(number),
+    })
 }

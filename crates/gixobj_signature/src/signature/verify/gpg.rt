@@ -12,7 +12,8 @@ ghost use Rattle.gixobj_signature.specs.Plans.{TakesForCalls};
 ghost use Rattle.gixobj_signature.specs.Verifying.{ComesOf, gpg_verified, gpg_verify_plan, reported, verify_plan, verify_view};
 
 use super::{Error, Program, ask_one};
-use crate::signature::words::{environment_of, text, words_of};
+use crate::signature::words::Piece::{File, Text};
+use crate::signature::words::{environment_of, push_words, words_with};
 use crate::signature::{Call, Output, Runner, SignedData, Word};
 use bstr::{BString, ByteSlice};
 use gixobj_hash::OutOfMemory;
@@ -138,12 +139,14 @@ fn open_pgp_call_of(
 fn open_pgp_words_of(alloc: Global, by: &Program) -> Result<Vec<Word>, OutOfMemory>
     ensures { IfOk result (λ it. map word_view it.items ≡ open_pgp_words (program_of by.now)) }
 {
-    let mut words = words_of(alloc, &by.program_arguments)?;
-    words.push(text(alloc, b"--keyid-format=long")?)?;
-    words.push(text(alloc, b"--status-fd=1")?)?;
-    words.push(text(alloc, b"--verify")?)?;
-    words.push(Word::File(0))?;
-    words.push(text(alloc, b"-")?)?;
+    let pieces = [
+        Text(b"--keyid-format=long"),
+        Text(b"--status-fd=1"),
+        Text(b"--verify"),
+        File(0),
+        Text(b"-"),
+    ];
+    let words = words_with(alloc, &by.program_arguments, &pieces)?;
     Ok(words)
 }
 
@@ -168,8 +171,7 @@ fn x509_words_of(alloc: Global, by: &Program) -> Result<Vec<Word>, OutOfMemory>
     ensures { IfOk result (λ it. map word_view it.items ≡ x509_words (program_of by.now)) }
 {
     let mut words = x509_options_of(alloc, by)?;
-    words.push(Word::File(0))?;
-    words.push(Word::File(1))?;
+    push_words(alloc, &mut words, &[File(0), File(1)])?;
     Ok(words)
 }
 
@@ -177,9 +179,8 @@ fn x509_words_of(alloc: Global, by: &Program) -> Result<Vec<Word>, OutOfMemory>
 fn x509_options_of(alloc: Global, by: &Program) -> Result<Vec<Word>, OutOfMemory>
     ensures { IfOk result (λ it. map word_view it.items ≡ x509_options (program_of by.now)) }
 {
-    let mut words = words_of(alloc, &by.program_arguments)?;
-    words.push(text(alloc, b"--status-fd=1")?)?;
-    words.push(text(alloc, b"--verify")?)?;
+    let pieces = [Text(b"--status-fd=1"), Text(b"--verify")];
+    let words = words_with(alloc, &by.program_arguments, &pieces)?;
     Ok(words)
 }
 

@@ -8,7 +8,8 @@ ghost use Rattle.gixobj_signature.specs.Verifiers.{ssh_of, ssh_program_of};
 ghost use Rattle.gixobj_signature.specs.VerifyingCalls.{check_words, git_words, in_english, novalidate_call, novalidate_words, principal_call, principal_words, principals_call, revocation_words, verify_words, whole_call};
 
 use crate::signature::verify::SshProgram;
-use crate::signature::words::{environment_of, text, words_of};
+use crate::signature::words::Piece::{File, Text, VerifyTime};
+use crate::signature::words::{environment_of, push_words, words_with};
 use crate::signature::{Call, SignedData, Word};
 use bstr::{BString, ByteSlice};
 use gixobj_hash::OutOfMemory;
@@ -24,14 +25,16 @@ pub(crate) fn principals_call_of(
     ensures { IfOk result (λ it. call_view it
         ≡ principals_call (ssh_program_of by.now) (ssh_of by.now) signature.now) }
 {
-    let mut words = words_of(alloc, &by.program_arguments)?;
-    words.push(text(alloc, b"-Y")?)?;
-    words.push(text(alloc, b"find-principals")?)?;
-    words.push(text(alloc, b"-f")?)?;
-    words.push(text(alloc, by.allowed_signers.as_bytes())?)?;
-    words.push(text(alloc, b"-s")?)?;
-    words.push(Word::File(0))?;
-    words.push(Word::VerifyTime(by.verify_time))?;
+    let pieces = [
+        Text(b"-Y"),
+        Text(b"find-principals"),
+        Text(b"-f"),
+        Text(by.allowed_signers.as_bytes()),
+        Text(b"-s"),
+        File(0),
+        VerifyTime(by.verify_time),
+    ];
+    let words = words_with(alloc, &by.program_arguments, &pieces)?;
     let input = Some(BString::new(Vec::new(alloc)));
     call_of(alloc, by, words, signature, input)
 }
@@ -65,10 +68,13 @@ fn principal_words_of(
         ≡ principal_words (ssh_program_of by.now) (ssh_of by.now) principal.now) }
 {
     let mut words = verify_words_of(alloc, by)?;
-    words.push(text(alloc, principal)?)?;
-    words.push(text(alloc, b"-s")?)?;
-    words.push(Word::File(0))?;
-    words.push(Word::VerifyTime(by.verify_time))?;
+    let pieces = [
+        Text(principal),
+        Text(b"-s"),
+        File(0),
+        VerifyTime(by.verify_time),
+    ];
+    push_words(alloc, &mut words, &pieces)?;
     Ok(words)
 }
 
@@ -78,9 +84,12 @@ fn verify_words_of(alloc: Global, by: &SshProgram) -> Result<Vec<Word>, OutOfMem
         ≡ verify_words (ssh_program_of by.now) (ssh_of by.now)) }
 {
     let mut words = git_words_of(alloc, by, b"verify")?;
-    words.push(text(alloc, b"-f")?)?;
-    words.push(text(alloc, by.allowed_signers.as_bytes())?)?;
-    words.push(text(alloc, b"-I")?)?;
+    let pieces = [
+        Text(b"-f"),
+        Text(by.allowed_signers.as_bytes()),
+        Text(b"-I"),
+    ];
+    push_words(alloc, &mut words, &pieces)?;
     Ok(words)
 }
 
@@ -89,12 +98,8 @@ fn git_words_of(alloc: Global, by: &SshProgram, command: &[u8]) -> Result<Vec<Wo
     ensures { IfOk result (λ it. map word_view it.items
         ≡ git_words (ssh_program_of by.now) command.now) }
 {
-    let mut words = words_of(alloc, &by.program_arguments)?;
-    words.push(text(alloc, b"-Y")?)?;
-    words.push(text(alloc, command)?)?;
-    words.push(text(alloc, b"-n")?)?;
-    words.push(text(alloc, b"git")?)?;
-    Ok(words)
+    let pieces = [Text(b"-Y"), Text(command), Text(b"-n"), Text(b"git")];
+    words_with(alloc, &by.program_arguments, &pieces)
 }
 
 /// The call that asks whether the signature holds, whoever made it.
@@ -120,9 +125,8 @@ fn novalidate_words_of(alloc: Global, by: &SshProgram) -> Result<Vec<Word>, OutO
         ≡ novalidate_words (ssh_program_of by.now) (ssh_of by.now)) }
 {
     let mut words = check_words_of(alloc, by)?;
-    words.push(text(alloc, b"-s")?)?;
-    words.push(Word::File(0))?;
-    words.push(Word::VerifyTime(by.verify_time))?;
+    let pieces = [Text(b"-s"), File(0), VerifyTime(by.verify_time)];
+    push_words(alloc, &mut words, &pieces)?;
     Ok(words)
 }
 
@@ -144,8 +148,7 @@ fn with_revocation(
 {
     let mut words = words;
     if let Some(path) = file {
-        words.push(text(alloc, b"-r")?)?;
-        words.push(text(alloc, path.as_bytes())?)?;
+        push_words(alloc, &mut words, &[Text(b"-r"), Text(path.as_bytes())])?;
     }
     Ok(words)
 }
@@ -162,17 +165,28 @@ fn call_of(
         ≡ whole_call (in_english (ssh_program_of by.now)) (map word_view words.items)
         (signature.now ∷ []) (option_map bstring_bytes input)) }
 {
-    let mut environment = environment_of(alloc, &by.environment)?;
-    environment.push(pair(alloc, b"LANG", b"C")?)?;
-    environment.push(pair(alloc, b"LC_ALL", b"C")?)?;
+    let environment = english_of(alloc, by)?;
+    let program = BString::from_slice(alloc, by.program.as_bytes())?;
+    let files = vec![in alloc; BString::from_slice(alloc, signature)?]?;
     Ok(Call {
-        program: BString::from_slice(alloc, by.program.as_bytes())?,
+        program,
         words,
         environment,
-        files: vec![in alloc; BString::from_slice(alloc, signature)?]?,
+        files,
         input,
         result: None,
     })
+}
+
+/// The names and values, and those with which answers are in English.
+fn english_of(alloc: Global, by: &SshProgram) -> Result<Vec<(BString, BString)>, OutOfMemory>
+    ensures { IfOk result (λ it. map pair_view it.items
+        ≡ (in_english (ssh_program_of by.now)).environment) }
+{
+    let mut environment = environment_of(alloc, &by.environment)?;
+    environment.push(pair(alloc, b"LANG", b"C")?)?;
+    environment.push(pair(alloc, b"LC_ALL", b"C")?)?;
+    Ok(environment)
 }
 
 /// A name and its value.
