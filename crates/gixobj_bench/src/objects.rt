@@ -58,15 +58,41 @@ fn measure_kind<R: Clock + Print + AllocGlobal>(
     };
     let texts = in_parts(alloc, &texts)?;
     let read = read_parts(alloc, kind, &texts)?;
-    subject.row(rt, "whole-read", &mut Whole { alloc, kind }, &texts)?;
-    measure_told(rt, subject, kind, &texts)?;
-    measure_read(rt, subject, &read)?;
-    let owned = own_parts(alloc, &read)?;
+    measure_parts(rt, subject, kind, &texts, &read)
+}
+
+/// Measures all work on texts of a kind, and on the objects that were read of them.
+fn measure_parts<R: Clock + Print + AllocGlobal>(
+    rt: &R,
+    subject: Subject,
+    kind: Kind,
+    texts: &[Vec<&[u8]>],
+    read: &[Vec<ObjectRef<'_>>],
+) -> Result<(), Fault>
+    requires ids { AllOfParts HasObjectIds read.now }
+    requires ready { AllOfParts IsReadyToWrite read.now }
+{
+    let alloc = rt.alloc();
+    subject.row(rt, "whole-read", &mut Whole { alloc, kind }, texts)?;
+    measure_told(rt, subject, kind, texts)?;
+    measure_read(rt, subject, read)?;
+    let owned = own_parts(alloc, read)?;
     measure_owned(rt, subject, &owned)?;
-    subject.row(rt, "hash", &mut Digested { kind }, &texts)?;
+    measure_others(rt, subject, kind, texts, read)
+}
+
+/// Measures ids, entries that are looked up, and messages.
+fn measure_others<R: Clock + Print + AllocGlobal>(
+    rt: &R,
+    subject: Subject,
+    kind: Kind,
+    texts: &[Vec<&[u8]>],
+    read: &[Vec<ObjectRef<'_>>],
+) -> Result<(), Fault> {
+    subject.row(rt, "hash", &mut Digested { kind }, texts)?;
     match kind {
-        Kind::Tree => subject.row(rt, "bisect", &mut LookedUp, &read),
-        Kind::Commit => measure_messages(rt, subject, &read),
+        Kind::Tree => subject.row(rt, "bisect", &mut LookedUp, read),
+        Kind::Commit => measure_messages(rt, subject, read),
         Kind::Blob | Kind::Tag => Ok(()),
     }
 }
