@@ -7,6 +7,7 @@ mod checkouts;
 mod copies;
 mod imports;
 mod plans;
+mod releases;
 mod signers;
 mod tags;
 mod uploads;
