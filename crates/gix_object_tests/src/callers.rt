@@ -3,6 +3,7 @@ ghost use Rattle.gix_object.specs.CommitViews.{commit_lines};
 ghost use Rattle.gix_object.specs.CommitWriting.{HasIds};
 ghost use Rattle.gix_object.specs.Hash.{IsHexOfAnId};
 
+mod archives;
 mod checkouts;
 mod copies;
 mod imports;

@@ -222,8 +222,10 @@ fn audited_by(alloc: Global, kind: Kind, text: &[u8], runner: &mut Handed) -> &'
 /// report, and it was asked.
 fn is_audited(
     alloc: Global,
-    (kind, text): (Kind, &[u8]),
-    (payload, report): (&'static [u8], &[u8]),
+    kind: Kind,
+    text: &[u8],
+    payload: &'static [u8],
+    report: &[u8],
     wanted: &str,
 ) -> bool {
     match verifier(alloc, payload, report) {
@@ -243,17 +245,11 @@ fn is_told_unasked(alloc: Global, kind: Kind, text: &[u8], wanted: &str) -> bool
 #[test]
 fn audited(rt: HostRuntime) {
     let alloc = rt.alloc();
-    assert!(rt; is_audited(alloc, (Kind::Commit, SIGNED), (PLAIN, GOOD), "accepted"));
-    assert!(rt; is_audited(alloc, (Kind::Commit, SIGNED), (PLAIN, BAD), "not accepted"));
-    assert!(rt; is_audited(alloc, (Kind::Commit, SIGNED), (SIGNED, GOOD), "not started"));
-    assert!(rt;
-        is_audited(
-            alloc,
-            (Kind::Tag, SIGNED_TAG),
-            (PLAIN_TAG, GOOD),
-            "accepted"
-        )
-    );
+    let (commit, tag) = (Kind::Commit, Kind::Tag);
+    assert!(rt; is_audited(alloc, commit, SIGNED, PLAIN, GOOD, "accepted"));
+    assert!(rt; is_audited(alloc, commit, SIGNED, PLAIN, BAD, "not accepted"));
+    assert!(rt; is_audited(alloc, commit, SIGNED, SIGNED, GOOD, "not started"));
+    assert!(rt; is_audited(alloc, tag, SIGNED_TAG, PLAIN_TAG, GOOD, "accepted"));
 }
 
 #[test]
