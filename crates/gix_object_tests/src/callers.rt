@@ -3,10 +3,12 @@ ghost use Rattle.gix_object.specs.CommitViews.{commit_lines};
 ghost use Rattle.gix_object.specs.CommitWriting.{HasIds};
 ghost use Rattle.gix_object.specs.Hash.{IsHexOfAnId};
 
+mod archives;
 mod checkouts;
 mod copies;
 mod imports;
 mod plans;
+mod releases;
 mod signers;
 mod tags;
 mod uploads;

@@ -12,7 +12,7 @@ mod listing;
 mod loose;
 mod paths;
 mod rewording;
-mod runners;
+pub(crate) mod runners;
 mod runs;
 mod signing;
 mod stores;
@@ -427,7 +427,11 @@ fn a_history(rt: HostRuntime) {
 const SIGNATURE: &[u8] = b"-----BEGIN PGP SIGNATURE-----\nA\n";
 
 /// A runner whose program succeeds, and writes this.
-fn runner(alloc: Global, stdout: &[u8], stderr: &[u8]) -> Result<runners::Same, AllocError> {
+pub(crate) fn runner(
+    alloc: Global,
+    stdout: &[u8],
+    stderr: &[u8],
+) -> Result<runners::Same, AllocError> {
     let stdout = Vec::from_slice(alloc, stdout)?;
     let stderr = Vec::from_slice(alloc, stderr)?;
     let answer = Output {

@@ -43,10 +43,15 @@ fn check_out(
 /// What `git mktree --missing` answers for the files `a/b/hello.txt` and `a/hello.txt` of the first id.
 const CHECKED_OUT: &[u8] = b"3365befd1a144ea91abbebb315dc3f3d7c071db2";
 
-/// A word for a root: whether it is that of both files, and three trees go out.
+/// What it answers for the file `hello.txt` of the first id alone.
+const ALONE: &[u8] = b"aaa96ced2d9a1c8e72c56b253a0e2fe78393feb7";
+
+/// A word for a root: whether it is that of both files, and three trees go out, or that of one file, and it goes out.
 fn word(written: &Written) -> &'static str {
     if written.id == id(CHECKED_OUT) && written.trees.len() == 3 {
         "both"
+    } else if written.id == id(ALONE) && written.trees.len() == 1 {
+        "alone"
     } else {
         "otherwise"
     }
@@ -75,6 +80,12 @@ fn outcome_at(alloc: Global, prefix: &[&str], paths: &[&[&str]]) -> &'static str
 fn checked_out(rt: HostRuntime) {
     let files: [&[&str]; 2] = [&["hello.txt"], &["b", "hello.txt"]];
     assert!(rt; outcome_at(rt.alloc(), &["a"], &files) == "both");
+}
+
+/// The empty prefix is the root itself.
+#[test]
+fn checked_out_at_the_root(rt: HostRuntime) {
+    assert!(rt; outcome_at(rt.alloc(), &[], &[&["hello.txt"]]) == "alone");
 }
 
 #[test]

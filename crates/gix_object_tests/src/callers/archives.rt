@@ -1,0 +1,42 @@
+//! The tip of a history that is archived.
+
+use crate::import::samples::{COMMITS, plain_steps};
+use crate::samples::id;
+use gix_object::Memory;
+use gix_object::hash::Kind;
+use gix_object::import::{Imported, Step};
+use gixobj_callers::archive::tip_of;
+use std::alloc::Global;
+
+/// What `git mktree --missing` answers for the root of the last of the three steps.
+const ROOT: &[u8] = b"3c4e9cd789d88d8d89c1073707c3585e41b0e614";
+
+/// Whether this is what the last of the three steps becomes.
+fn is_last(tip: &Imported) -> bool {
+    let [_, _, last] = COMMITS;
+    tip.commit == id(last.as_bytes()) && tip.written.id == id(ROOT)
+}
+
+/// Whether a history has the last of the three steps as its tip; of a history without a tip none.
+fn has_last(alloc: Global, steps: &[Step]) -> Option<bool> {
+    match tip_of(alloc, Memory::new(alloc), Kind::Sha1, steps) {
+        Ok(Some(tip)) => Some(is_last(&tip)),
+        Ok(None) => None,
+        Err(_) => Some(false),
+    }
+}
+
+/// Whether the three steps have the last as their tip.
+fn is_archived(alloc: Global) -> bool {
+    match plain_steps(alloc) {
+        Ok(steps) => has_last(alloc, &steps) == Some(true),
+        Err(_) => false,
+    }
+}
+
+#[test]
+fn archived(rt: HostRuntime) {
+    let alloc = rt.alloc();
+    assert!(rt; is_archived(alloc));
+    assert!(rt; has_last(alloc, &[]).is_none());
+}
