@@ -9,6 +9,7 @@ use Rattle.gixobj_hash.specs.declared.decode.Error as decode
 use Rattle.gixobj_text.specs.declared.signature.Format.{Format}
 use Rattle.gixobj_text.specs.declared.signature.Format.TheVariants as format
 use Rattle.gixobj_signature.specs.Calls.{Answer, CallView, Failure, OutputView, WordView, failed, file, no_file, no_memory, no_time, not_spawned, not_told, pair_view, ran, text}
+use Rattle.gixobj_signature.specs.Pieces.{git_words}
 use Rattle.gixobj_signature.specs.Plans.{Goes, Plan, ask, done, no_more}
 use Rattle.gixobj_signature.specs.declared.signature.sign.Options.{Options}
 use Rattle.gixobj_signature.specs.declared.signature.sign.Error.{Error}
@@ -50,11 +51,6 @@ gpg_call it payload = record {
   result = None;
 }
 
--- SSH: the words up to the key
-abbrev pub signing_words : List (List ℕ) → List WordView
-signing_words arguments =
-    map text arguments ++ text (codes "-Y") ∷ text (codes "sign") ∷ text (codes "-n") ∷ text (codes "git") ∷ text (codes "-f") ∷ []
-
 -- SSH: a call of these words and files, with no input, which leaves the signature beside the file of this number
 abbrev pub leaving_call : OptionsView → List WordView → List (List ℕ) → ℕ → CallView
 leaving_call it words files result = record {
@@ -68,12 +64,14 @@ leaving_call it words files result = record {
 
 -- SSH: the key in a file of the caller's, and what is signed in file 0
 abbrev pub path_call : OptionsView → List ℕ → CallView
-path_call it payload = leaving_call it (signing_words it.arguments ++ text it.key ∷ file 0 ∷ []) (payload ∷ []) 0
+path_call it payload =
+    leaving_call it (git_words it.arguments (codes "sign") ++ text (codes "-f") ∷ text it.key ∷ file 0 ∷ []) (payload ∷ []) 0
 
 -- SSH: the key in file 0, and what is signed in file 1
 abbrev pub literal_call : OptionsView → List ℕ → List ℕ → CallView
 literal_call it key payload =
-    leaving_call it (signing_words it.arguments ++ file 0 ∷ text (codes "-U") ∷ file 1 ∷ []) (key ∷ payload ∷ []) 1
+    leaving_call it (git_words it.arguments (codes "sign") ++ text (codes "-f") ∷ file 0 ∷ text (codes "-U") ∷ file 1 ∷ [])
+    (key ∷ payload ∷ []) 1
 
 abbrev pub ssh_call_by : Option (List ℕ) → OptionsView → List ℕ → CallView
 ssh_call_by None it payload = path_call it payload

@@ -1,6 +1,7 @@
 -- The calls by which programs are asked to verify. File 0 is the signature in each of them.
 use Rattle.std.specs.Prelude.{ℕ, List, [], ◌∷◌, ◌++◌, Option, Some, None, codes, map}
 use Rattle.gixobj_signature.specs.Calls.{CallView, WordView, file, text, verify_time}
+use Rattle.gixobj_signature.specs.Pieces.{git_words}
 use Rattle.gixobj_signature.specs.Verifiers.{ProgramView, SshView}
 
 -- a call of the program with these words, files and input
@@ -26,11 +27,8 @@ open_pgp_call it signature signed = whole_call it (open_pgp_words it) (signature
 
 -- ---- X.509: what is signed stands in file 1
 
-abbrev pub x509_options : ProgramView → List WordView
-x509_options it = map text it.arguments ++ text (codes "--status-fd=1") ∷ text (codes "--verify") ∷ []
-
 abbrev pub x509_words : ProgramView → List WordView
-x509_words it = x509_options it ++ file 0 ∷ file 1 ∷ []
+x509_words it = map text it.arguments ++ text (codes "--status-fd=1") ∷ text (codes "--verify") ∷ file 0 ∷ file 1 ∷ []
 
 unfoldable pub x509_call : ProgramView → List ℕ → List ℕ → CallView
 x509_call it signature signed = whole_call it (x509_words it) (signature ∷ signed ∷ []) None
@@ -50,18 +48,12 @@ principals_call it ssh signature =
     ∷ verify_time ssh.seconds ssh.offset ∷ [])
     (signature ∷ []) (Some [])
 
--- the words of a command over git's signatures
-abbrev pub git_words : ProgramView → List ℕ → List WordView
-git_words it command =
-    map text it.arguments ++ text (codes "-Y") ∷ text command ∷ text (codes "-n") ∷ text (codes "git") ∷ []
-
 -- whether a principal made the signature
-abbrev pub verify_words : ProgramView → SshView → List WordView
-verify_words it ssh = git_words it (codes "verify") ++ text (codes "-f") ∷ text ssh.allowed ∷ text (codes "-I") ∷ []
-
 abbrev pub principal_words : ProgramView → SshView → List ℕ → List WordView
 principal_words it ssh principal =
-    verify_words it ssh ++ text principal ∷ text (codes "-s") ∷ file 0 ∷ verify_time ssh.seconds ssh.offset ∷ []
+    git_words it.arguments (codes "verify")
+    ++ text (codes "-f") ∷ text ssh.allowed ∷ text (codes "-I") ∷ text principal ∷ text (codes "-s") ∷ file 0
+    ∷ verify_time ssh.seconds ssh.offset ∷ []
 
 abbrev pub revocation_words : Option (List ℕ) → List WordView
 revocation_words None = []
@@ -72,11 +64,10 @@ principal_call it ssh signature signed principal =
     whole_call (in_english it) (principal_words it ssh principal ++ revocation_words ssh.revoked) (signature ∷ []) (Some signed)
 
 -- whether the signature holds, whoever made it
-abbrev pub check_words : ProgramView → List WordView
-check_words it = git_words it (codes "check-novalidate")
-
 abbrev pub novalidate_words : ProgramView → SshView → List WordView
-novalidate_words it ssh = check_words it ++ text (codes "-s") ∷ file 0 ∷ verify_time ssh.seconds ssh.offset ∷ []
+novalidate_words it ssh =
+    git_words it.arguments (codes "check-novalidate")
+    ++ text (codes "-s") ∷ file 0 ∷ verify_time ssh.seconds ssh.offset ∷ []
 
 unfoldable pub novalidate_call : ProgramView → SshView → List ℕ → List ℕ → CallView
 novalidate_call it ssh signature signed = whole_call (in_english it) (novalidate_words it ssh) (signature ∷ []) (Some signed)

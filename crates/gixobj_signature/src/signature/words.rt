@@ -1,10 +1,11 @@
 //! The words of calls and what is set for them, copied.
-ghost use Rattle.std.specs.Prelude.{◌≡◌, ◌≢◌, ◌++◌, [], IfOk, OnErr, OnOk, map};
+ghost use Rattle.std.specs.Prelude.{◌≡◌, ◌≢◌, ◌++◌, [], ℕ, IfOk, List, OnErr, OnOk, map};
 ghost use Rattle.bstr.specs.Owned.{bstring_bytes};
 ghost use Rattle.gixobj_signature.specs.Calls.{pair_view, text, word_view};
-ghost use Rattle.gixobj_signature.specs.Pieces.{piece_view};
+ghost use Rattle.gixobj_signature.specs.Pieces.{git_words, piece_view};
 
 use crate::signature::Word;
+use Piece::{File, Text, VerifyTime};
 use bstr::{BString, ByteSlice};
 use gixobj_actor::date::Time;
 use gixobj_hash::OutOfMemory;
@@ -41,7 +42,20 @@ pub fn words_of(alloc: Global, texts: &[BString]) -> Result<Vec<Word>, OutOfMemo
     Ok(words)
 }
 
-/// The same, and behind these a word for each piece.
+/// The first words of a call of `ssh-keygen` for this command over git's signatures, behind these arguments.
+pub(crate) fn git_words_of(
+    alloc: Global,
+    arguments: &[BString],
+    command: &[u8],
+) -> Result<Vec<Word>, OutOfMemory>
+    ensures { IfOk result (λ it. map word_view it.items
+        ≡ git_words (map bstring_bytes arguments.now) command.now) }
+{
+    let pieces = [Text(b"-Y"), Text(command), Text(b"-n"), Text(b"git")];
+    words_with(alloc, arguments, &pieces)
+}
+
+/// A word for each of these texts, and behind these a word for each piece.
 pub(crate) fn words_with(
     alloc: Global,
     texts: &[BString],
@@ -75,9 +89,9 @@ fn word_of(alloc: Global, piece: &Piece<'_>) -> Result<Word, OutOfMemory>
     ensures { IfOk result (λ it. word_view it ≡ piece_view piece.now) }
 {
     match piece {
-        Piece::Text(bytes) => text(alloc, bytes),
-        Piece::File(number) => Ok(Word::File(*number)),
-        Piece::VerifyTime(time) => Ok(Word::VerifyTime(*time)),
+        Text(bytes) => text(alloc, bytes),
+        File(number) => Ok(Word::File(*number)),
+        VerifyTime(time) => Ok(Word::VerifyTime(*time)),
     }
 }
 
@@ -91,16 +105,20 @@ pub fn environment_of(
 {
     let mut copies = Vec::new(alloc);
     for one in environment {
-        copies.push(pair_of(alloc, one)?)?;
+        copies.push(pair_of(alloc, one.0.as_bytes(), one.1.as_bytes())?)?;
     }
     Ok(copies)
 }
 
-/// A copy of a name and its value.
-fn pair_of(alloc: Global, pair: &(BString, BString)) -> Result<(BString, BString), OutOfMemory>
-    ensures { IfOk result (λ copy. pair_view copy ≡ pair_view pair.now) }
+/// A name and its value, copied.
+pub(crate) fn pair_of(
+    alloc: Global,
+    name: &[u8],
+    value: &[u8],
+) -> Result<(BString, BString), OutOfMemory>
+    ensures { IfOk result (λ it. ◌≡◌ {A = List ℕ × List ℕ} (pair_view it) (name.now, value.now)) }
 {
-    let name = BString::from_slice(alloc, pair.0.as_bytes())?;
-    let value = BString::from_slice(alloc, pair.1.as_bytes())?;
+    let name = BString::from_slice(alloc, name)?;
+    let value = BString::from_slice(alloc, value)?;
     Ok((name, value))
 }

@@ -1,13 +1,12 @@
 //! The calls by which programs are asked to sign (gpg(1), `--detach-sign`; ssh-keygen(1), `-Y sign`).
-ghost use Rattle.std.specs.Prelude.{◌≡◌, ◌++◌, IfOk, map};
+ghost use Rattle.std.specs.Prelude.{◌≡◌, IfOk, map};
 ghost use Rattle.bstr.specs.Owned.{bstring_bytes};
 ghost use Rattle.gixobj_signature.specs.Calls.{call_view, word_view};
-ghost use Rattle.gixobj_signature.specs.Pieces.{piece_view};
-ghost use Rattle.gixobj_signature.specs.Signing.{gpg_call, leaving_call, literal_call, options_view, path_call, signing_words, ssh_call};
+ghost use Rattle.gixobj_signature.specs.Signing.{gpg_call, leaving_call, literal_call, options_view, path_call, ssh_call};
 
 use super::{Options, is_literal_ssh_key};
 use crate::signature::words::Piece::{File, Text};
-use crate::signature::words::{Piece, environment_of, push_words, words_with};
+use crate::signature::words::{environment_of, git_words_of, push_words, words_with};
 use crate::signature::{Call, Word};
 use bstr::{BString, ByteSlice};
 use gixobj_hash::OutOfMemory;
@@ -44,8 +43,9 @@ pub fn ssh_call_of(alloc: Global, payload: &[u8], options: &Options) -> Result<C
 fn path_call_of(alloc: Global, payload: &[u8], options: &Options) -> Result<Call, OutOfMemory>
     ensures { IfOk result (λ it. call_view it ≡ path_call (options_view options.now) payload.now) }
 {
-    let pieces = [Text(options.signing_key.as_bytes()), File(0)];
-    let words = signing_words_of(alloc, options, &pieces)?;
+    let mut words = git_words_of(alloc, &options.program_arguments, b"sign")?;
+    let key = options.signing_key.as_bytes();
+    push_words(alloc, &mut words, &[Text(b"-f"), Text(key), File(0)])?;
     let files = vec![in alloc; BString::from_slice(alloc, payload)?]?;
     call_of(alloc, options, words, files, 0)
 }
@@ -60,33 +60,14 @@ fn literal_call_of(
     ensures { IfOk result (λ it. call_view it
         ≡ literal_call (options_view options.now) key.now payload.now) }
 {
-    let words = signing_words_of(alloc, options, &[File(0), Text(b"-U"), File(1)])?;
+    let mut words = git_words_of(alloc, &options.program_arguments, b"sign")?;
+    let pieces = [Text(b"-f"), File(0), Text(b"-U"), File(1)];
+    push_words(alloc, &mut words, &pieces)?;
     let files = vec![in alloc;
         BString::from_slice(alloc, key)?,
         BString::from_slice(alloc, payload)?,
     ]?;
     call_of(alloc, options, words, files, 1)
-}
-
-/// The words of a program of SSH up to the key, and those of the pieces behind them.
-fn signing_words_of(
-    alloc: Global,
-    options: &Options,
-    pieces: &[Piece<'_>],
-) -> Result<Vec<Word>, OutOfMemory>
-    ensures { IfOk result (λ it. map word_view it.items
-        ≡ signing_words (options_view options.now).arguments ++ map piece_view pieces.now) }
-{
-    let fixed = [
-        Text(b"-Y"),
-        Text(b"sign"),
-        Text(b"-n"),
-        Text(b"git"),
-        Text(b"-f"),
-    ];
-    let mut words = words_with(alloc, &options.program_arguments, &fixed)?;
-    push_words(alloc, &mut words, pieces)?;
-    Ok(words)
 }
 
 /// A call of these words and files, which may leave a signature beside the file of this number.

@@ -1,5 +1,5 @@
 //! Signatures of OpenPGP and of X.509, verified by one call (gpg(1), `--verify`).
-ghost use Rattle.std.specs.Prelude.{◌≡◌, ◌∷◌, [], IfOk, Some, map};
+ghost use Rattle.std.specs.Prelude.{◌≡◌, IfOk, Some, map};
 ghost use Rattle.std.specs.Option.{option_map};
 ghost use Rattle.bstr.specs.Owned.{bstring_bytes};
 ghost use Rattle.gixobj_signature.specs.Calls.{call_view, output_view, word_view};
@@ -7,13 +7,13 @@ ghost use Rattle.gixobj_report.specs.Outcomes.{outcome_view};
 ghost use Rattle.gixobj_text.specs.declared.signature.Format.TheVariants as format;
 ghost use Rattle.gixobj_signature.specs.SignedBytes.{signed_bytes};
 ghost use Rattle.gixobj_signature.specs.Verifiers.{by_open_pgp, by_x509, program_of};
-ghost use Rattle.gixobj_signature.specs.VerifyingCalls.{open_pgp_call, open_pgp_words, whole_call, x509_call, x509_options, x509_words};
+ghost use Rattle.gixobj_signature.specs.VerifyingCalls.{open_pgp_call, open_pgp_words, whole_call, x509_call, x509_words};
 ghost use Rattle.gixobj_signature.specs.Plans.{TakesForCalls};
 ghost use Rattle.gixobj_signature.specs.Verifying.{ComesOf, gpg_verified, gpg_verify_plan, reported, verify_plan, verify_view};
 
 use super::{Error, Program, ask_one};
 use crate::signature::words::Piece::{File, Text};
-use crate::signature::words::{environment_of, push_words, words_with};
+use crate::signature::words::{environment_of, words_with};
 use crate::signature::{Call, Output, Runner, SignedData, Word};
 use bstr::{BString, ByteSlice};
 use gixobj_hash::OutOfMemory;
@@ -162,7 +162,10 @@ fn x509_call_of(
         ≡ x509_call (program_of by.now) signature.now (signed_bytes signed.now)) }
 {
     let words = x509_words_of(alloc, by)?;
-    let files = two_files(alloc, signature, signed)?;
+    let files = vec![in alloc;
+        BString::from_slice(alloc, signature)?,
+        signed.to_bstring(alloc)?,
+    ]?;
     call_of(alloc, by, words, files, None)
 }
 
@@ -170,32 +173,9 @@ fn x509_call_of(
 fn x509_words_of(alloc: Global, by: &Program) -> Result<Vec<Word>, OutOfMemory>
     ensures { IfOk result (λ it. map word_view it.items ≡ x509_words (program_of by.now)) }
 {
-    let mut words = x509_options_of(alloc, by)?;
-    push_words(alloc, &mut words, &[File(0), File(1)])?;
-    Ok(words)
-}
-
-/// Its words before the files.
-fn x509_options_of(alloc: Global, by: &Program) -> Result<Vec<Word>, OutOfMemory>
-    ensures { IfOk result (λ it. map word_view it.items ≡ x509_options (program_of by.now)) }
-{
-    let pieces = [Text(b"--status-fd=1"), Text(b"--verify")];
+    let pieces = [Text(b"--status-fd=1"), Text(b"--verify"), File(0), File(1)];
     let words = words_with(alloc, &by.program_arguments, &pieces)?;
     Ok(words)
-}
-
-/// What stands in its files: the signature, and what is signed.
-fn two_files(
-    alloc: Global,
-    signature: &[u8],
-    signed: &SignedData<'_>,
-) -> Result<Vec<BString>, OutOfMemory>
-    ensures { IfOk result (λ it. map bstring_bytes it.items
-        ≡ signature.now ∷ signed_bytes signed.now ∷ []) }
-{
-    let mut files = vec![in alloc; BString::from_slice(alloc, signature)?]?;
-    files.push(signed.to_bstring(alloc)?)?;
-    Ok(files)
 }
 
 /// A call of these words, files and input.

@@ -130,7 +130,7 @@ fn accepted_by(
         ≡ ssh_verified (ssh_program_of by.now) output.success trust.Fully
         (Some (bstring_bytes principal.now)) (output_view output)) }
 {
-    let signer = copy_of(alloc, principal)?;
+    let signer = BString::from_slice(alloc, principal.as_bytes())?;
     let success = output.success;
     outcome_of(alloc, by, success, TrustLevel::Fully, Some(signer), output)
 }
@@ -177,13 +177,6 @@ fn ask_without<R: Runner>(
 {
     let call = novalidate_call_of(alloc, by, signature, signed)?;
     ask_one(&call, runner)
-}
-
-/// A copy of a text.
-fn copy_of(alloc: Global, text: &BString) -> Result<BString, OutOfMemory>
-    ensures { IfOk result (λ it. bstring_bytes it ≡ bstring_bytes text.now) }
-{
-    Ok(BString::from_slice(alloc, text.as_bytes())?)
 }
 
 /// Whether a call for a principal accepted it.

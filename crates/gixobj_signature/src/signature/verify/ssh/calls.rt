@@ -1,15 +1,15 @@
 //! The calls of a program of SSH, by which a signature is verified.
-ghost use Rattle.std.specs.Prelude.{◌≡◌, ◌++◌, ◌∷◌, [], ℕ, IfOk, List, map};
+ghost use Rattle.std.specs.Prelude.{◌≡◌, ◌++◌, ◌∷◌, [], IfOk, map};
 ghost use Rattle.std.specs.Option.{option_map};
 ghost use Rattle.bstr.specs.Owned.{bstring_bytes};
 ghost use Rattle.gixobj_signature.specs.Calls.{call_view, pair_view, word_view};
 ghost use Rattle.gixobj_signature.specs.SignedBytes.{signed_bytes};
 ghost use Rattle.gixobj_signature.specs.Verifiers.{ssh_of, ssh_program_of};
-ghost use Rattle.gixobj_signature.specs.VerifyingCalls.{check_words, git_words, in_english, novalidate_call, novalidate_words, principal_call, principal_words, principals_call, revocation_words, verify_words, whole_call};
+ghost use Rattle.gixobj_signature.specs.VerifyingCalls.{in_english, novalidate_call, novalidate_words, principal_call, principal_words, principals_call, revocation_words, whole_call};
 
 use crate::signature::verify::SshProgram;
 use crate::signature::words::Piece::{File, Text, VerifyTime};
-use crate::signature::words::{environment_of, push_words, words_with};
+use crate::signature::words::{environment_of, git_words_of, pair_of, push_words, words_with};
 use crate::signature::{Call, SignedData, Word};
 use bstr::{BString, ByteSlice};
 use gixobj_hash::OutOfMemory;
@@ -59,16 +59,19 @@ pub(crate) fn principal_call_of(
 }
 
 /// Its words, but for those of the file of revoked keys.
-fn principal_words_of(
+fn principal_words_of<'a>(
     alloc: Global,
-    by: &SshProgram,
-    principal: &[u8],
+    by: &'a SshProgram,
+    principal: &'a [u8],
 ) -> Result<Vec<Word>, OutOfMemory>
     ensures { IfOk result (λ it. map word_view it.items
         ≡ principal_words (ssh_program_of by.now) (ssh_of by.now) principal.now) }
 {
-    let mut words = verify_words_of(alloc, by)?;
+    let mut words = git_words_of(alloc, &by.program_arguments, b"verify")?;
     let pieces = [
+        Text(b"-f"),
+        Text(by.allowed_signers.as_bytes()),
+        Text(b"-I"),
         Text(principal),
         Text(b"-s"),
         File(0),
@@ -76,30 +79,6 @@ fn principal_words_of(
     ];
     push_words(alloc, &mut words, &pieces)?;
     Ok(words)
-}
-
-/// Its words before the principal.
-fn verify_words_of(alloc: Global, by: &SshProgram) -> Result<Vec<Word>, OutOfMemory>
-    ensures { IfOk result (λ it. map word_view it.items
-        ≡ verify_words (ssh_program_of by.now) (ssh_of by.now)) }
-{
-    let mut words = git_words_of(alloc, by, b"verify")?;
-    let pieces = [
-        Text(b"-f"),
-        Text(by.allowed_signers.as_bytes()),
-        Text(b"-I"),
-    ];
-    push_words(alloc, &mut words, &pieces)?;
-    Ok(words)
-}
-
-/// The first words of a call of this command over git's signatures.
-fn git_words_of(alloc: Global, by: &SshProgram, command: &[u8]) -> Result<Vec<Word>, OutOfMemory>
-    ensures { IfOk result (λ it. map word_view it.items
-        ≡ git_words (ssh_program_of by.now) command.now) }
-{
-    let pieces = [Text(b"-Y"), Text(command), Text(b"-n"), Text(b"git")];
-    words_with(alloc, &by.program_arguments, &pieces)
 }
 
 /// The call that asks whether the signature holds, whoever made it.
@@ -124,17 +103,10 @@ fn novalidate_words_of(alloc: Global, by: &SshProgram) -> Result<Vec<Word>, OutO
     ensures { IfOk result (λ it. map word_view it.items
         ≡ novalidate_words (ssh_program_of by.now) (ssh_of by.now)) }
 {
-    let mut words = check_words_of(alloc, by)?;
+    let mut words = git_words_of(alloc, &by.program_arguments, b"check-novalidate")?;
     let pieces = [Text(b"-s"), File(0), VerifyTime(by.verify_time)];
     push_words(alloc, &mut words, &pieces)?;
     Ok(words)
-}
-
-/// Its words before the signature.
-fn check_words_of(alloc: Global, by: &SshProgram) -> Result<Vec<Word>, OutOfMemory>
-    ensures { IfOk result (λ it. map word_view it.items ≡ check_words (ssh_program_of by.now)) }
-{
-    git_words_of(alloc, by, b"check-novalidate")
 }
 
 /// The words with those of the file of revoked keys, if there is one.
@@ -184,16 +156,7 @@ fn english_of(alloc: Global, by: &SshProgram) -> Result<Vec<(BString, BString)>,
         ≡ (in_english (ssh_program_of by.now)).environment) }
 {
     let mut environment = environment_of(alloc, &by.environment)?;
-    environment.push(pair(alloc, b"LANG", b"C")?)?;
-    environment.push(pair(alloc, b"LC_ALL", b"C")?)?;
+    environment.push(pair_of(alloc, b"LANG", b"C")?)?;
+    environment.push(pair_of(alloc, b"LC_ALL", b"C")?)?;
     Ok(environment)
-}
-
-/// A name and its value.
-fn pair(alloc: Global, name: &[u8], value: &[u8]) -> Result<(BString, BString), OutOfMemory>
-    ensures { IfOk result (λ it. ◌≡◌ {A = List ℕ × List ℕ} (pair_view it) (name.now, value.now)) }
-{
-    let name = BString::from_slice(alloc, name)?;
-    let value = BString::from_slice(alloc, value)?;
-    Ok((name, value))
 }
