@@ -7,46 +7,17 @@ use crate::rows::subject::Subject;
 use std::alloc::{AllocError, Global};
 use std::time::Clock;
 
-/// What a body has after its first paragraph.
-#[derive(Clone, Copy)]
-enum Shape {
-    /// One line of text.
-    OneLine,
-    /// Lines of text.
-    Lines,
-    /// Trailers.
-    Trailers,
-    /// Lines of text and trailers in turn.
-    InTurn,
-}
-
-/// What is measured.
-const SHAPES: &[Shape] = &[Shape::OneLine, Shape::Lines, Shape::Trailers, Shape::InTurn];
+/// What a body repeats after its first paragraph, each with its word: one line of text, many, trailers, and lines of
+/// text and trailers in turn.
+const SHAPES: &[(&str, &[u8])] = &[
+    ("one-line", b"a"),
+    ("lines", b"a\n"),
+    ("trailers", b"a: b\n"),
+    ("in-turn", b"a\nSigned-off-by: b\n"),
+];
 
 /// How often a body repeats what it has.
 const COUNTS: &[u32] = &[62_500, 250_000, 1_000_000];
-
-impl Shape {
-    /// The word for bodies of this shape.
-    fn word(self) -> &'static str {
-        match self {
-            Shape::OneLine => "one-line",
-            Shape::Lines => "lines",
-            Shape::Trailers => "trailers",
-            Shape::InTurn => "in-turn",
-        }
-    }
-
-    /// What is repeated.
-    fn unit(self) -> &'static [u8] {
-        match self {
-            Shape::OneLine => b"a",
-            Shape::Lines => b"a\n",
-            Shape::Trailers => b"a: b\n",
-            Shape::InTurn => b"a\nSigned-off-by: b\n",
-        }
-    }
-}
 
 /// A body that has this so many times after its first paragraph.
 fn body_of(alloc: Global, unit: &[u8], count: u32) -> Result<Vec<u8>, AllocError> {
@@ -63,8 +34,8 @@ pub(crate) fn measure_all<R: Clock + Print + AllocGlobal>(
     rt: &R,
     rounds: u32,
 ) -> Result<(), Fault> {
-    for shape in SHAPES {
-        measure_shape(rt, rounds, *shape)?;
+    for (word, unit) in SHAPES {
+        measure_shape(rt, rounds, word, unit)?;
     }
     Ok(())
 }
@@ -73,11 +44,12 @@ pub(crate) fn measure_all<R: Clock + Print + AllocGlobal>(
 fn measure_shape<R: Clock + Print + AllocGlobal>(
     rt: &R,
     rounds: u32,
-    shape: Shape,
+    word: &'static str,
+    unit: &[u8],
 ) -> Result<(), Fault> {
     for count in COUNTS {
-        let body = body_of(rt.alloc(), shape.unit(), *count)?;
-        measure_body(rt, rounds, shape.word(), &body)?;
+        let body = body_of(rt.alloc(), unit, *count)?;
+        measure_body(rt, rounds, word, &body)?;
     }
     Ok(())
 }
@@ -97,6 +69,6 @@ fn measure_body<R: Clock + Print + AllocGlobal>(
         bytes: body.len() as u64,
     };
     let bodies = vec![in alloc; vec![in alloc; body]?]?;
-    subject.row(rt, "trailers", &mut TrailersRead { alloc }, &bodies)?;
-    subject.row(rt, "blocks", &mut BlocksRead { alloc }, &bodies)
+    subject.row(rt, "trailers", &mut TrailersRead, &bodies)?;
+    subject.row(rt, "blocks", &mut BlocksRead, &bodies)
 }

@@ -21,8 +21,6 @@ pub(crate) struct Each {
 impl fmt::Display for Each {
     fn fmt<W: fmt::Write>(&self, f: &mut fmt::Formatter<W>) -> fmt::Result {
         let scaled = self.nanos.saturating_mul(10_000) / self.count.max(1);
-        let whole = scaled / 10_000;
-        let behind = scaled % 10_000;
-        write!(f, "{whole}.{behind:04}")
+        write!(f, "{}.{:04}", scaled / 10_000, scaled % 10_000)
     }
 }

@@ -9,7 +9,7 @@ use gixobj_base::Tree;
 use gixobj_base::hash::Kind::Sha1;
 use gixobj_base::hash::ObjectId;
 use gixobj_base::tree::EntryKind;
-use gixobj_editor::editor::Editor;
+use gixobj_editor::editor::{Editor, Written};
 use gixobj_find::find::Never;
 use paths::{Shape, paths_of};
 use std::alloc::Global;
@@ -74,24 +74,26 @@ fn measure_case<R: Clock + Print + AllocGlobal>(
         least.upserts = least.upserts.min(round.upserts);
         least.write = least.write.min(round.write);
     }
-    let Round { trees, root, .. } = least;
+    print_row(rt, "upserts", shape, files, least.upserts, &least)?;
+    print_row(rt, "write", shape, files, least.write, &least)
+}
+
+/// Prints a row of a case: what was done, and in how many nanoseconds.
+fn print_row<R: Print + AllocGlobal>(
+    rt: &R,
+    what: &str,
+    shape: Shape,
+    files: u32,
+    nanos: u64,
+    round: &Round,
+) -> Result<(), Fault> {
+    let Round { trees, root, .. } = *round;
     let count = u64::from(files);
-    let upserts = Each {
-        nanos: least.upserts,
-        count,
-    };
-    let write = Each {
-        nanos: least.write,
-        count,
-    };
+    let each = Each { nanos, count };
     let mut out = io::writer(rt);
     writeln!(
         out,
-        "upserts {shape} files {files} trees {trees} ns/file {upserts} root {root}"
-    )?;
-    writeln!(
-        out,
-        "write {shape} files {files} trees {trees} ns/file {write} root {root}"
+        "{what} {shape} files {files} trees {trees} ns/file {each} root {root}"
     )?;
     Ok(())
 }
@@ -105,16 +107,10 @@ fn measure_round<R: Clock + AllocGlobal>(
     let alloc = rt.alloc();
     let mut editor = Editor::new(Tree::empty(alloc), Never, Sha1);
     let start = Instant::now(rt)?;
-    for path in paths {
-        let Ok(()) = editor.try_upsert(path, EntryKind::Blob, id) else {
-            return Err(Fault::Refused);
-        };
-    }
+    put_all(&mut editor, paths, id)?;
     let upserts = nanos_since(rt, start)?;
     let start = Instant::now(rt)?;
-    let Ok(written) = editor.write(|tree: &Tree| tree.compute_id(alloc, Sha1)) else {
-        return Err(Fault::Refused);
-    };
+    let written = write_all(alloc, &mut editor)?;
     let write = nanos_since(rt, start)?;
     Ok(Round {
         upserts,
@@ -122,4 +118,22 @@ fn measure_round<R: Clock + AllocGlobal>(
         trees: written.trees.len(),
         root: written.id,
     })
+}
+
+/// Puts the files into the editor.
+fn put_all(editor: &mut Editor<Never>, paths: &[Vec<BString>], id: ObjectId) -> Result<(), Fault> {
+    for path in paths {
+        let Ok(()) = editor.try_upsert(path, EntryKind::Blob, id) else {
+            return Err(Fault::Refused);
+        };
+    }
+    Ok(())
+}
+
+/// Writes the trees of the editor.
+fn write_all(alloc: Global, editor: &mut Editor<Never>) -> Result<Written, Fault> {
+    match editor.write(|tree: &Tree| tree.compute_id(alloc, Sha1)) {
+        Ok(written) => Ok(written),
+        Err(_) => Err(Fault::Refused),
+    }
 }

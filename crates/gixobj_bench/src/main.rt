@@ -18,7 +18,7 @@ use fault::Fault;
 use std::fs;
 use std::io::Write;
 use std::process::ExitCode;
-use words::{Command, command_of_process};
+use words::{Command, Measure, command_of_process};
 
 fn main(rt: HostRuntime) -> ExitCode {
     match run(&rt) {
@@ -32,13 +32,14 @@ fn main(rt: HostRuntime) -> ExitCode {
 
 /// Does what the words ask for.
 fn run(rt: &HostRuntime) -> Result<(), Fault> {
-    match command_of_process(rt)? {
-        Command::Bench { file, rounds } => {
+    let Command { measure, rounds } = command_of_process(rt)?;
+    match measure {
+        Measure::Objects(file) => {
             let bytes = fs::read(rt, file.as_str())?;
             objects::measure_all(rt, rounds, bytes.as_slice())
         }
-        Command::Bodies { rounds } => bodies::measure_all(rt, rounds),
-        Command::Reports { rounds } => reports::measure_all(rt, rounds),
-        Command::Editor { rounds } => editor::measure_all(rt, rounds),
+        Measure::Bodies => bodies::measure_all(rt, rounds),
+        Measure::Reports => reports::measure_all(rt, rounds),
+        Measure::Editor => editor::measure_all(rt, rounds),
     }
 }

@@ -73,7 +73,7 @@ fn measure_parts<R: Clock + Print + AllocGlobal>(
     requires ready { AllOfParts IsReadyToWrite read.now }
 {
     let alloc = rt.alloc();
-    subject.row(rt, "whole-read", &mut Whole { alloc, kind }, texts)?;
+    subject.row(rt, "whole-read", &mut Whole { kind }, texts)?;
     measure_told(rt, subject, kind, texts)?;
     measure_read(rt, subject, read)?;
     let owned = own_parts(alloc, read)?;
@@ -104,16 +104,15 @@ fn measure_told<R: Clock + Print + AllocGlobal>(
     kind: Kind,
     texts: &[Vec<&[u8]>],
 ) -> Result<(), Fault> {
-    let alloc = rt.alloc();
     match kind {
         Kind::Tree => subject.row(rt, "token-read", &mut TreeTold, texts),
         Kind::Commit => {
-            subject.row(rt, "token-read", &mut CommitTold { alloc }, texts)?;
-            subject.row(rt, "signature", &mut SignatureFound { alloc, kind }, texts)
+            subject.row(rt, "token-read", &mut CommitTold, texts)?;
+            subject.row(rt, "signature", &mut SignatureFound { kind }, texts)
         }
         Kind::Tag => {
             subject.row(rt, "token-read", &mut TagTold, texts)?;
-            subject.row(rt, "signature", &mut SignatureFound { alloc, kind }, texts)
+            subject.row(rt, "signature", &mut SignatureFound { kind }, texts)
         }
         Kind::Blob => Ok(()),
     }
@@ -130,11 +129,11 @@ fn measure_read<R: Clock + Print + AllocGlobal>(
 {
     let alloc = rt.alloc();
     let out = Vec::with_capacity(alloc, ROOM)?;
-    subject.row(rt, "write-back", &mut Written { alloc, out }, read)?;
+    subject.row(rt, "write-back", &mut Written { out }, read)?;
     let out = Vec::with_capacity(alloc, ROOM)?;
-    subject.row(rt, "write-back-vec", &mut WrittenToVec { alloc, out }, read)?;
+    subject.row(rt, "write-back-vec", &mut WrittenToVec { out }, read)?;
     subject.row(rt, "size", &mut SizeAsked, read)?;
-    subject.row(rt, "into-owned", &mut Owned { alloc }, read)
+    subject.row(rt, "into-owned", &mut Owned, read)
 }
 
 /// Measures the messages of commits, by their own bytes.
@@ -143,12 +142,11 @@ fn measure_messages<R: Clock + Print + AllocGlobal>(
     subject: Subject,
     commits: &[Vec<ObjectRef<'_>>],
 ) -> Result<(), Fault> {
-    let alloc = rt.alloc();
     let subject = Subject {
         bytes: length_of_messages(commits),
         ..subject
     };
-    subject.row(rt, "message-trailers", &mut MessageRead { alloc }, commits)
+    subject.row(rt, "message-trailers", &mut MessageRead, commits)
 }
 
 /// Measures work on owned objects.
@@ -159,13 +157,8 @@ fn measure_owned<R: Clock + Print + AllocGlobal>(
 ) -> Result<(), Fault> {
     let alloc = rt.alloc();
     let out = Vec::with_capacity(alloc, ROOM)?;
-    subject.row(rt, "owned-write", &mut Written { alloc, out }, owned)?;
+    subject.row(rt, "owned-write", &mut Written { out }, owned)?;
     let out = Vec::with_capacity(alloc, ROOM)?;
-    subject.row(
-        rt,
-        "owned-write-vec",
-        &mut WrittenToVec { alloc, out },
-        owned,
-    )?;
+    subject.row(rt, "owned-write-vec", &mut WrittenToVec { out }, owned)?;
     subject.row(rt, "owned-size", &mut SizeAsked, owned)
 }

@@ -29,9 +29,9 @@ pub(crate) fn measure_all<R: Clock + Print + AllocGlobal>(
 ) -> Result<(), Fault> {
     let alloc = rt.alloc();
     let reports = copies_of(alloc, GPG)?;
-    subject_of("gpg", rounds, GPG).row(rt, "report", &mut GpgReportRead { alloc }, &reports)?;
+    subject_of("gpg", rounds, GPG).row(rt, "report", &mut GpgReportRead, &reports)?;
     let reports = copies_of(alloc, SSH)?;
-    subject_of("ssh", rounds, SSH).row(rt, "report", &mut SshReportRead { alloc }, &reports)
+    subject_of("ssh", rounds, SSH).row(rt, "report", &mut SshReportRead, &reports)
 }
 
 /// What a row over a report is about.
@@ -50,7 +50,5 @@ fn copies_of(alloc: Global, report: &'static [u8]) -> Result<Vec<Vec<&'static [u
     for _ in 0..COUNT {
         copies.push(report)?;
     }
-    let mut parts = Vec::new(alloc);
-    parts.push(copies)?;
-    Ok(parts)
+    Ok(vec![in alloc; copies]?)
 }

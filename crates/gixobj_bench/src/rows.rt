@@ -32,7 +32,7 @@ pub(crate) trait Work<T> {
 
     /// Does the work, and gives a number that depends on what came of it, or none where a call refused. The number is
     /// there so that no part of the work can be left out.
-    fn done(&mut self, thing: &T) -> Option<u64>
+    fn done(&mut self, alloc: Global, thing: &T) -> Option<u64>
         requires { is_ready thing.now };
 }
 
@@ -47,12 +47,12 @@ pub(crate) struct Measured {
 
 /// Does the work on each thing of a part, and gives the sum of the numbers.
 #[inline(never)]
-fn sum_of<T, W: Work<T>>(work: &mut W, part: &[T]) -> Option<u64>
+fn sum_of<T, W: Work<T>>(alloc: Global, work: &mut W, part: &[T]) -> Option<u64>
     requires { All W.is_ready part.now }
 {
     let mut sum = 0u64;
     for thing in part {
-        sum = sum.wrapping_add(work.done(thing)?);
+        sum = sum.wrapping_add(work.done(alloc, thing)?);
     }
     Some(sum)
 }
@@ -82,7 +82,7 @@ fn warm_up<T, W: Work<T>>(alloc: Global, work: &mut W, parts: &[Vec<T>]) -> Resu
 {
     let mut least = Vec::new(alloc);
     for part in parts {
-        let Some(_) = sum_of(work, part) else {
+        let Some(_) = sum_of(alloc, work, part) else {
             return Err(Fault::Refused);
         };
         least.push(u64::MAX)?;
@@ -91,7 +91,7 @@ fn warm_up<T, W: Work<T>>(alloc: Global, work: &mut W, parts: &[Vec<T>]) -> Resu
 }
 
 /// Does the work on each thing of each part, keeps the lesser time of each part, and gives the sum of the numbers.
-fn timed_round<R: Clock, T, W: Work<T>>(
+fn timed_round<R: Clock + AllocGlobal, T, W: Work<T>>(
     rt: &R,
     work: &mut W,
     parts: &[Vec<T>],
@@ -99,10 +99,11 @@ fn timed_round<R: Clock, T, W: Work<T>>(
 ) -> Result<u64, Fault>
     requires { AllOfParts W.is_ready parts.now }
 {
+    let alloc = rt.alloc();
     let mut sum = 0u64;
     for (at, part) in parts.iter().enumerate() {
         let start = Instant::now(rt)?;
-        let done = sum_of(work, part);
+        let done = sum_of(alloc, work, part);
         let nanos = nanos_since(rt, start)?;
         let Some(done) = done else {
             return Err(Fault::Refused);
@@ -115,10 +116,8 @@ fn timed_round<R: Clock, T, W: Work<T>>(
 
 /// Keeps the lesser of two times at a place.
 fn keep_least(least: &mut Vec<u64>, at: usize, nanos: u64) {
-    if let Some(kept) = least.get_mut(at)
-        && nanos < *kept
-    {
-        *kept = nanos;
+    if let Some(kept) = least.get_mut(at) {
+        *kept = nanos.min(*kept);
     }
 }
 

@@ -36,8 +36,7 @@ pub(super) fn paths_of(
     for number in 0..files {
         let mut path = Vec::new(alloc);
         put_directories(alloc, shape, number, &mut path)?;
-        let name = format!(in alloc; "f{number:08}")?;
-        path.push(BString::from_slice(alloc, name.as_str().as_bytes())?)?;
+        path.push(BString::from(format!(in alloc; "f{number:08}")?))?;
         paths.push(path)?;
     }
     Ok(paths)
@@ -54,15 +53,11 @@ fn put_directories(
         Shape::Nested(depth) => {
             for level in 0..depth {
                 let digit = (number >> (4 * (level % 8))) & 15;
-                let name = format!(in alloc; "d{digit:x}")?;
-                path.push(BString::from_slice(alloc, name.as_str().as_bytes())?)?;
+                path.push(BString::from(format!(in alloc; "d{digit:x}")?))?;
             }
         }
         Shape::Wide => {}
-        Shape::Alone => {
-            let name = format!(in alloc; "d{number:08}")?;
-            path.push(BString::from_slice(alloc, name.as_str().as_bytes())?)?;
-        }
+        Shape::Alone => path.push(BString::from(format!(in alloc; "d{number:08}")?))?,
     }
     Ok(())
 }

@@ -4,6 +4,7 @@ use super::Work;
 use super::reading::first_byte;
 use gixobj_base::hash::Kind::Sha1;
 use gixobj_base::{Kind, compute_hash};
+use std::alloc::Global;
 
 /// Computes the id of an object of this kind.
 #[derive(Clone, Copy)]
@@ -13,7 +14,7 @@ pub(crate) struct Digested {
 }
 
 impl<'a> Work<&'a [u8]> for Digested {
-    fn done(&mut self, text: &&'a [u8]) -> Option<u64> {
+    fn done(&mut self, _: Global, text: &&'a [u8]) -> Option<u64> {
         let id = compute_hash(Sha1, self.kind, text);
         Some(first_byte(id.as_bytes()))
     }

@@ -3,13 +3,14 @@
 use super::Work;
 use super::reading::first_byte;
 use gixobj_codec::ObjectRef;
+use std::alloc::Global;
 
 /// Looks up each entry of a tree by its name.
 #[derive(Clone, Copy)]
 pub(crate) struct LookedUp;
 
 impl<'a> Work<ObjectRef<'a>> for LookedUp {
-    fn done(&mut self, object: &ObjectRef<'a>) -> Option<u64> {
+    fn done(&mut self, _: Global, object: &ObjectRef<'a>) -> Option<u64> {
         let tree = object.as_tree()?;
         let mut sum = 0u64;
         for entry in &tree.entries {

@@ -9,20 +9,17 @@ use std::alloc::Global;
 
 /// Cuts the message of a commit into title and body, and reads its summary and its trailers.
 #[derive(Clone, Copy)]
-pub(crate) struct MessageRead {
-    /// The memory.
-    pub(crate) alloc: Global,
-}
+pub(crate) struct MessageRead;
 
 impl<'a> Work<ObjectRef<'a>> for MessageRead {
-    fn done(&mut self, object: &ObjectRef<'a>) -> Option<u64> {
+    fn done(&mut self, alloc: Global, object: &ObjectRef<'a>) -> Option<u64> {
         let message = object.as_commit()?.message();
-        let summary = message.summary(self.alloc).ok()?;
+        let summary = message.summary(alloc).ok()?;
         let lengths = sum_of_lengths(&[message.title.as_bytes().len(), summary.as_slice().len()]);
         let Some(body) = message.body() else {
             return Some(lengths);
         };
-        let trailers = weight_of_trailers(body.trailers(self.alloc))?;
+        let trailers = weight_of_trailers(body.trailers(alloc))?;
         Some(lengths.wrapping_add(trailers))
     }
 }
@@ -32,40 +29,32 @@ fn weight_of_trailers(trailers: Trailers<'_>) -> Option<u64> {
     let mut sum = 0u64;
     for trailer in trailers {
         let trailer = trailer.ok()?;
-        let lengths = sum_of_lengths(&[
-            trailer.token.as_bytes().len(),
-            trailer.value.as_slice().len(),
-        ]);
-        sum = sum.wrapping_add(lengths);
+        let token = trailer.token.as_bytes().len();
+        let value = trailer.value.as_slice().len();
+        sum = sum.wrapping_add(sum_of_lengths(&[token, value]));
     }
     Some(sum)
 }
 
 /// Finds the block of trailers of a body, and reads its trailers.
 #[derive(Clone, Copy)]
-pub(crate) struct TrailersRead {
-    /// The memory.
-    pub(crate) alloc: Global,
-}
+pub(crate) struct TrailersRead;
 
 impl<'a> Work<&'a [u8]> for TrailersRead {
-    fn done(&mut self, body: &&'a [u8]) -> Option<u64> {
-        weight_of_trailers(BodyRef::from_bytes(body).trailers(self.alloc))
+    fn done(&mut self, alloc: Global, body: &&'a [u8]) -> Option<u64> {
+        weight_of_trailers(BodyRef::from_bytes(body).trailers(alloc))
     }
 }
 
 /// Finds the block of trailers of a body, and reads its messages, each with the trailers that follow it.
 #[derive(Clone, Copy)]
-pub(crate) struct BlocksRead {
-    /// The memory.
-    pub(crate) alloc: Global,
-}
+pub(crate) struct BlocksRead;
 
 impl<'a> Work<&'a [u8]> for BlocksRead {
-    fn done(&mut self, body: &&'a [u8]) -> Option<u64> {
+    fn done(&mut self, alloc: Global, body: &&'a [u8]) -> Option<u64> {
         let mut sum = 0u64;
         for block in BodyRef::from_bytes(body).message_blocks() {
-            let trailers = weight_of_trailers(block.trailers(self.alloc))?;
+            let trailers = weight_of_trailers(block.trailers(alloc))?;
             let length = sum_of_lengths(&[block.message.as_bytes().len()]);
             sum = sum.wrapping_add(length).wrapping_add(trailers);
         }

@@ -8,18 +8,15 @@ use std::alloc::Global;
 
 /// Copies an object that was read.
 #[derive(Clone, Copy)]
-pub(crate) struct Owned {
-    /// The memory.
-    pub(crate) alloc: Global,
-}
+pub(crate) struct Owned;
 
 impl<'a> Work<ObjectRef<'a>> for Owned {
     ghost use Rattle.gixobj_codec.specs.BorrowedObjects.{HasObjectIds};
 
     ghost is_ready = { HasObjectIds };
 
-    fn done(&mut self, object: &ObjectRef<'a>) -> Option<u64> {
-        let own = object.to_owned(self.alloc).ok()?;
+    fn done(&mut self, alloc: Global, object: &ObjectRef<'a>) -> Option<u64> {
+        let own = object.to_owned(alloc).ok()?;
         Some(weight(&own))
     }
 }
@@ -28,9 +25,7 @@ impl<'a> Work<ObjectRef<'a>> for Owned {
 fn weight(object: &Object) -> u64 {
     match object {
         Object::Tree(tree) => weight_of_tree(tree),
-        Object::Blob(blob) => sum_of_lengths(&[blob.bytes.len()]).wrapping_add(first_byte(
-            blob.bytes.as_slice(),
-        )),
+        Object::Blob(blob) => (blob.bytes.len() as u64).wrapping_add(first_byte(&blob.bytes)),
         Object::Commit(commit) => weight_of_commit(commit),
         Object::Tag(tag) => weight_of_tag(tag),
     }
@@ -60,7 +55,6 @@ fn weight_of_commit(commit: &Commit) -> u64 {
 
 /// A number that depends on a tag's parts.
 fn weight_of_tag(tag: &Tag) -> u64 {
-    sum_of_lengths(&[tag.name.len(), tag.message.len()]).wrapping_add(first_byte(
-        tag.target.as_bytes(),
-    ))
+    let lengths = sum_of_lengths(&[tag.name.len(), tag.message.len()]);
+    lengths.wrapping_add(first_byte(tag.target.as_bytes()))
 }

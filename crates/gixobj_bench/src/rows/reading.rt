@@ -9,15 +9,13 @@ use std::alloc::Global;
 /// Reads the text of an object of this kind.
 #[derive(Clone, Copy)]
 pub(crate) struct Whole {
-    /// The memory.
-    pub(crate) alloc: Global,
     /// The kind of the objects.
     pub(crate) kind: Kind,
 }
 
 impl<'a> Work<&'a [u8]> for Whole {
-    fn done(&mut self, text: &&'a [u8]) -> Option<u64> {
-        let object = ObjectRef::from_bytes(self.alloc, text, self.kind, Sha1).ok()?;
+    fn done(&mut self, alloc: Global, text: &&'a [u8]) -> Option<u64> {
+        let object = ObjectRef::from_bytes(alloc, text, self.kind, Sha1).ok()?;
         Some(weight(&object))
     }
 }
@@ -52,10 +50,12 @@ fn weight(object: &ObjectRef<'_>) -> u64 {
 /// The number of entries, with the last one's name and id.
 fn weight_of_tree(tree: &TreeRef<'_>) -> u64 {
     match tree.entries.last() {
-        Some(last) => sum_of_lengths(&[
-            tree.entries.len(),
-            last.filename.as_bytes().len(),
-        ]).wrapping_add(first_byte(last.oid.as_bytes())),
+        Some(last) => {
+            let name = last.filename.as_bytes().len();
+            sum_of_lengths(&[tree.entries.len(), name]).wrapping_add(first_byte(
+                last.oid.as_bytes(),
+            ))
+        }
         None => 0,
     }
 }

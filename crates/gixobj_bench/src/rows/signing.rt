@@ -15,16 +15,14 @@ use std::alloc::Global;
 /// Finds the signature of a commit or of a tag, and what it signs.
 #[derive(Clone, Copy)]
 pub(crate) struct SignatureFound {
-    /// The memory.
-    pub(crate) alloc: Global,
     /// The kind of the objects.
     pub(crate) kind: Kind,
 }
 
 impl<'a> Work<&'a [u8]> for SignatureFound {
-    fn done(&mut self, text: &&'a [u8]) -> Option<u64> {
+    fn done(&mut self, alloc: Global, text: &&'a [u8]) -> Option<u64> {
         match self.kind {
-            Kind::Commit => weight_of_commit(self.alloc, text),
+            Kind::Commit => weight_of_commit(alloc, text),
             Kind::Tag => weight_of_tag(text),
             Kind::Tree | Kind::Blob => Some(0),
         }
@@ -50,44 +48,32 @@ fn weight_of_tag(text: &[u8]) -> Option<u64> {
 
 /// Reads what a program of OpenPGP reports. The call takes its text, so it is copied for each.
 #[derive(Clone, Copy)]
-pub(crate) struct GpgReportRead {
-    /// The memory.
-    pub(crate) alloc: Global,
-}
+pub(crate) struct GpgReportRead;
 
 impl<'a> Work<&'a [u8]> for GpgReportRead {
-    fn done(&mut self, report: &&'a [u8]) -> Option<u64> {
-        let output = BString::from_slice(self.alloc, b"").ok()?;
-        let raw_output = BString::from_slice(self.alloc, report).ok()?;
-        let outcome = parse_gpg_output(self.alloc, Format::OpenPgp, output, raw_output).ok()?;
+    fn done(&mut self, alloc: Global, report: &&'a [u8]) -> Option<u64> {
+        let output = BString::from_slice(alloc, b"").ok()?;
+        let raw_output = BString::from_slice(alloc, report).ok()?;
+        let outcome = parse_gpg_output(alloc, Format::OpenPgp, output, raw_output).ok()?;
         Some(weight_of_outcome(&outcome))
     }
 }
 
 /// Reads what a program of SSH reports, likewise.
 #[derive(Clone, Copy)]
-pub(crate) struct SshReportRead {
-    /// The memory.
-    pub(crate) alloc: Global,
-}
+pub(crate) struct SshReportRead;
 
 impl<'a> Work<&'a [u8]> for SshReportRead {
-    fn done(&mut self, report: &&'a [u8]) -> Option<u64> {
-        let output = BString::from_slice(self.alloc, report).ok()?;
-        let outcome = parse_ssh_output(self.alloc, output, None, TrustLevel::Fully).ok()?;
+    fn done(&mut self, alloc: Global, report: &&'a [u8]) -> Option<u64> {
+        let output = BString::from_slice(alloc, report).ok()?;
+        let outcome = parse_ssh_output(alloc, output, None, TrustLevel::Fully).ok()?;
         Some(weight_of_outcome(&outcome))
     }
 }
 
-/// The lengths of the signer and of the key.
+/// The lengths of the signer and of the key, 0 without one.
 fn weight_of_outcome(outcome: &Outcome) -> u64 {
-    sum_of_lengths(&[length_of(&outcome.signer), length_of(&outcome.key)])
-}
-
-/// The length of a text, 0 without one.
-fn length_of(text: &Option<BString>) -> usize {
-    match text {
-        Some(text) => text.as_bytes().len(),
-        None => 0,
-    }
+    let signer = outcome.signer.as_ref().map_or(0, |text| text.len());
+    let key = outcome.key.as_ref().map_or(0, |text| text.len());
+    sum_of_lengths(&[signer, key])
 }

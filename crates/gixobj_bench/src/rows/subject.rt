@@ -33,20 +33,13 @@ impl Subject {
         requires { AllOfParts W.is_ready parts.now }
     {
         let Measured { nanos, sum } = measure(rt, self.rounds, work, parts)?;
-        let Subject {
-            word,
-            count,
-            bytes,
-            ..
-        } = self;
-        let each = Each {
-            nanos,
-            count: bytes,
-        };
+        let (word, objects) = (self.word, self.count);
+        let count = self.bytes;
+        let each = Each { nanos, count };
         let mut out = io::writer(rt);
         writeln!(
             out,
-            "{what} {word} objects {count} bytes {bytes} ns/byte {each} sum {sum}"
+            "{what} {word} objects {objects} bytes {count} ns/byte {each} sum {sum}"
         )?;
         Ok(())
     }

@@ -15,7 +15,7 @@ use std::alloc::Global;
 pub(crate) struct TreeTold;
 
 impl<'a> Work<&'a [u8]> for TreeTold {
-    fn done(&mut self, text: &&'a [u8]) -> Option<u64> {
+    fn done(&mut self, _: Global, text: &&'a [u8]) -> Option<u64> {
         let mut sum = 0u64;
         for entry in TreeRefIter::from_bytes(text, Sha1) {
             sum = sum.wrapping_add(weight_of_entry(entry.ok()?));
@@ -33,15 +33,12 @@ fn weight_of_entry(entry: EntryRef<'_>) -> u64 {
 
 /// Tells the text of a commit token by token.
 #[derive(Clone, Copy)]
-pub(crate) struct CommitTold {
-    /// The memory.
-    pub(crate) alloc: Global,
-}
+pub(crate) struct CommitTold;
 
 impl<'a> Work<&'a [u8]> for CommitTold {
-    fn done(&mut self, text: &&'a [u8]) -> Option<u64> {
+    fn done(&mut self, alloc: Global, text: &&'a [u8]) -> Option<u64> {
         let mut sum = 0u64;
-        for token in CommitRefIter::from_bytes(self.alloc, text, Sha1) {
+        for token in CommitRefIter::from_bytes(alloc, text, Sha1) {
             let token = token.ok()?;
             sum = sum.wrapping_add(weight_of_token(&token));
         }
@@ -76,7 +73,7 @@ fn weight_of_actor(actor: &SignatureRef<'_>) -> u64 {
 pub(crate) struct TagTold;
 
 impl<'a> Work<&'a [u8]> for TagTold {
-    fn done(&mut self, text: &&'a [u8]) -> Option<u64> {
+    fn done(&mut self, _: Global, text: &&'a [u8]) -> Option<u64> {
         let mut sum = 0u64;
         for token in TagRefIter::from_bytes(text, Sha1) {
             let token = token.ok()?;

@@ -8,8 +8,6 @@ use std::alloc::Global;
 /// Writes an object to a writer, which is a list with room.
 #[derive(Drop)]
 pub(crate) struct Written {
-    /// The memory.
-    pub(crate) alloc: Global,
     /// Where the object is written to.
     pub(crate) out: Vec<u8>,
 }
@@ -17,9 +15,9 @@ pub(crate) struct Written {
 impl<T: WriteTo> Work<T> for Written {
     ghost is_ready = { T.can_write };
 
-    fn done(&mut self, object: &T) -> Option<u64> {
+    fn done(&mut self, alloc: Global, object: &T) -> Option<u64> {
         self.out.clear();
-        object.write_to(self.alloc, &mut self.out).ok()?;
+        object.write_to(alloc, &mut self.out).ok()?;
         Some(weight(self.out.as_slice()))
     }
 }
@@ -27,8 +25,6 @@ impl<T: WriteTo> Work<T> for Written {
 /// Writes an object behind a list, which has room.
 #[derive(Drop)]
 pub(crate) struct WrittenToVec {
-    /// The memory.
-    pub(crate) alloc: Global,
     /// Where the object is written to.
     pub(crate) out: Vec<u8>,
 }
@@ -36,9 +32,9 @@ pub(crate) struct WrittenToVec {
 impl<T: WriteTo> Work<T> for WrittenToVec {
     ghost is_ready = { T.can_write };
 
-    fn done(&mut self, object: &T) -> Option<u64> {
+    fn done(&mut self, alloc: Global, object: &T) -> Option<u64> {
         self.out.clear();
-        object.write_to_vec(self.alloc, &mut self.out).ok()?;
+        object.write_to_vec(alloc, &mut self.out).ok()?;
         Some(weight(self.out.as_slice()))
     }
 }
@@ -55,7 +51,7 @@ pub(crate) struct SizeAsked;
 impl<T: WriteTo> Work<T> for SizeAsked {
     ghost is_ready = { T.can_write };
 
-    fn done(&mut self, object: &T) -> Option<u64> {
+    fn done(&mut self, _: Global, object: &T) -> Option<u64> {
         object.size()
     }
 }
