@@ -1,5 +1,5 @@
 -- Each look at an entry narrows the places where the name can stand.
-use Rattle.std.proofs.Common.{◌≡◌, ◌∙◌, ◌+◌, ◌-◌, ◌/◌, ◌<◌, ◌≤◌, HoldsAt, Less, Equal, Greater, length, sym, subst, arith}
+use Rattle.std.proofs.Common.{◌∙◌, ◌+◌, ◌-◌, ◌/◌, ◌<◌, Less, Equal, Greater, length, sym, subst, arith}
 use Rattle.gixobj_tree.proofs.Bisecting.{IsNarrowed, compared, looked, narrowed_all, narrowed_down, narrowed_none, narrowed_up}
 use Rattle.gixobj_tree.proofs.tree.borrowed.place_of.Goals as goal
 use Rattle.gixobj_tree.specs.TreeViews.{entry_view}

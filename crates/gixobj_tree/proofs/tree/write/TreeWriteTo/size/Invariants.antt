@@ -1,4 +1,4 @@
-use Rattle.std.proofs.Common.{◌≡◌, ◌+◌, ◌*◌, ◌≤◌, ◌<◌, ◌^◌, take, length}
+use Rattle.std.proofs.Common.{◌≡◌, ◌≤◌, ◌<◌, ◌^◌, take, length}
 use Rattle.gixobj_tree.specs.TreeText.{tree_text, with_ids}
 use Rattle.gixobj_tree.proofs.tree.write.TreeWriteTo.size.Given as goal
 
