@@ -1,10 +1,10 @@
 -- Writing a tree entry by entry.
-use Rattle.std.proofs.Common.{◌≡◌, ℕ, ◌+◌, ◌*◌, ◌<◌, ◌≤◌, ◌^◌, List, [], ◌∷◌, ◌++◌, length, get_or, take, drop, All, inr, refl, ap, arith, sym, ◌∙◌, length-append}
+use Rattle.std.proofs.Common.{◌≡◌, ℕ, ◌+◌, ◌*◌, ◌<◌, ◌≤◌, ◌^◌, List, [], ◌∷◌, ◌++◌, length, get_or, take, drop, All, inr, refl, ap, arith, sym, ◌∙◌, append_assoc, length-append}
 use Rattle.std.specs.Prelude.{Contains}
 use Rattle.std.proofs.lemmas.List.{append-nil, take_all, take_more, take-append-drop, drop_more}
 use Rattle.std.proofs.lemmas.List.Elements.{All-contains, All-push, Contains-append_right, Contains-get_or}
 use Rattle.std.proofs.lemmas.List.Concat.{flat_map-append}
-use Rattle.gixobj_tree.specs.Entries.{EntryView, entry_of}
+use Rattle.gixobj_tree.specs.Entries.{EntryView}
 use Rattle.gixobj_hash.specs.Texts.{IsFree}
 use Rattle.gixobj_tree.specs.TreeText.{RefusesEntry, RefusesTree, before_name, entry_text, front_text, tree_text, with_ids}
 use Rattle.gixobj_fields.specs.Streams.{Puts, PutsFront, SinkView}
@@ -12,7 +12,6 @@ use Rattle.gixobj_fields.specs.Writing.{Refused, RefusesWriting}
 use Rattle.gixobj_fields.specs.declared.encode.Error.{Error}
 use Rattle.gixobj_fields.specs.declared.encode.Error.TheVariants.{OutOfMemory}
 use Rattle.gixobj_hash.specs.Hash.{id_bytes}
-use Rattle.gixobj_hash.specs.declared.hash.object_id.ObjectId.{ObjectId}
 use Rattle.gixobj_mode.specs.Mode.{mode_text}
 use Rattle.gixobj_fields.proofs.Puts.{front_first, front_more, puts_more}
 use Rattle.gixobj_fields.proofs.Refusals.{says_why_within}
@@ -83,23 +82,17 @@ size_past items all i e size longer same h is so_far over short =
 -- ---- an entry
 
 -- a front of the mode and its space is a front of the entry
-pub mode_front : (a b : SinkView) (mode : ℕ) (name : List ℕ) (id : ObjectId) → PutsFront a b (mode_text mode ++ 32 ∷ []) → PutsFront a b (entry_text (entry_of mode name id))
-mode_front a b mode name id part = front_first a b ((mode_text mode ++ 32 ∷ []) ++ name) (0 ∷ id_bytes id) (front_first a b (mode_text mode ++ 32 ∷ []) name part)
+pub mode_front : (a b : SinkView) (e : EntryView) → PutsFront a b (before_name e) → PutsFront a b (entry_text e)
+mode_front a b e part = front_first a b (before_name e ++ e.name) (0 ∷ id_bytes e.id) (front_first a b (before_name e) e.name part)
 
--- a front of the name stands behind the mode
-pub name_front : (a b c : SinkView) (mode : ℕ) (name : List ℕ) (id : ObjectId) → Puts a b (mode_text mode ++ 32 ∷ []) → PutsFront b c name → PutsFront a c (entry_text (entry_of mode name id))
-name_front a b c mode name id put part = front_first a c ((mode_text mode ++ 32 ∷ []) ++ name) (0 ∷ id_bytes id) (front_more a b c (mode_text mode ++ 32 ∷ []) name put part)
+-- a front of the name and the id stands behind the mode
+pub entry_front : (a b c : SinkView) (e : EntryView) → Puts a b (before_name e) → PutsFront b c (e.name ++ 0 ∷ id_bytes e.id) → PutsFront a c (entry_text e)
+entry_front a b c e put part = rw (append_assoc (before_name e) e.name (0 ∷ id_bytes e.id)) (front_more a b c (before_name e) (e.name ++ 0 ∷ id_bytes e.id) put part)
 
--- a front of the zero byte and the id stands behind the name
-pub id_front : (a b c d : SinkView) (mode : ℕ) (name : List ℕ) (id : ObjectId) → Puts a b (mode_text mode ++ 32 ∷ []) → Puts b c name → PutsFront c d (0 ∷ id_bytes id) → PutsFront a d (entry_text (entry_of mode name id))
-id_front a b c d mode name id put named part =
-    front_more a c d ((mode_text mode ++ 32 ∷ []) ++ name) (0 ∷ id_bytes id) (puts_more a b c (mode_text mode ++ 32 ∷ []) name put named) part
-
--- the mode, the name and the id are the entry
-pub id_put : (a b c d : SinkView) (mode : ℕ) (name : List ℕ) (id : ObjectId) → Puts a b (mode_text mode ++ 32 ∷ []) → Puts b c name → Puts c d (0 ∷ id_bytes id) → Puts a d (entry_text (entry_of mode name id))
-id_put a b c d mode name id put named last =
-    puts_more a c d ((mode_text mode ++ 32 ∷ []) ++ name) (0 ∷ id_bytes id) (puts_more a b c (mode_text mode ++ 32 ∷ []) name put named) last
+-- the mode, and behind it the name and the id, are the entry
+pub entry_put : (a b c : SinkView) (e : EntryView) → Puts a b (before_name e) → Puts b c (e.name ++ 0 ∷ id_bytes e.id) → Puts a c (entry_text e)
+entry_put a b c e put more = rw (append_assoc (before_name e) e.name (0 ∷ id_bytes e.id)) (puts_more a b c (before_name e) (e.name ++ 0 ∷ id_bytes e.id) put more)
 
 -- a name with a zero byte is not copied because memory ran out
-pub no_copy : (a b : SinkView) (mode : ℕ) (name : List ℕ) (id : ObjectId) → Contains name 0 → Puts a b (mode_text mode ++ 32 ∷ []) → RefusesWriting (RefusesEntry (entry_of mode name id)) a b (entry_text (entry_of mode name id)) OutOfMemory
-no_copy a b mode name id has put = (name, inr (before_name (entry_of mode name id), (has, refl, refl), put))
+pub no_copy : (a b : SinkView) (e : EntryView) → Contains e.name 0 → Puts a b (before_name e) → RefusesWriting (RefusesEntry e) a b (entry_text e) OutOfMemory
+no_copy a b e has put = (e.name, inr (before_name e, (has, refl, refl), put))

@@ -131,7 +131,6 @@ pub(super) fn put_entry_ref<S: Sink>(
 ///
 /// A name with a zero byte is refused as `NullbyteInFilename`, after the mode and a space.
 #[inline(always)]
-#[tactic(auto, using(crate::proofs::TreeWrites::mode_front, crate::proofs::TreeWrites::name_front, crate::proofs::TreeWrites::id_front, crate::proofs::TreeWrites::id_put, crate::proofs::TreeWrites::no_copy))]
 pub fn put_entry<S: Sink>(
     alloc: Global,
     mode: EntryMode,
@@ -153,9 +152,20 @@ pub fn put_entry<S: Sink>(
         let name = BString::from_slice(alloc, name)?;
         return Err(Error::NullbyteInFilename { name });
     }
-    sink.put(name)?;
-    put_id(id, sink)?;
+    put_name_and_id(name, id, sink)?;
     Ok(())
+}
+
+/// Puts the name, a zero byte and the id.
+#[inline(always)]
+#[tactic(auto, using(gixobj_fields::proofs::Puts::front_first, gixobj_fields::proofs::Puts::puts_or_fails_more))]
+fn put_name_and_id<S: Sink>(name: &[u8], id: oid<'_>, sink: &mut S) -> io::Result<()>
+    ensures put { PutsOrFails result (S.view sink.old) (S.view sink.new)
+        (name.now ++ 0 ∷ id_bytes (borrowed_id id.entry)) }
+    ensures same_loan { S.loan sink.new ≡ S.loan sink.old }
+{
+    sink.put(name)?;
+    put_id(id, sink)
 }
 
 /// Puts the mode and a space: those of a kind's own mode at once.
