@@ -1,8 +1,10 @@
 -- What is put into a sink in several steps.
-use Rattle.std.proofs.Common.{◌≡◌, ◌-◌, ◌≤◌, ℕ, take, drop, List, [], ◌++◌, Option, Some, None, ◌∷◌, Result, Ok, Err, append_assoc, arith, length, length-append, sym, ap, ◌∙◌}
+use Rattle.std.proofs.Common.{◌≡◌, ◌==◌, true, false, refl, ◌-◌, ◌<◌, ◌≤◌, ℕ, take, drop, List, [], ◌++◌, Option, Some, None, ◌∷◌, Result, Ok, Err, append_assoc, arith, length, length-append, sym, ap, ◌∙◌}
+use Rattle.std.proofs.lemmas.Bool.{eqb-true}
 use Rattle.std.proofs.lemmas.List.{append-nil, length-drop, take-append-drop, take_all}
-use Rattle.std.specs.Io.KnownBytes.{Appends}
-use Rattle.gixobj_fields.specs.Streams.{Puts, PutsFront, PutsOrFails, SinkView}
+use Rattle.std.proofs.KnownBytes.{Appends-kept}
+use Rattle.std.specs.Io.KnownBytes.{Appends, Keeps}
+use Rattle.gixobj_fields.specs.Streams.{Puts, PutsFront, PutsOrFails, SinkView, writer_view}
 
 pub appends_more : (a b c : Option (List ℕ)) (x y : List ℕ) → Appends a b x → Appends b c y → Appends a c (x ++ y)
 appends_more None b c x y p q = tt
@@ -87,3 +89,37 @@ front_with_more_room a b c x same less part =
       held = rw same part.held;
       short = omega (arith, less, part.short);
     }
+
+-- ---- a writer that takes what is left of the bytes
+
+pub some_left : (rest : List ℕ) → false ≡ (length rest == 0) → 0 < length rest
+some_left [] test = absurd (cc)
+some_left (first ∷ rest) test = omega arith
+
+pub none_left : (rest : List ℕ) → true ≡ (length rest == 0) → rest ≡ []
+none_left [] test = refl
+none_left (first ∷ rest) test = absurd (omega (arith, eqb-true (length (first ∷ rest)) 0 (sym test)))
+
+-- a write of none of them kept what is held
+pub kept_by_none : (here after : Option (List ℕ)) (count : ℕ) (rest : List ℕ) → count ≡ 0 → Appends here after (take count rest) → Keeps here after
+kept_by_none None after count rest none held = tt
+kept_by_none (Some a) None count rest none held = absurd held
+kept_by_none (Some a) (Some b) count rest none held = (rw none at held) ∙ append-nil a
+
+-- a writer that takes no more has a front of the bytes
+pub writer_front : (first here after : Option (List ℕ)) (bytes front rest : List ℕ) → bytes ≡ front ++ rest → 0 < length rest → Appends first here front → Keeps here after → PutsFront (writer_view first) (writer_view after) bytes
+writer_front first here after bytes front rest joined missing held kept =
+    record {
+      front = front;
+      rest = rest;
+      joined = joined;
+      missing = missing;
+      held = Appends-kept first here after front held kept;
+      short = omega (arith, missing, ap length joined, length-append front rest);
+    }
+
+-- a writer has the bytes where none are left
+pub writer_puts : (first here : Option (List ℕ)) (bytes front rest : List ℕ) → bytes ≡ front ++ rest → rest ≡ [] → Appends first here front → Puts (writer_view first) (writer_view here) bytes
+writer_puts first here bytes front rest joined none held =
+    let whole : bytes ≡ front = joined ∙ ap (λ (it : List ℕ). front ++ it) none ∙ append-nil front in
+    record { held = rw whole held; room = omega arith }

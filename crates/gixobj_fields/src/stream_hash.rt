@@ -113,7 +113,6 @@ pub fn skip_stream<R: Read>(stream: &mut R, len: u64) -> Result<(), Error>
 }
 
 /// The same of a source, where `Io` comes only if the source may fail.
-#[tactic(auto, using(crate::proofs::StreamReads::nothing_skipped, crate::proofs::StreamReads::piece_skipped, crate::proofs::StreamReads::all_skipped, crate::proofs::StreamReads::refused_skipping))]
 pub fn skip_source<S: Source>(source: &mut S, len: u64) -> Result<(), Error>
     ensures read { OnOk result (SkipsExactly (S.rest source.old) (S.rest source.new) len) }
     ensures refusal { IfErr result (RefusesStream (S.may_fail source.old) (S.rest source.old)
@@ -131,7 +130,6 @@ pub fn skip_source<S: Source>(source: &mut S, len: u64) -> Result<(), Error>
 }
 
 /// Adds the next `len` bytes of a source at the end of the message.
-#[tactic(auto, using(crate::proofs::StreamReads::nothing_digested, crate::proofs::StreamReads::piece_digested, crate::proofs::StreamReads::all_digested, crate::proofs::StreamReads::refused_behind))]
 fn update_from<S: Source>(hasher: &mut Hasher, source: &mut S, len: u64) -> Result<(), Error>
     ensures read { OnOk result ((content : List ℕ)
         × ReadsExactly (S.rest source.old) (S.rest source.new) len content

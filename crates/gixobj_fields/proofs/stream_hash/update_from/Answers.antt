@@ -1,9 +1,26 @@
--- A refusal of what is missing is one of the whole.
+-- A piece is one part more of what is read, and a refusal of what is missing is one of the whole.
+use Rattle.std.proofs.Common.{◌∙◌, refl}
 use Rattle.std.proofs.lemmas.Result.{err_from_is_err_and}
-use Rattle.gixobj_fields.proofs.StreamReads.{refused_behind}
+use Rattle.gixobj_fields.proofs.StreamReads.{all_digested, nothing_digested, piece_digested, refused_behind}
 use Rattle.gixobj_fields.proofs.stream_hash.update_from.Goals as goal
+
+pub loop-missing-init : goal.loop-missing-init
+loop-missing-init g c = record { digesting = nothing_digested _ _ _; lasting = λ may. may; same_loan = refl }
+
+pub loop-missing-preserved : goal.loop-missing-preserved
+loop-missing-preserved g c =
+    let before = c.loop-missing.invariant in
+    let read = c.in_ok-count.ensures in
+    record {
+      digesting = piece_digested _ _ _ _ _ _ _ _ c.in_ok-count.count _ before.digesting read.taken c.update.ensures read.bound.1 read.count.1;
+      lasting = λ may. before.lasting (read.lasting may);
+      same_loan = read.same_loan ∙ before.same_loan;
+    }
 
 pub returns-in_err-count-clause-refusal : goal.returns-in_err-count-clause-refusal
 returns-in_err-count-clause-refusal g c =
     let p = err_from_is_err_and c.from_residual.result c.from_residual.ensures.1 in
     rw (p.1, p.2) (refused_behind _ _ _ _ _ _ _ _ _ _ c.loop-missing.invariant.digesting c.loop-missing.invariant.lasting (c.in_err-count.ensures).refusal)
+
+pub returns-clause-read : goal.returns-clause-read
+returns-clause-read g c = all_digested _ _ _ _ _ _ c.loop-missing.invariant.digesting c.loop-missing-test.false
