@@ -6,11 +6,11 @@ use Rattle.gixobj_fields.proofs.Puts.{front_first, puts_nothing, puts_or_fails_m
 use Rattle.gixobj_fields.proofs.Refusals.{says_why_behind}
 use Rattle.gixobj_fields.specs.HeaderText.{field_text}
 use Rattle.gixobj_fields.specs.Streams.{Puts, PutsFront, PutsOrFails, SinkView}
-use Rattle.gixobj_fields.specs.Writing.{Refused, RefusesWriting}
+use Rattle.gixobj_fields.specs.Writing.{Refused, RefusesNothing, RefusesWriting}
 use Rattle.gixobj_fields.specs.declared.encode.Error.{Error}
 use Rattle.gixobj_tag.specs.NameRule.{IsTagName}
 use Rattle.gixobj_tag.specs.TagText.{TagLines, target_text}
-use Rattle.gixobj_tag.specs.TagWriting.{RefusesTagLines, RefusesNameLine, RefusesParts}
+use Rattle.gixobj_tag.specs.TagWriting.{RefusesTagLines, RefusesTagName, RefusesNameLine, RefusesParts}
 
 -- a byte is put, and then the rest of a text
 pub byte_front : (a b : SinkView) (byte : ℕ) (rest : List ℕ) → PutsFront a b (byte ∷ []) → PutsFront a b (byte ∷ rest)
@@ -24,6 +24,15 @@ name_refused front name Refuses value parts (refused, none) = inl (refused, ap (
 
 pub tagger_refused : (front name : List ℕ) (Refuses : Refused → List ℕ → Type 0) (value : Refused) (parts : List ℕ) → IsTagName name → Refuses value parts → RefusesParts front name Refuses value ((front ++ field_text (codes "tag") name) ++ parts)
 tagger_refused front name Refuses value parts valid refused = inr (valid, (parts, refused, refl))
+
+name_not_refused : (name : List ℕ) (value : Refused) → IsTagName name → RefusesTagName name value → ⊥
+name_not_refused name value valid (inl (fault, first, is)) = valid.0 fault first.here
+name_not_refused name value valid (inr (clean, dash, is)) = valid.1 dash
+
+-- nothing is refused of a name that a tag may have and a tagger that is not refused
+pub none_refused : (front name : List ℕ) (Refuses : Refused → List ℕ → Type 0) → IsTagName name → RefusesNothing Refuses → RefusesNothing (RefusesParts front name Refuses)
+none_refused front name Refuses valid none value parts (inl it) = name_not_refused name value valid it.0
+none_refused front name Refuses valid none value parts (inr (named, (line, refused, is))) = none value line refused
 
 -- a line of a tagger as it stands is never refused
 lines_refused : (tag : TagLines) (value : Refused) (parts : List ℕ) → RefusesParts (target_text tag) tag.name (λ value line. ⊥) value parts → RefusesTagLines tag value parts

@@ -99,11 +99,36 @@ fn put_tag<'a, T: Target, A: Tagger, S: Sink>(
         (bytes_if_some signature.entry)))) }
     ensures same_loan { S.loan sink.new ≡ S.loan sink.old }
 {
-    put_target(target, target_kind, sink)?;
-    put_name(name, sink)?;
-    tagger.put_tagger(sink)?;
+    put_lines(target, target_kind, name, tagger, sink)?;
     put_body(message, signature, sink)?;
     Ok(())
+}
+
+/// Puts the lines before the body: those of the target, its kind and the name, and the line of the tagger.
+#[inline(always)]
+fn put_lines<T: Target, A: Tagger, S: Sink>(
+    target: &T,
+    target_kind: Kind,
+    name: BStr<'_>,
+    tagger: &A,
+    sink: &mut S,
+) -> Result<(), encode::Error>
+    ensures written { OnOk result (Puts (S.view sink.old) (S.view sink.new)
+        (front_text (T.target_line target.now) target_kind ++ field_text (codes "tag")
+        (bstr_bytes name.entry) ++ A.tagger_line tagger.now)) }
+    ensures nothing_refused { OnOk result
+        (RefusesNothing (RefusesParts (front_text (T.target_line target.now) target_kind)
+        (bstr_bytes name.entry) (A.refuses tagger.now))) }
+    ensures refusal { IfErr result (RefusesWriting
+        (RefusesParts (front_text (T.target_line target.now) target_kind) (bstr_bytes name.entry)
+        (A.refuses tagger.now)) (S.view sink.old) (S.view sink.new)
+        (front_text (T.target_line target.now) target_kind ++ field_text (codes "tag")
+        (bstr_bytes name.entry) ++ A.tagger_line tagger.now)) }
+    ensures same_loan { S.loan sink.new ≡ S.loan sink.old }
+{
+    put_target(target, target_kind, sink)?;
+    put_name(name, sink)?;
+    tagger.put_tagger(sink)
 }
 
 /// How many bytes the words `type` and `tag` have, each with a space and a newline.
@@ -322,7 +347,6 @@ fn put_value<S: Sink>(value: &[u8], sink: &mut S) -> io::Result<()>
 
 /// Puts the message and the signature.
 #[inline(always)]
-#[tactic(auto, using(gixobj_fields::proofs::Puts::front_first, gixobj_fields::proofs::Puts::puts_or_fails_more))]
 fn put_body<S: Sink>(message: BStr<'_>, signature: Option<BStr<'_>>, sink: &mut S) -> io::Result<()>
     ensures put { PutsOrFails result (S.view sink.old) (S.view sink.new)
         (body_text (bstr_bytes message.entry) (bytes_if_some signature.entry)) }
@@ -360,7 +384,6 @@ fn put_signature<S: Sink>(signature: Option<BStr<'_>>, sink: &mut S) -> io::Resu
 
 /// Puts a newline, and the text behind it.
 #[inline(always)]
-#[tactic(auto, using(crate::proofs::TagWrites::byte_front, crate::proofs::TagWrites::byte_then))]
 fn put_behind_newline<S: Sink>(text: BStr<'_>, sink: &mut S) -> io::Result<()>
     ensures put { PutsOrFails result (S.view sink.old) (S.view sink.new)
         (newline ∷ bstr_bytes text.entry) }
