@@ -52,8 +52,7 @@ impl WriteTo for CommitRef<'_> {
         put_hex_ids(self.tree, parents, sink)?;
         trusted_header_field(b"author", author, sink)?;
         trusted_header_field(b"committer", committer, sink)?;
-        put_rest(alloc, self.encoding, headers, message, sink)?;
-        Ok(())
+        put_rest(alloc, self.encoding, headers, message, sink)
     }
 
     fn kind(&self) -> Kind {
@@ -220,7 +219,6 @@ impl Field for (BString, BString) {
 }
 
 /// Puts fields, one after the other.
-#[tactic(auto, using(gixobj_fields::proofs::Joins::item_front))]
 fn put_all<T: Field, S: Sink>(fields: &[T], sink: &mut S) -> io::Result<()>
     requires { All T.can_put fields.now }
     ensures put { PutsOrFails result (S.view sink.old) (S.view sink.new)

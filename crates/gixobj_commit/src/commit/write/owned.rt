@@ -32,8 +32,7 @@ impl WriteTo for Commit {
         put_ids(&self.tree, parents, sink)?;
         trusted_header_signature(b"author", &self.author, sink)?;
         trusted_header_signature(b"committer", &self.committer, sink)?;
-        put_rest(alloc, encoding, headers, message, sink)?;
-        Ok(())
+        put_rest(alloc, encoding, headers, message, sink)
     }
 
     fn kind(&self) -> Kind {

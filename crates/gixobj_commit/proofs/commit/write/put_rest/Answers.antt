@@ -33,3 +33,13 @@ returns-in_err-put_parts-clause-refusal g c =
     let headers : List ℕ = flat_map g.T.Field.written c.args.headers.now in
     let before = puts_more _ _ _ encoding headers c.in_ok-put_encoding.ensures.written c.in_ok-put_all.ensures.put in
     rw (from.1, from.2, ← append-nil c.args.message.now) (front_more _ _ _ (encoding ++ headers) (10 ∷ (c.args.message.now ++ [])) before c.in_err-put_parts.ensures.put)
+
+pub returns-clause-written : goal.returns-clause-written
+returns-clause-written g c =
+    let encoding = encoding_text (bytes_if_some c.args.encoding) in
+    let headers : List ℕ = flat_map g.T.Field.written c.args.headers.now in
+    let before = puts_more _ _ _ encoding headers c.in_ok-put_encoding.ensures.written c.in_ok-put_all.ensures.put in
+    rw (← append-nil c.args.message.now) (puts_more _ _ _ (encoding ++ headers) (10 ∷ (c.args.message.now ++ [])) before c.in_ok-put_parts.ensures.put)
+
+pub returns-clause-nothing_refused : goal.returns-clause-nothing_refused
+returns-clause-nothing_refused g c = c.in_ok-put_encoding.ensures.nothing_refused

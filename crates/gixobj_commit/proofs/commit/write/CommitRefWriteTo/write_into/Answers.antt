@@ -1,7 +1,8 @@
 -- The parts of the commit's text are written one after the other.
 use Rattle.gixobj_hash.proofs.HexIds.{spelled}
 use Rattle.gixobj_hash.specs.Hash.Hex.{spelled_id}
-use Rattle.std.proofs.lemmas.Result.{err_from_is_err_and}
+use Rattle.std.proofs.Common.{[], refl}
+use Rattle.std.proofs.lemmas.Result.{IfErr-weaker, IfOk-weaker, err_from_is_err_and}
 use Rattle.bstr.specs.BStr.{bstr_bytes}
 use Rattle.gixobj_fields.proofs.Refusals.{says_why_behind}
 use Rattle.gixobj_hash.specs.Hash.{IsHexOfAnId}
@@ -39,19 +40,25 @@ returns-in_err-trusted_header_field-2-clause-refusal g c =
     let from = err_from_is_err_and c.from_residual-in_err-trusted_header_field-2.result c.from_residual-in_err-trusted_header_field-2.ensures.1 in
     rw (from.1, from.2) (third_front _ _ _ _ _ _ _ _ _ whole c.in_ok-put_hex_ids.ensures.put c.in_ok-trusted_header_field.ensures.put c.in_err-trusted_header_field-2.ensures.put)
 
-pub returns-in_err-put_rest-clause-refusal : goal.returns-in_err-put_rest-clause-refusal
-returns-in_err-put_rest-clause-refusal g c =
-    let whole = borrowed_as_put c.args.self.now (spelled_id (bstr_bytes c.args.self.now.tree)) c.as_slice-parents.result.now c.as_bytes-author.result.now c.as_bytes-committer.result.now c.as_slice-headers.result.now c.as_bytes-message.result.now
-    (spelled (bstr_bytes c.args.self.now.tree) c.requires.tree) c.as_slice-parents.ensures c.as_bytes-author.ensures c.as_bytes-committer.ensures c.as_slice-headers.ensures.value c.as_bytes-message.ensures in
-    let from = err_from_is_err_and c.from_residual-in_err-put_rest.result c.from_residual-in_err-put_rest.ensures.1 in
-    rw (from.1, from.2) (says_why_behind (RefusesEncodingLine (bytes_if_some c.args.self.now.encoding)) (RefusesCommitLines (in_lower_case (commit_lines c.args.self.now))) (g.S.Sink.view c.args.sink.now) (g.S.Sink.view c.trusted_header_field-2.new.sink) (g.S.Sink.view c.put_rest.new.sink) _ _ _
-    (three_put _ _ _ _ _ _ _ c.in_ok-put_hex_ids.ensures.put c.in_ok-trusted_header_field.ensures.put c.in_ok-trusted_header_field-2.ensures.put)
-    (λ value parts. borrowed_refused c.args.self.now (spelled_id (bstr_bytes c.args.self.now.tree)) c.as_slice-parents.result.now c.as_bytes-author.result.now c.as_bytes-committer.result.now value parts (spelled (bstr_bytes c.args.self.now.tree) c.requires.tree) c.as_slice-parents.ensures c.as_bytes-author.ensures c.as_bytes-committer.ensures)
-    (fourth_front _ _ _ _ _ _ _ _ _ _ whole c.in_ok-put_hex_ids.ensures.put c.in_ok-trusted_header_field.ensures.put c.in_ok-trusted_header_field-2.ensures.put)
-    c.in_err-put_rest.field-0.0 c.in_err-put_rest.ensures.refusal)
-
 pub returns-clause-written : goal.returns-clause-written
 returns-clause-written g c =
     let whole = borrowed_as_put c.args.self.now (spelled_id (bstr_bytes c.args.self.now.tree)) c.as_slice-parents.result.now c.as_bytes-author.result.now c.as_bytes-committer.result.now c.as_slice-headers.result.now c.as_bytes-message.result.now
     (spelled (bstr_bytes c.args.self.now.tree) c.requires.tree) c.as_slice-parents.ensures c.as_bytes-author.ensures c.as_bytes-committer.ensures c.as_slice-headers.ensures.value c.as_bytes-message.ensures in
-    all_put _ _ _ _ _ _ _ _ _ _ whole c.in_ok-put_hex_ids.ensures.put c.in_ok-trusted_header_field.ensures.put c.in_ok-trusted_header_field-2.ensures.put c.in_ok-put_rest.ensures.written
+    IfOk-weaker c.put_rest.result _ _
+    (λ _ rest. all_put _ _ _ _ _ _ _ _ _ _ whole c.in_ok-put_hex_ids.ensures.put c.in_ok-trusted_header_field.ensures.put c.in_ok-trusted_header_field-2.ensures.put rest)
+    c.put_rest.ensures.written
+
+pub returns-clause-nothing_refused : goal.returns-clause-nothing_refused
+returns-clause-nothing_refused g c =
+    IfOk-weaker c.put_rest.result _ _ (λ _ none value parts refused. none value [] (refused.0, refl)) c.put_rest.ensures.nothing_refused
+
+pub returns-clause-refusal : goal.returns-clause-refusal
+returns-clause-refusal g c =
+    let whole = borrowed_as_put c.args.self.now (spelled_id (bstr_bytes c.args.self.now.tree)) c.as_slice-parents.result.now c.as_bytes-author.result.now c.as_bytes-committer.result.now c.as_slice-headers.result.now c.as_bytes-message.result.now
+    (spelled (bstr_bytes c.args.self.now.tree) c.requires.tree) c.as_slice-parents.ensures c.as_bytes-author.ensures c.as_bytes-committer.ensures c.as_slice-headers.ensures.value c.as_bytes-message.ensures in
+    IfErr-weaker c.put_rest.result _ _
+    (says_why_behind (RefusesEncodingLine (bytes_if_some c.args.self.now.encoding)) (RefusesCommitLines (in_lower_case (commit_lines c.args.self.now))) (g.S.Sink.view c.args.sink.now) (g.S.Sink.view c.trusted_header_field-2.new.sink) (g.S.Sink.view c.put_rest.new.sink) _ _ _
+    (three_put _ _ _ _ _ _ _ c.in_ok-put_hex_ids.ensures.put c.in_ok-trusted_header_field.ensures.put c.in_ok-trusted_header_field-2.ensures.put)
+    (λ value parts. borrowed_refused c.args.self.now (spelled_id (bstr_bytes c.args.self.now.tree)) c.as_slice-parents.result.now c.as_bytes-author.result.now c.as_bytes-committer.result.now value parts (spelled (bstr_bytes c.args.self.now.tree) c.requires.tree) c.as_slice-parents.ensures c.as_bytes-author.ensures c.as_bytes-committer.ensures)
+    (fourth_front _ _ _ _ _ _ _ _ _ _ whole c.in_ok-put_hex_ids.ensures.put c.in_ok-trusted_header_field.ensures.put c.in_ok-trusted_header_field-2.ensures.put))
+    c.put_rest.ensures.refusal

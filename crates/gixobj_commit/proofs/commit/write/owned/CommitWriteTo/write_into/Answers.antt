@@ -1,6 +1,6 @@
 -- The parts of the commit's text are written one after the other.
 use Rattle.std.proofs.Common.{codes}
-use Rattle.std.proofs.lemmas.Result.{err_from_is_err_and}
+use Rattle.std.proofs.lemmas.Result.{IfErr-weaker, IfOk-weaker, err_from_is_err_and}
 use Rattle.gixobj_fields.proofs.Puts.{puts_more}
 use Rattle.gixobj_fields.proofs.Refusals.{says_why_behind}
 use Rattle.gixobj_commit.proofs.CommitWrites.{owned_as_put, owned_author_refused, owned_committer_refused, owned_encoding_refused, owned_not_refused}
@@ -38,23 +38,27 @@ returns-in_err-trusted_header_signature-2-clause-refusal g c =
     (third_front _ _ _ _ _ _ _ _ _ whole c.in_ok-put_ids.ensures.put c.in_ok-trusted_header_signature.ensures.written)
     c.in_err-trusted_header_signature-2.field-0.0 c.in_err-trusted_header_signature-2.ensures.refusal)
 
-pub returns-in_err-put_rest-clause-refusal : goal.returns-in_err-put_rest-clause-refusal
-returns-in_err-put_rest-clause-refusal g c =
-    let whole = owned_as_put c.args.self.now c.as_slice-parents.result.now c.borrowed-encoding.result c.as_slice-headers.result.now c.as_bytes-message.result.now
-    c.as_slice-parents.ensures c.borrowed-encoding.ensures c.as_slice-headers.ensures.value c.as_bytes-message.ensures in
-    let from = err_from_is_err_and c.from_residual-in_err-put_rest.result c.from_residual-in_err-put_rest.ensures.1 in
-    rw (from.1, from.2) (says_why_behind (RefusesEncodingLine (bytes_if_some c.borrowed-encoding.result)) (RefusesOwnedCommit c.args.self.now) (g.S.Sink.view c.args.sink.now) (g.S.Sink.view c.trusted_header_signature-2.new.sink) (g.S.Sink.view c.put_rest.new.sink) _ _ _
-    (three_put _ _ _ _ _ _ _ c.in_ok-put_ids.ensures.put c.in_ok-trusted_header_signature.ensures.written c.in_ok-trusted_header_signature-2.ensures.written)
-    (λ value parts. owned_encoding_refused c.args.self.now c.as_slice-parents.result.now c.borrowed-encoding.result value parts c.as_slice-parents.ensures c.borrowed-encoding.ensures c.in_ok-trusted_header_signature.ensures.legal c.in_ok-trusted_header_signature-2.ensures.legal)
-    (fourth_front _ _ _ _ _ _ _ _ _ _ whole c.in_ok-put_ids.ensures.put c.in_ok-trusted_header_signature.ensures.written c.in_ok-trusted_header_signature-2.ensures.written)
-    c.in_err-put_rest.field-0.0 c.in_err-put_rest.ensures.refusal)
-
 pub returns-clause-written : goal.returns-clause-written
 returns-clause-written g c =
     let whole = owned_as_put c.args.self.now c.as_slice-parents.result.now c.borrowed-encoding.result c.as_slice-headers.result.now c.as_bytes-message.result.now
     c.as_slice-parents.ensures c.borrowed-encoding.ensures c.as_slice-headers.ensures.value c.as_bytes-message.ensures in
-    all_put _ _ _ _ _ _ _ _ _ _ whole c.in_ok-put_ids.ensures.put c.in_ok-trusted_header_signature.ensures.written c.in_ok-trusted_header_signature-2.ensures.written c.in_ok-put_rest.ensures.written
+    IfOk-weaker c.put_rest.result _ _
+    (λ _ rest. all_put _ _ _ _ _ _ _ _ _ _ whole c.in_ok-put_ids.ensures.put c.in_ok-trusted_header_signature.ensures.written c.in_ok-trusted_header_signature-2.ensures.written rest)
+    c.put_rest.ensures.written
 
 pub returns-clause-nothing_refused : goal.returns-clause-nothing_refused
 returns-clause-nothing_refused g c =
-    owned_not_refused c.args.self.now c.borrowed-encoding.result c.borrowed-encoding.ensures c.in_ok-trusted_header_signature.ensures.legal c.in_ok-trusted_header_signature-2.ensures.legal c.in_ok-put_rest.ensures.nothing_refused
+    IfOk-weaker c.put_rest.result _ _
+    (λ _ none. owned_not_refused c.args.self.now c.borrowed-encoding.result c.borrowed-encoding.ensures c.in_ok-trusted_header_signature.ensures.legal c.in_ok-trusted_header_signature-2.ensures.legal none)
+    c.put_rest.ensures.nothing_refused
+
+pub returns-clause-refusal : goal.returns-clause-refusal
+returns-clause-refusal g c =
+    let whole = owned_as_put c.args.self.now c.as_slice-parents.result.now c.borrowed-encoding.result c.as_slice-headers.result.now c.as_bytes-message.result.now
+    c.as_slice-parents.ensures c.borrowed-encoding.ensures c.as_slice-headers.ensures.value c.as_bytes-message.ensures in
+    IfErr-weaker c.put_rest.result _ _
+    (says_why_behind (RefusesEncodingLine (bytes_if_some c.borrowed-encoding.result)) (RefusesOwnedCommit c.args.self.now) (g.S.Sink.view c.args.sink.now) (g.S.Sink.view c.trusted_header_signature-2.new.sink) (g.S.Sink.view c.put_rest.new.sink) _ _ _
+    (three_put _ _ _ _ _ _ _ c.in_ok-put_ids.ensures.put c.in_ok-trusted_header_signature.ensures.written c.in_ok-trusted_header_signature-2.ensures.written)
+    (λ value parts. owned_encoding_refused c.args.self.now c.as_slice-parents.result.now c.borrowed-encoding.result value parts c.as_slice-parents.ensures c.borrowed-encoding.ensures c.in_ok-trusted_header_signature.ensures.legal c.in_ok-trusted_header_signature-2.ensures.legal)
+    (fourth_front _ _ _ _ _ _ _ _ _ _ whole c.in_ok-put_ids.ensures.put c.in_ok-trusted_header_signature.ensures.written c.in_ok-trusted_header_signature-2.ensures.written))
+    c.put_rest.ensures.refusal
