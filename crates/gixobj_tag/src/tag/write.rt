@@ -284,7 +284,6 @@ impl Tagger for Option<Signature> {
 }
 
 /// Puts the lines of the target and of its kind.
-#[tactic(auto, using(gixobj_fields::proofs::Puts::front_first, gixobj_fields::proofs::Puts::puts_or_fails_more))]
 fn put_target<T: Target, S: Sink>(target: &T, kind: Kind, sink: &mut S) -> io::Result<()>
     ensures put { PutsOrFails result (S.view sink.old) (S.view sink.new)
         (front_text (T.target_line target.now) kind) }
@@ -324,7 +323,6 @@ fn put_name<S: Sink>(name: BStr<'_>, sink: &mut S) -> Result<(), encode::Error>
 
 /// Puts a line: its field's name with the space behind it, the value and a newline.
 #[inline(always)]
-#[tactic(auto, using(gixobj_fields::proofs::Puts::front_first, gixobj_fields::proofs::Puts::puts_or_fails_more))]
 fn put_line<S: Sink>(front: &[u8], value: &[u8], sink: &mut S) -> io::Result<()>
     ensures put { PutsOrFails result (S.view sink.old) (S.view sink.new)
         (front.now ++ line_text value.now) }
@@ -336,7 +334,6 @@ fn put_line<S: Sink>(front: &[u8], value: &[u8], sink: &mut S) -> io::Result<()>
 
 /// Puts a value and the newline that ends its line.
 #[inline(always)]
-#[tactic(auto, using(gixobj_fields::proofs::Puts::front_first, gixobj_fields::proofs::Puts::puts_or_fails_more))]
 fn put_value<S: Sink>(value: &[u8], sink: &mut S) -> io::Result<()>
     ensures put { PutsOrFails result (S.view sink.old) (S.view sink.new) (line_text value.now) }
     ensures same_loan { S.loan sink.new ≡ S.loan sink.old }
@@ -358,7 +355,6 @@ fn put_body<S: Sink>(message: BStr<'_>, signature: Option<BStr<'_>>, sink: &mut 
 
 /// Puts the message.
 #[inline(always)]
-#[tactic(auto, using(gixobj_fields::proofs::Puts::front_first, gixobj_fields::proofs::Puts::puts_or_fails_more))]
 fn put_message<S: Sink>(message: BStr<'_>, sink: &mut S) -> io::Result<()>
     ensures put { PutsOrFails result (S.view sink.old) (S.view sink.new)
         (message_text (bstr_bytes message.entry)) }
